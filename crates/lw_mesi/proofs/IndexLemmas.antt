@@ -12,7 +12,8 @@ length-at_each f = length-map-range_with_len f 0 most_threads
 pub get_or-at_each : {A : Type 0} (f : ℕ → A) (t : ℕ) (d : A) → t < most_threads → get_or (at_each f) t d ≡ f t
 get_or-at_each f t d lt = get_or-map-range_with_len f 0 most_threads t t d lt (zero-add t)
 
--- If f gives a at t, and xs' item at every other processor, then the list of f's values is xs with a at index t.
+-- If xs has an item for each processor, f gives a at a processor t, and xs' item at every other one, then the list of f's
+-- values is xs with a at index t.
 pub at_each-set_of_list : {A : Type 0} (f : ℕ → A) (xs : List A) (t : ℕ) (a d : A)
     → length xs ≡ most_threads
     → t < most_threads

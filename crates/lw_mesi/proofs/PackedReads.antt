@@ -18,7 +18,8 @@ use Rattle.lw_mesi.proofs.PackedCopies.{is_held_anywhere-if_owned, cache_line_of
 
 -- ---- one processor's copy
 
--- Under MOESI, if the owner is dirty, a GetS of another processor moves the owner to O or leaves it there, and changes no other copy.
+-- Under MOESI, the copies of a dirty line that is marked as in O are those before it was so marked, each after another
+-- processor's GetS: the owner's copy is in O, and no other changes.
 copy_of_bits-dirty_moesi_owner : (own b s : Bool) (w : ℕ)
     → copy_of_bits own true true s w ≡ moesi_on_other_get_s (copy_of_bits own true b s w)
 copy_of_bits-dirty_moesi_owner true true s w = refl
@@ -26,7 +27,8 @@ copy_of_bits-dirty_moesi_owner true false s w = refl
 copy_of_bits-dirty_moesi_owner false b true w = refl
 copy_of_bits-dirty_moesi_owner false b false w = refl
 
--- A GetS of another processor turns an owner that is not in O into a sharer, and leaves sharers as they are.
+-- If the line is clean (`d`) under MOESI, and not in O, another processor's GetS turns the owner (`own`) into a sharer, and
+-- leaves sharers and non-sharers (`s`) as they are; `new` says who is a sharer then.
 sharer_copy-on_other_get_s : (q : Protocol) (own d s new : Bool) (w : ℕ)
     → (q ≡ Moesi → d ≡ false)
     → (own ≡ true → new ≡ true)
@@ -41,10 +43,11 @@ sharer_copy-on_other_get_s Moesi true false s new w clean here there = ap (λ (x
 sharer_copy-on_other_get_s Moesi false d true new w clean here there = ap (λ (x : Bool). sharer_copy x w) (there refl)
 sharer_copy-on_other_get_s Moesi false d false new w clean here there = ap (λ (x : Bool). sharer_copy x w) (there refl)
 
--- Under MESI no owner is in O.
+-- If a packed line is well formed and its copies are in states of MESI, it is not marked as in O.
 is_owned-false_in_mesi : (p : Inside) → IsPacked p → HasProtocolStates Mesi (unpacked p) → p.is_owned ≡ false
 is_owned-false_in_mesi p ok states = go p.owner refl p.is_dirty refl p.is_owned refl
   where
+    -- By the owner and the two marks: an owner that is dirty and in O would have a copy in O, which is no state of MESI.
     go : (owner : Option ℕ) → p.owner ≡ owner → (d : Bool) → p.is_dirty ≡ d → (b : Bool) → p.is_owned ≡ b → p.is_owned ≡ false
     go owner eo d ed false eb = eb
     go owner eo false ed true eb = ok.owned ed
@@ -52,7 +55,8 @@ is_owned-false_in_mesi p ok states = go p.owner refl p.is_dirty refl p.is_owned 
     go (Some o) eo true ed true eb =
         absurd (subst (IsProtocolState Mesi) (copy_of-unpacked_owned p o (ok.in_range o eo) eo ed eb) (states o))
 
--- No owner is in O under MESI, nor under MOESI if the owner is clean.
+-- If a packed line is well formed, its copies are in states of protocol q, and it is clean if q is MOESI, then it is not marked
+-- as in O.
 pub is_owned-false_if_clean : (p : Inside) (q : Protocol)
     → IsPacked p
     → HasProtocolStates q (unpacked p)
@@ -61,7 +65,8 @@ pub is_owned-false_if_clean : (p : Inside) (q : Protocol)
 is_owned-false_if_clean p Mesi ok states clean = is_owned-false_in_mesi p ok states
 is_owned-false_if_clean p Moesi ok states clean = ok.owned (clean refl)
 
--- A packed cache line without an owner is well formed if its word is memory's.
+-- A packed cache line without an owner, neither dirty nor marked as in O (b is `false`), is well formed, if its word is
+-- memory's and it has a bit for each processor.
 pub IsPacked-no_owner : (w : ℕ) (b : Bool) (xs : List Bool)
     → b ≡ false
     → length xs ≡ most_threads
@@ -112,7 +117,7 @@ unpacked-after_get_s p q t table held reader gotten =
     (ap₂ copy_from gotten.holds (coherent_word-unpacked p reader.packed)) gotten.memory)
     ∙ sym (ap (λ (c : Copy). on_load table c t line) reader.without)
 
--- A reader without a copy gets the packed cache line's word.
+-- If t reads a packed line of which it has no copy, then after the load its copy has the line's word.
 pub copy_word-after_read : (p : Inside) (t : ℕ) (table : ProtocolTable)
     → IsReader p t
     → Some p.word ≡ copy_word (copy_of (cache_line_to_read table t (unpacked p)) t)
@@ -126,7 +131,8 @@ copy_word-after_read p t table reader =
     ∙ ap copy_word (copy_in-set_same others t mine (let lt = reader.cpu in omega (arith, long, lt)))
     ∙ copy_word-copy_from (is_held_anywhere line.copies) (coherent_word line))
 
--- A GetS under MOESI from a dirty owner: the owner moves to O or stays there, and the reader becomes a sharer.
+-- If t reads a dirty line of owner o, the packed line marked as in O, with t as a sharer, is, unpacked, the line after the load
+-- under MOESI.
 pub unpacked-shared_by_dirty_owner : (p : Inside) (t o : ℕ)
     → IsReader p t
     → p.owner ≡ Some o
@@ -149,7 +155,8 @@ unpacked-shared_by_dirty_owner p t o reader own dirty =
           ∙ ap (λ (d : Bool). moesi_on_other_get_s (copy_of_bits (is_owner p.owner u) d p.is_owned s p.word)) (sym dirty);
     })
 
--- A GetS from an owner that is clean, or under MESI: the owner and the reader become sharers, and memory gets the word.
+-- If t reads a line of owner o that is not in O, and clean if the protocol is MOESI, then the packed line without an owner,
+-- with o and t as sharers and its word in memory, is, unpacked, the line after the load.
 pub unpacked-shared_by_clean_owner : (p : Inside) (t o : ℕ) (q : Protocol)
     → IsReader p t
     → p.owner ≡ Some o
@@ -169,6 +176,7 @@ unpacked-shared_by_clean_owner p t o q reader own unowned clean =
       others = other_copies_eq;
     })
   where
+    -- The packed line is well formed, since it has a reader.
     ok : IsPacked p
     ok = reader.packed
 
@@ -176,13 +184,16 @@ unpacked-shared_by_clean_owner p t o q reader own unowned clean =
     mid : List Bool
     mid = set p.sharers o true
 
+    -- There is a bit for each processor.
     long : length mid ≡ most_threads
     long = length-set p.sharers o true ∙ ok.as_many
 
+    -- After the GetS memory has the line's word, by the protocol: under MESI it is written, under MOESI the line is clean.
     memory_then : (q : Protocol) → (q ≡ Moesi → p.is_dirty ≡ false) → (table_of q).memory_after_get_s (unpacked p) ≡ p.word
     memory_then Mesi clean = coherent_word-unpacked p ok
     memory_then Moesi clean = ok.clean (clean refl)
 
+    -- Each copy but t's is, after the GetS, that of a sharer or of none.
     other_copies_eq : (u : ℕ)
         → u < most_threads
         → u ≢ t
@@ -208,7 +219,7 @@ is_held_anywhere-false (c ∷ copies) h =
     or_from (is_held (copy_state c)) (is_held_anywhere copies) (ap (λ (x : Copy). is_held (copy_state x)) (h 0))
     (is_held_anywhere-false copies (λ t. h (suc t)))
 
--- A processor without a copy is not a sharer.
+-- A processor without a copy is not a sharer (s is `false`).
 sharer-false_if_invalid : (s : Bool) (w : ℕ) → sharer_copy s w ≡ Invalid → s ≡ false
 sharer-false_if_invalid true w e = cc
 sharer-false_if_invalid false w e = refl
@@ -238,7 +249,8 @@ module _ (p : Inside) (t : ℕ) (q : Protocol) (reader : IsReader p t) (own : p.
   memory_stays Mesi = coherent_word-unpacked p ok ∙ sym (ok.clean (ok.unowned own))
   memory_stays Moesi = refl
 
-  -- A GetS of a cache line that no processor holds: the reader becomes its owner, in E.
+  -- If t reads a line without an owner that has no sharers, the packed line with owner t, who is clean, is, unpacked, the line
+  -- after the load: t's copy is in E.
   pub unpacked-first_reader : p.sharers ≡ empty_cpu_set
       → unpacked (record p { owner = Some t }) ≡ cache_line_to_read (table_of q) t (unpacked p)
   unpacked-first_reader no_other_copy = unpacked-after_get_s p (record p { owner = Some t }) t (table_of q) false reader (record {
@@ -254,6 +266,7 @@ module _ (p : Inside) (t : ℕ) (q : Protocol) (reader : IsReader p t) (own : p.
         ∙ sharer_stays u;
   })
     where
+      -- Each copy is invalid: a processor in range is neither the owner nor a sharer.
       all_invalid : (u : ℕ) → copy_in (unpacked p).copies u ≡ Invalid
       all_invalid u = elim (cases_lt u most_threads) [
         | inl within ↦
@@ -264,7 +277,8 @@ module _ (p : Inside) (t : ℕ) (q : Protocol) (reader : IsReader p t) (own : p.
         | inr past ↦ get_or_past (unpacked p).copies u Invalid (omega (arith, length-at_each (copy_at p)))
       ]
 
-  -- A GetS of a cache line that has sharers and no owner: the reader becomes a sharer.
+  -- If t reads a line without an owner that has sharers, the packed line with t as a sharer is, unpacked, the line after the
+  -- load.
   pub unpacked-next_reader : (p.sharers ≡ empty_cpu_set → ⊥)
       → unpacked (record p { sharers = set p.sharers t true }) ≡ cache_line_to_read (table_of q) t (unpacked p)
   unpacked-next_reader some =
@@ -283,6 +297,7 @@ module _ (p : Inside) (t : ℕ) (q : Protocol) (reader : IsReader p t) (own : p.
             ∙ sharer_stays u;
       })
     where
+      -- If no processor holds the line, none is a sharer.
       nobody_if : is_held_anywhere (unpacked p).copies ≡ false
           → (u : ℕ)
           → u < most_threads

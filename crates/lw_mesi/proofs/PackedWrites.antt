@@ -19,7 +19,7 @@ abbrev line_in_modified : ℕ → ℕ → ℕ → Inside
 line_in_modified t w m =
     record { owner = Some t; is_dirty = true; is_owned = false; sharers = empty_cpu_set; word = w; memory = m }
 
--- If one processor's copy is in M or E, every other copy is invalid.
+-- If a packed line is well formed and the copy of t is in M or E, the copy of every other processor in range is invalid.
 copy_at-invalid_beside_only_copy : (p : Inside) (t u : ℕ)
     → IsPacked p
     → IsOnlyCopy (copy_at p t)
@@ -50,7 +50,7 @@ memory_same-on_write (Shared v) t line = refl
 memory_same-on_write Invalid t line = refl
 
 module _ (p : Inside) (t : ℕ) (ok : IsPacked p) (lt : t < most_threads) where
-  -- If processor t has the only copy, every other copy is invalid.
+  -- If the copy c of processor t is in M or E, the copy of every other processor in range is invalid.
   others_invalid-before_write : (c : Copy)
       → copy_of (unpacked p) t ≡ c
       → IsOnlyCopy c
@@ -62,7 +62,7 @@ module _ (p : Inside) (t : ℕ) (ok : IsPacked p) (lt : t < most_threads) where
       copy_of-unpacked p u within
       ∙ copy_at-invalid_beside_only_copy p t u ok (subst IsOnlyCopy (sym (sym (copy_of-unpacked p t lt) ∙ e)) only) within ne
 
-  -- After the GetM of processor t, every other copy is invalid.
+  -- After the GetM of processor t, the copy of every other processor is invalid.
   others_invalid-after_get_m : (u : ℕ)
       → u ≢ t
       → copy_in (set (map (λ c. Invalid) (unpacked p).copies) t (Modified (coherent_word (unpacked p)))) u ≡ Invalid
@@ -70,7 +70,7 @@ module _ (p : Inside) (t : ℕ) (ok : IsPacked p) (lt : t < most_threads) where
       copy_in-set_other (map (λ c. Invalid) (unpacked p).copies) t (Modified (coherent_word (unpacked p))) u (λ e. ne (sym e))
       ∙ copy_in-map (λ c. Invalid) (unpacked p).copies u refl
 
-  -- After a write of processor t, every other copy is invalid.
+  -- After a write of processor t, whose copy was c, the copy of every other processor in range is invalid.
   others_invalid-after_write : (c : Copy)
       → copy_of (unpacked p) t ≡ c
       → (u : ℕ)
@@ -81,37 +81,44 @@ module _ (p : Inside) (t : ℕ) (ok : IsPacked p) (lt : t < most_threads) where
   others_invalid-after_write (Exclusive v) e u within ne = others_invalid-before_write (Exclusive v) e tt u within ne
   others_invalid-after_write _ e u within ne = others_invalid-after_get_m u ne
 
--- A writer gets the cache line's word.
+-- If t writes to a well-formed packed line, its copy has, in the line in which the write finds the old word, the packed line's
+-- word.
 pub copy_word-after_write : (p : Inside) (t : ℕ)
     → IsPacked p
     → t < most_threads
     → Some p.word ≡ copy_word (copy_of (cache_line_to_write t (unpacked p)) t)
 copy_word-after_write p t ok lt = go (copy_of (unpacked p) t) refl
   where
+    -- The unpacked line.
     line : CacheLine
     line = unpacked p
 
+    -- All copies, invalidated.
     invalidated_copies : List Copy
     invalidated_copies = map (λ c. Invalid) line.copies
 
+    -- If the copy of t has a word, that is the packed line's.
     kept : (c : Copy) (v : ℕ) → copy_of line t ≡ c → copy_word c ≡ Some v → Some p.word ≡ copy_word (copy_of line t)
     kept c v e h =
         copy_word-is_line_word (is_owner p.owner t) p.is_dirty p.is_owned (slice_index_or p.sharers t false) p.word v
         (ap copy_word (sym (copy_of-unpacked p t lt) ∙ e) ∙ h)
         ∙ sym (ap copy_word e ∙ h)
 
+    -- The copy that a GetM brings has the packed line's word.
     brought : Some p.word ≡ copy_word (copy_in (set invalidated_copies t (Modified (coherent_word line))) t)
     brought =
         ap (λ (v : ℕ). Some v) (sym (coherent_word-unpacked p ok))
         ∙ sym (ap copy_word (copy_in-set_same invalidated_copies t (Modified (coherent_word line))
         (omega (arith, length-map line.copies (λ (c : Copy). Invalid), length-at_each (copy_at p)))))
 
+    -- By the copy of t: in M or E it is written as it is; otherwise a GetM brings it.
     go : (c : Copy) → copy_of line t ≡ c → Some p.word ≡ copy_word (copy_of (on_write c t line) t)
     go (Modified v) e = kept (Modified v) v e refl
     go (Exclusive v) e = kept (Exclusive v) v e refl
     go _ e = brought
 
--- The packed line whose only holder is the writer is, unpacked, the cache line after the write.
+-- If t writes w to a well-formed packed line, the packed line whose only holder is t, in M with w, is, unpacked, the line after
+-- the write.
 pub unpacked-after_write : (p : Inside) (t w : ℕ)
     → IsPacked p
     → t < most_threads
@@ -135,7 +142,7 @@ on_evict-shared_copy : (c : Copy) (t : ℕ) (line : CacheLine)
 on_evict-shared_copy (Shared w) t line e = refl
 on_evict-shared_copy _ t line e = cc
 
--- The packed line without the sharer is, unpacked, the cache line after the sharer's eviction.
+-- If the copy of t is in S, the packed line without the sharer t is, unpacked, the line after t's eviction.
 pub unpacked-sharer_evicted : (p : Inside) (t : ℕ)
     → IsPacked p
     → t < most_threads
@@ -153,7 +160,8 @@ unpacked-sharer_evicted p t ok lt shared =
     ∙ sym (copy_of-unpacked p u within)) in
     ap (λ (cs : List Copy). cache_line_of cs p.memory) copies ∙ sym (on_evict-shared_copy _ t (unpacked p) shared)
 
--- The packed line without its owner is, unpacked, the cache line without the owner's copy.
+-- If t is the owner of a well-formed packed line, the line without an owner, with any marks d and b and memory's word m, is,
+-- unpacked, the line with t's copy invalidated and the word m in memory.
 unpacked-owner_removed : (p : Inside) (t m : ℕ) (d b : Bool)
     → IsPacked p
     → t < most_threads
@@ -170,7 +178,8 @@ unpacked-owner_removed p t m d b ok lt own =
     ∙ sym (copy_of-unpacked p u within)) in
     ap (λ (cs : List Copy). cache_line_of cs m) copies
 
--- A processor whose copy is in M or O is the owner, and its eviction writes the word to memory.
+-- If the copy of a processor is in M or O, the processor is the owner (`own`), and its eviction invalidates the copy and writes
+-- the word w to memory.
 on_evict-dirty_copy : (own d b s : Bool) (w t : ℕ) (line : CacheLine)
     → (copy_state (copy_of_bits own d b s w) ≡ M) ⊎ (copy_state (copy_of_bits own d b s w) ≡ O)
     → (own ≡ true) × (on_evict (copy_of_bits own d b s w) t line ≡ cache_line_of (set line.copies t Invalid) w)
@@ -183,7 +192,8 @@ on_evict-dirty_copy false d b true w t line (inr h) = cc
 on_evict-dirty_copy false d b false w t line (inl h) = cc
 on_evict-dirty_copy false d b false w t line (inr h) = cc
 
--- A processor whose copy is in E is the owner, and its eviction preserves memory's word.
+-- If the copy of a processor is in E, the processor is the owner (`own`), and its eviction invalidates the copy and leaves
+-- memory's word.
 on_evict-clean_copy : (own d b s : Bool) (w t : ℕ) (line : CacheLine)
     → copy_state (copy_of_bits own d b s w) ≡ E
     → (own ≡ true) × (on_evict (copy_of_bits own d b s w) t line ≡ cache_line_of (set line.copies t Invalid) line.memory)
@@ -193,7 +203,8 @@ on_evict-clean_copy true false b s w t line h = (refl, refl)
 on_evict-clean_copy false d b true w t line h = cc
 on_evict-clean_copy false d b false w t line h = cc
 
--- The packed line without its owner in M or O, and with its word in memory, is, unpacked, the cache line after the owner's eviction.
+-- If the copy of t is in M or O, the packed line without its owner, unmarked and with its word in memory, is, unpacked, the
+-- line after t's eviction.
 pub unpacked-dirty_owner_evicted : (p : Inside) (t : ℕ)
     → IsPacked p
     → t < most_threads
@@ -208,7 +219,7 @@ unpacked-dirty_owner_evicted p t ok lt h =
     ∙ sym row.1
     ∙ ap (λ (c : Copy). on_evict c t (unpacked p)) (sym (copy_of-unpacked p t lt))
 
--- The packed line without its owner in E is, unpacked, the cache line after the owner's eviction.
+-- If the copy of t is in E, the packed line without its owner is, unpacked, the line after t's eviction.
 pub unpacked-clean_owner_evicted : (p : Inside) (t : ℕ)
     → IsPacked p
     → t < most_threads

@@ -10,7 +10,7 @@ use Rattle.lw_mesi.proofs.Common.{coherent_word, coherent_words, cache_line_evic
 use Rattle.lw_mesi.proofs.Common.{SatisfiesProtocol, SatisfiesProtocol-set, LineSatisfiesProtocol-at_location}
 use Rattle.lw_mesi.proofs.Common.{LineSatisfiesProtocol-after_eviction}
 
--- At an index in range, a list's item does not depend on the default.
+-- If an index is in range, the item that is read there does not depend on the default.
 get_or-any_default : {A : Type 0} (xs : List A) (i : ℕ) (c d : A) → i < length xs → get_or xs i c ≡ get_or xs i d
 get_or-any_default [] i c d lt = absurd (omega arith)
 get_or-any_default (x ∷ xs) zero c d lt = refl
@@ -20,7 +20,7 @@ get_or-any_default (x ∷ xs) (suc i) c d lt = get_or-any_default xs i c d (omeg
 module _ {Z : Type 0} (now : Caches) (cpus : ℕ) (lines : Vec CacheLine Z) (x i : ℕ)
     (same : (let m : Caches = record { cpus = cpus; cache_lines = lines.items } in m) ≡ now) (index : i ≡ x)
     (loc : x < length (coherent_words now)) where
-  -- The index is in range.
+  -- The index i is that of a cache line in memory.
   pub index_in_range : i < vec_len lines
   index_in_range =
       omega (
@@ -50,8 +50,9 @@ module _ {Z : Type 0} (now : Caches) (cpus : ℕ) (lines : Vec CacheLine Z) (x i
       ∙ sym (get_or-map word now.cache_lines x (unheld_cache_line 0) 0
       (omega (arith, loc, length-map now.cache_lines coherent_word)))
 
--- The caches m, equal to `now`, satisfy a protocol, and a processor t in range borrows the cache line of location x, at the index i: it is
--- `before`.
+-- What holds when a call of processor t for location x borrows a cache line: m are the caches as the fields of `self` have them, and `now` is
+-- the model of `self`, which is the same (goals speak of either). They satisfy the protocol p, t and x exist, the index i is x, and the line
+-- at i is `before`.
 pub record IsBorrowedLine (p : Protocol) (m now : Caches) (t x i : ℕ) (before : CacheLine) : Type 0 where
   pub same : m ≡ now
   pub kept : SatisfiesProtocol p m
@@ -61,8 +62,8 @@ pub record IsBorrowedLine (p : Protocol) (m now : Caches) (t x i : ℕ) (before 
   pub index : i ≡ x
   pub found : before ≡ get_or m.cache_lines i before
 
-module _ (p : Protocol) (m now : Caches) (t x i : ℕ) (before : CacheLine) (borrowed : IsBorrowedLine p m now t x i before) where
-  -- The index is that of a cache line.
+module _ {p : Protocol} {m now : Caches} {t x i : ℕ} {before : CacheLine} (borrowed : IsBorrowedLine p m now t x i before) where
+  -- The index i is that of a cache line.
   index_lt_line_count : i < length m.cache_lines
   index_lt_line_count = omega (
     arith,
@@ -72,7 +73,7 @@ module _ (p : Protocol) (m now : Caches) (t x i : ℕ) (before : CacheLine) (bor
     length-map m.cache_lines coherent_word,
   )
 
-  -- The processor is one of the most that there may be.
+  -- The processor's index is below `most_threads`.
   cpu_lt_most_threads : t < most_threads
   cpu_lt_most_threads = omega (arith, borrowed.cpu, borrowed.kept.coherent.bounded, ap (λ (k : Caches). k.cpus) borrowed.same)
 
@@ -83,11 +84,12 @@ module _ (p : Protocol) (m now : Caches) (t x i : ℕ) (before : CacheLine) (bor
       (get_or-any_default m.cache_lines i (unheld_cache_line 0) before index_lt_line_count ∙ sym borrowed.found)
       (LineSatisfiesProtocol-at_location p m i borrowed.kept index_lt_line_count)
 
-  -- The borrowed cache line's states belong to the protocol.
+  -- The copies of the borrowed cache line are in states of the protocol.
   pub before_states : HasProtocolStates p before
   before_states = LineSatisfiesProtocol-borrowed.states
 
-  -- If an access changes the borrowed cache line as the table says, the caches make the protocol's transition for that access.
+  -- If an access has the result and changes the borrowed cache line as the table says, the caches make the protocol's
+  -- transition for that access.
   pub ProtocolTransition-borrowed : (table : ProtocolTable) (access : Access) (a : Option ℕ) (after : CacheLine)
       → a ≡ answer_to table t access before
       → after ≡ cache_line_after_access table t access before
@@ -104,7 +106,8 @@ module _ (p : Protocol) (m now : Caches) (t x i : ℕ) (before : CacheLine) (bor
         cache_lines = rw (is, was, borrowed.index, borrowed.same) refl;
       }
 
-  -- If the changed cache line satisfies the protocol, so do the caches with that line at the index.
+  -- If the changed cache line satisfies the protocol whenever the borrowed one does, the caches with the changed line at the
+  -- index satisfy it, and still have at most `most_locations` lines.
   pub SatisfiesProtocol-set_line : (after : CacheLine)
       → (t < most_threads → LineSatisfiesProtocol p before → LineSatisfiesProtocol p after)
       → (length (set m.cache_lines i after) ≤ most_locations)
@@ -121,7 +124,8 @@ pub record EvictedIfHeld {E : Type 0} (r : Result (Unit {0}) E) (t : ℕ) (befor
   pub ok : OnOk r (after ≡ cache_line_evicted t before)
   pub err : OnErr r (after ≡ before)
 
--- A cache line that satisfies a protocol satisfies it after an eviction, whether that succeeds or fails.
+-- If a cache line satisfies a protocol, it does so after an eviction that succeeds if the processor holds the line and fails
+-- otherwise.
 pub LineSatisfiesProtocol-evicted : {E : Type 0} (p : Protocol) (r : Result (Unit {0}) E) (t : ℕ) (before after : CacheLine)
     → t < most_threads
     → LineSatisfiesProtocol p before

@@ -5,11 +5,11 @@ use Rattle.lw_mesi.proofs.Common.{shr_and_one, bit_at_set_same, bit_at_set_other
 use Rattle.lw_mesi.proofs.Common.{bit_at_clear_other, most_threads, cpu_set_of_bits}
 use Rattle.lw_mesi.proofs.IndexLemmas.{at_each-differs_at_one, get_or-at_each}
 
--- The test of a processor's bit says whether the processor is in the set.
+-- For a processor t, the test of bit t of n says whether t is in the set whose bits are n.
 pub get_or-cpu_set_of_bits : (n t : ℕ) → t < most_threads → eqb (bit_and (n / 2 ^ t) 1) 1 ≡ get_or (cpu_set_of_bits n) t false
 get_or-cpu_set_of_bits n t lt = ap (λ b. eqb b 1) (shr_and_one n t) ∙ sym (get_or-at_each (λ i. eqb (bit_at n i) 1) t false lt)
 
--- To set a processor's bit is to add the processor to the set.
+-- For a processor t, setting bit t of n adds t to the set whose bits are n.
 pub cpu_set_of_bits-insert : (n t : ℕ)
     → t < most_threads
     → cpu_set_of_bits (bit_or n (1 * 2 ^ t % 256)) ≡ set (cpu_set_of_bits n) t true
@@ -18,7 +18,7 @@ cpu_set_of_bits-insert n t lt =
     (ap (λ b. eqb b 1) (bit_at_set_same w8 n t (omega arith)))
     (λ u lu ne. ap (λ b. eqb b 1) (bit_at_set_other w8 n t (omega arith) u ne))
 
--- To clear a processor's bit is to remove the processor from the set.
+-- For a processor t, clearing bit t of n removes t from the set whose bits are n.
 pub cpu_set_of_bits-remove : (n t : ℕ)
     → t < most_threads
     → cpu_set_of_bits (bit_and n (255 - 1 * 2 ^ t % 256)) ≡ set (cpu_set_of_bits n) t false
@@ -26,10 +26,10 @@ cpu_set_of_bits-remove n t lt =
     at_each-differs_at_one _ _ t false lt (ap (λ b. eqb b 1) (bit_at_clear_same w8 n t (omega arith)))
     (λ u lu ne. ap (λ b. eqb b 1) (bit_at_clear_other w8 n t (omega arith) u (omega arith) ne))
 
--- A set with one more processor still fits into `most_threads` bits.
+-- If n fits into `most_threads` bits, so does n with a processor's bit set.
 pub bit_or-fits : (n t : ℕ) → n < 2 ^ most_threads → t < most_threads → bit_or n (1 * 2 ^ t % 256) < 2 ^ most_threads
 bit_or-fits n t lt l = or_lt most_threads n (1 * 2 ^ t % 256) lt (omega (arith, (pow_below t most_threads l)))
 
--- A set without some of its processors still fits into `most_threads` bits.
+-- If n fits into `most_threads` bits, so does n with some bits cleared.
 pub bit_and-fits : (n others : ℕ) → n < 2 ^ most_threads → bit_and n others < 2 ^ most_threads
 bit_and-fits n others lt = omega (arith, and_le_l n others)

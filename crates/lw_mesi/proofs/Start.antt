@@ -12,7 +12,7 @@ pub coherent_words-empty_caches : (cpus : ℕ) (words : List ℕ) → coherent_w
 coherent_words-empty_caches n [] = refl
 coherent_words-empty_caches n (w ∷ ws) = ap (λ r. w ∷ r) (coherent_words-empty_caches n ws)
 
--- A list that repeats one item has it at every index, and past its end if the item is the default.
+-- Whatever the index, a list that repeats one item has it there, or it is the default.
 get_or-replicate : {A : Type 0} (a : A) (n t : ℕ) → get_or (replicate n a) t a ≡ a
 get_or-replicate a (suc n) (suc t) = get_or-replicate a n t
 get_or-replicate a _ _ = refl
@@ -21,7 +21,7 @@ get_or-replicate a _ _ = refl
 copy_of-unheld : (w t : ℕ) → copy_of (unheld_cache_line w) t ≡ Invalid
 copy_of-unheld w t = get_or-replicate Invalid most_threads t
 
--- The states of a cache line that no processor holds belong to each protocol.
+-- The copies of a cache line that no processor holds are in states of each protocol.
 HasProtocolStates-unheld : (p : Protocol) (w : ℕ) → HasProtocolStates p (unheld_cache_line w)
 HasProtocolStates-unheld p w = λ t. subst (IsProtocolState p) (sym (copy_of-unheld w t)) (IsProtocolState-invalid p)
 
@@ -47,7 +47,7 @@ LineSatisfiesProtocol-empty_caches p [] x lt = absurd (omega arith)
 LineSatisfiesProtocol-empty_caches p (w ∷ ws) zero lt = LineSatisfiesProtocol-unheld p w
 LineSatisfiesProtocol-empty_caches p (w ∷ ws) (suc x) lt = LineSatisfiesProtocol-empty_caches p ws x (omega arith)
 
--- Empty caches satisfy each protocol.
+-- Empty caches of at most `most_threads` processors satisfy each protocol.
 pub SatisfiesProtocol-empty_caches : (p : Protocol) (cpus : ℕ) (words : List ℕ)
     → cpus ≤ most_threads
     → SatisfiesProtocol p (empty_caches cpus words)

@@ -30,11 +30,11 @@ unheld_cache_line w = record { copies = replicate most_threads Invalid; memory =
 abbrev pub empty_caches : ℕ → List ℕ → Caches
 empty_caches cpus words = record { cpus = cpus; cache_lines = map unheld_cache_line words }
 
--- A processor's copy of a location.
+-- The copy that the processor with this index has in a cache line; `Invalid` past the last.
 abbrev pub copy_of : CacheLine → ℕ → Copy
 copy_of line t = slice_index_or line.copies t Invalid
 
--- The cache line of a location.
+-- The cache line of the location with this index; one that no cache holds past the last.
 abbrev pub cache_line_at : List CacheLine → ℕ → CacheLine
 cache_line_at cache_lines x = slice_index_or cache_lines x (unheld_cache_line 0)
 
@@ -54,7 +54,7 @@ copy_word (Exclusive w) = Some w
 copy_word (Shared w) = Some w
 copy_word Invalid = None
 
--- The word of the copy in M or O, if there is one, and the first argument otherwise.
+-- The word of the first copy in M or O, or the first argument if there is no such copy.
 abbrev pub dirty_word_or : ℕ → List Copy → ℕ
 dirty_word_or w [] = w
 dirty_word_or w (Modified v ∷ copies) = v

@@ -25,7 +25,7 @@ moesi_on_other_get_s (Modified w) = Owned w  -- send data to requestor / O
 moesi_on_other_get_s (Exclusive w) = Shared w  -- send data to requestor and memory / S (memory has this word already)
 moesi_on_other_get_s other = other  -- O: send data to requestor / O; S, I: / the same
 
--- The column of the protocol's table that differs.
+-- The column of the protocol's table that differs: MESI's GetS writes the coherent word to memory, MOESI's does not.
 abbrev pub table_of : Protocol → ProtocolTable
 table_of Mesi = record { on_other_get_s = mesi_on_other_get_s; memory_after_get_s = coherent_word }
 table_of Moesi = record { on_other_get_s = moesi_on_other_get_s; memory_after_get_s = λ line. line.memory }

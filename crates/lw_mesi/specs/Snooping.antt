@@ -22,34 +22,36 @@ pub record ProtocolTable : Type 0 where
 abbrev pub is_held_anywhere : List Copy → Bool
 is_held_anywhere copies = list_any (λ c. is_held (copy_state c)) copies
 
--- The copy that a GetS brings: in S if some other cache holds the line, in E otherwise.
+-- The copy that a GetS brings, with the word that was sent: in S if some cache holds the line (`true`), in E otherwise.
 abbrev pub copy_from : Bool → ℕ → Copy
 copy_from true w = Shared w
 copy_from false w = Exclusive w
 
--- GetS of a processor without a copy: the coherent word goes to the requestor.
+-- GetS of processor t, which has no copy: t gets the coherent word, and the other copies and memory change as the table says.
 abbrev pub get_s : ProtocolTable → ℕ → CacheLine → CacheLine
 get_s table t line = record {
   copies = slice_set (map table.on_other_get_s line.copies) t (copy_from (is_held_anywhere line.copies) (coherent_word line));
   memory = table.memory_after_get_s line;
 }
 
--- GetM: every other copy is invalidated, and the requestor has the coherent word in M. Memory is not written.
+-- GetM of processor t: every other copy is invalidated, and t has the coherent word in M. Memory is not written.
 abbrev pub get_m : ℕ → CacheLine → CacheLine
 get_m t line = record { copies = slice_set (map (λ c. Invalid) line.copies) t (Modified (coherent_word line)); memory = line.memory }
 
--- A load, by the own copy: the line that is read.
+-- The line that is read by a load of processor t, by its copy: a copy is read as it is; without one a GetS comes first.
 abbrev pub on_load : ProtocolTable → Copy → ℕ → CacheLine → CacheLine
 on_load table Invalid t line = get_s table t line  -- issue GetS / S or E
 on_load table held t line = line  -- M, O, E, S: hit / the same
 
--- A write, by the own copy: the line that is written.
+-- The line in which a write of processor t finds the old word, by its copy: in M or E the line as it is; otherwise a GetM comes
+-- first.
 abbrev pub on_write : Copy → ℕ → CacheLine → CacheLine
 on_write (Modified w) t line = line  -- hit / M
 on_write (Exclusive w) t line = line  -- hit / M
 on_write other t line = get_m t line  -- O, S, I: issue GetM / M
 
--- An eviction, by the own copy.
+-- The line after an eviction of processor t, by its copy: a copy in M or O is written to memory and invalidated, one in E or S
+-- is invalidated, and without a copy, for which an eviction is rejected, nothing changes.
 abbrev pub on_evict : Copy → ℕ → CacheLine → CacheLine
 on_evict (Modified w) t line = record { copies = slice_set line.copies t Invalid; memory = w }  -- send data to memory / I
 on_evict (Owned w) t line = record { copies = slice_set line.copies t Invalid; memory = w }  -- send data to memory / I

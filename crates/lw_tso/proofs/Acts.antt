@@ -28,7 +28,7 @@ module _ {M : Type 0} (mem : Memory M) (inv : Invariant M) where
     pub locations : length (mem.content n) ≡ length (mem.content m)
     pub sound : inv.sound n
 
-  -- An unchanged memory has the same size, and satisfies its invariant.
+  -- A memory that satisfies its invariant and is unchanged has the same size, and satisfies its invariant.
   PreservesMemorySize-unchanged : {m n : M} → inv.sound m → n ≡ m → PreservesMemorySize m n
   PreservesMemorySize-unchanged sound same = record {
     cpus = ap inv.cpus same;
@@ -36,7 +36,7 @@ module _ {M : Type 0} (mem : Memory M) (inv : Invariant M) where
     sound = subst inv.sound (sym same) sound;
   }
 
-  -- A request that a lawful memory serves preserves the memory's size and its invariant.
+  -- If a lawful memory whose invariant holds serves a request, that preserves the memory's size and its invariant.
   PreservesMemorySize-request : IsLawful mem inv
       → (m n : M) {r : Request} {a : Option ℕ}
       → inv.sound m
@@ -89,6 +89,7 @@ module _ {M : Type 0} (mem : Memory M) (inv : Invariant M) where
       → after ≡ s
   state_same-event_refused program e s after stop = go (slice_get s.processors (cpu_of e)) refl
     where
+      -- By the processor, if it exists, and by its effect.
       go : (o : Option Processor)
           → slice_get s.processors (cpu_of e) ≡ o
           → ProcessorTransition mem o program e s (Err stop) after
@@ -113,6 +114,7 @@ module _ {M : Type 0} (mem : Memory M) (inv : Invariant M) where
       → IsSameSize s after
   IsSameSize-event laws program e s after answer sound = go (slice_get s.processors (cpu_of e))
     where
+      -- By the processor, if it exists.
       go : (o : Option Processor) → ProcessorTransition mem o program e s answer after → IsSameSize s after
       go None done = subst (IsSameSize s) (sym done.1) (record { processors = refl; locations = refl; sound = sound })
       go (Some p) done =
@@ -120,13 +122,14 @@ module _ {M : Type 0} (mem : Memory M) (inv : Invariant M) where
           subst (IsSameSize s) (sym done.3)
           (record { processors = length-set s.processors (cpu_of e) done.0; locations = kept.locations; sound = kept.sound })
 
-  -- A running machine after an event: unchanged if the event was refused, and always with as many processors and words as before.
+  -- A running machine after an event: it is unchanged if the event was refused, and has as many processors and words as before.
   pub record IsAfterEvent (before : MachineRun M) (answer : EventResult) (after : MachineRun M) : Type 0 where
     pub err : OnErr answer (after ≡ before)
     pub processors : length after.state.processors ≡ length before.state.processors
     pub words : length (mem.content after.state.memory) ≡ length (mem.content before.state.memory)
 
-  -- A call that executes an event on a running machine, and preserves its program and initial state, satisfies `IsAfterEvent`.
+  -- Over a lawful memory whose invariant holds, a call that executes an event on a running machine, and preserves its program
+  -- and initial state, satisfies `IsAfterEvent`.
   pub IsAfterEvent-of_transition : IsLawful mem inv
       → (e : Event) (before after : MachineRun M) (answer : EventResult)
       → inv.sound before.state.memory
@@ -138,6 +141,7 @@ module _ {M : Type 0} (mem : Memory M) (inv : Invariant M) where
       let kept = IsSameSize-event laws before.program e before.state after.state answer sound done in
       record { err = go answer done; processors = kept.processors; words = kept.locations }
     where
+      -- By the answer: an event that was refused changes nothing.
       go : (a : EventResult) → MachineTransition mem before.program e before.state a after.state → OnErr a (after ≡ before)
       go (Ok u) done = tt
       go (Err stop) done =

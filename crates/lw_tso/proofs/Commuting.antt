@@ -13,21 +13,21 @@ use Rattle.lw_memory.specs.declared.request.Access.TheVariants as to
 
 -- ---- two effects
 
--- An access returns the same word if its location has the same word.
+-- If the words m and n have the same word at x, an access of x returns the same in both.
 value_returned-same_word : (m n : List ℕ) (x : ℕ) (access : Access)
     → slice_index m x ≡ slice_index n x
     → value_returned m x access ≡ value_returned n x access
 value_returned-same_word m n x (to.Store w) same = refl
 value_returned-same_word m n x _ same = ap Some same
 
--- An access of y preserves the word at x, if x is another location or the access does not write.
+-- If an access of y does not write, or y is another location than x, the word at x is unchanged.
 words_after-other_location : (m : List ℕ) (y : ℕ) (access : Access) (x : ℕ)
     → (y ≡ x → is_write access ≡ false)
     → slice_index (words_after m y access) x ≡ slice_index m x
 words_after-other_location m y to.Load x free = refl
 words_after-other_location m y _ x free = get_or-set_other m y x _ 0 (λ e. true≢false (free (sym e)))
 
--- Writing x before or after an access of another location y gives the same words.
+-- If y is another location than x, writing w at x before or after an access of y gives the same words.
 words_after-slice_set_other : (m : List ℕ) (y : ℕ) (access : Access) (x w : ℕ)
     → y ≢ x
     → slice_set (words_after m y access) x w ≡ words_after (slice_set m x w) y access
@@ -36,7 +36,7 @@ words_after-slice_set_other m y (to.Store v) x w ne = set_comm m y x v w ne
 words_after-slice_set_other m y (to.Update change) x w ne =
     set_comm m y x _ w ne ∙ ap (λ k. slice_set (slice_set m x w) y (changed_word change k)) (sym (get_or-set_other m x y w 0 ne))
 
--- An effect preserves the word at a location that it does not write.
+-- If an effect leads from the words m to n, and does not write x, the word at x is the same in both.
 slice_index-effect_elsewhere : (act : EventEffect) (m n : List ℕ) (q : Processor) (x : ℕ)
     → EffectLeadsTo m act q n
     → (accessed_location act ≡ Some x → event_writes act ≡ false)
@@ -46,7 +46,7 @@ slice_index-effect_elsewhere (MemoryAccess y access next) m n q x d free =
     ap (λ k. slice_index k x) d.1 ∙ words_after-other_location m y access x (λ e. free (ap Some e))
 slice_index-effect_elsewhere _ m n q x d free = absurd d
 
--- An effect does not depend on the word at a location that it does not access.
+-- If an effect that does not access x leads from m to n, it leads from m with w at x to n with w at x.
 EffectLeadsTo-slice_set_other : (act : EventEffect) (m n : List ℕ) (q : Processor) (x w : ℕ)
     → EffectLeadsTo m act q n
     → (accessed_location act ≡ Some x → ⊥)
@@ -58,7 +58,8 @@ EffectLeadsTo-slice_set_other (MemoryAccess y access next) m n q x w d free =
     (d.0 ∙ ap (λ a. next (unwrap_or a 0)) answer, ap (λ k. slice_set k x w) d.1 ∙ words_after-slice_set_other m y access x w ne)
 EffectLeadsTo-slice_set_other _ m n q x w d free = absurd d
 
--- An effect that preserves the word at x is the same after an access of x, if that does not write or the effect does not access x.
+-- If an effect leads from m to n, preserves the word at x, and does not access x if the access of x writes, then it leads from
+-- m after that access to n after that access.
 EffectLeadsTo-after_access : (act : EventEffect) (m n : List ℕ) (q : Processor) (x : ℕ) (access : Access)
     → EffectLeadsTo m act q n
     → (is_write access ≡ true → accessed_location act ≡ Some x → ⊥)
@@ -77,7 +78,7 @@ pub record LeadInSequence (a b : EventEffect) (p q : Processor) (m n : List ℕ)
   pub first : EffectLeadsTo m a p between
   pub second : EffectLeadsTo between b q n
 
--- Effects that do not conflict lead to the same state in either order.
+-- If two effects do not conflict, and lead to a state in one order, they lead to it in the other order too.
 pub LeadInSequence-swap : (a b : EventEffect) (p q : Processor) (m n : List ℕ)
     → DoNotConflict a b
     → LeadInSequence a b p q m n
@@ -99,18 +100,18 @@ LeadInSequence-swap a _ p q m n free done = absurd done.second
 
 -- ---- a step, with one more entry
 
--- A processor with one more entry in its store buffer, the oldest.
+-- The processor with this entry as its oldest, before all others in its buffer.
 abbrev pub with_oldest : ℕ × ℕ → Processor → Processor
 with_oldest entry p = record p { buffer = entry ∷ p.buffer }
 
--- The effect of a processor that has this entry too, as its oldest, and keeps it.
+-- The same effect of the processor with this entry as its oldest, which stays in the buffer.
 abbrev pub effect_keeping_oldest : ℕ × ℕ → EventEffect → EventEffect
 effect_keeping_oldest entry (Refused stop) = Refused stop
 effect_keeping_oldest entry (LocalStep next) = LocalStep (with_oldest entry next)
 effect_keeping_oldest entry (MemoryAccess x access next) = MemoryAccess x access (λ w. with_oldest entry (next w))
 effect_keeping_oldest entry (Eviction x) = Eviction x
 
--- An effect is the same with one more entry in the buffer, which stays there.
+-- If an effect leads to the processor q, it leads, with an oldest entry that stays in the buffer, to q with this entry.
 pub EffectLeadsTo-keeping_oldest : (entry : ℕ × ℕ) (act : EventEffect) (m n : List ℕ) (q : Processor)
     → EffectLeadsTo m act q n
     → EffectLeadsTo m (effect_keeping_oldest entry act) (with_oldest entry q) n
@@ -118,7 +119,8 @@ EffectLeadsTo-keeping_oldest entry (Refused stop) m n q d = absurd d
 EffectLeadsTo-keeping_oldest entry (Eviction x) m n q d = absurd d
 EffectLeadsTo-keeping_oldest entry _ m n q d = (ap (with_oldest entry) d.0, d.1)
 
--- An effect with an entry that stays in the buffer is the same without this entry.
+-- If an effect with an oldest entry that stays in the buffer leads to q, then q is a processor `new` with this entry, and the
+-- effect without it leads to `new`.
 pub EffectLeadsTo-without_oldest : (entry : ℕ × ℕ) (act : EventEffect) (m n : List ℕ) (q : Processor)
     → EffectLeadsTo m (effect_keeping_oldest entry act) q n
     → (new : Processor) × (q ≡ with_oldest entry new) × EffectLeadsTo m act new n
@@ -133,12 +135,13 @@ pub record LeavesAlone (entry : ℕ × ℕ) (act with_entry : EventEffect) : Typ
   pub same : with_entry ≡ effect_keeping_oldest entry act
   pub free : accessed_location act ≡ Some entry.0 → ⊥
 
--- An effect without a memory access does not access the entry's location.
+-- A local step of the processor with the entry is the same step with the entry kept, and does not access the entry's location.
 LeavesAlone-local_step : (entry : ℕ × ℕ) (next : Processor)
     → LeavesAlone entry (LocalStep next) (LocalStep (with_oldest entry next))
 LeavesAlone-local_step entry next = record { same = refl; free = λ e. cc }
 
--- A load of another location does not access the entry's location, whether it is forwarded or from memory.
+-- If y is another location than the entry's, a load of y by the processor with the entry is the same load with the entry kept,
+-- and does not access the entry's location. The word that the buffer has for y without the entry is o.
 LeavesAlone-load : (entry : ℕ × ℕ) (o : Option ℕ) (here : Bool) (y : ℕ) (next : ℕ → Processor)
     → here ≡ false
     → entry.0 ≢ y
@@ -148,7 +151,8 @@ LeavesAlone-load entry (Some w) here y next not ne = LeavesAlone-local_step entr
 LeavesAlone-load entry None true y next not ne = absurd (true≢false not)
 LeavesAlone-load entry None _ y next not ne = record { same = refl; free = λ e. ne (sym (same_Some y entry.0 e)) }
 
--- An operation that commutes with the drain of the entry has the same effect with the entry and without it, and does not access its location.
+-- If an operation commutes with draining an entry for its location, its effect on the processor with this entry is the same
+-- effect with the entry kept, and does not access the entry's location.
 pub LeavesAlone-operation : (entry : ℕ × ℕ) (o : Operation) (p : Processor)
     → CommutesWithDrain entry.0 o
     → LeavesAlone entry (operation_effect o p) (operation_effect o (with_oldest entry p))

@@ -13,7 +13,7 @@ use Rattle.lw_tso.proofs.api.Operations.{EffectSatisfies-operation}
 abbrev pub IsNoEviction : Event → Type 0
 IsNoEviction e = without_evictions (e ∷ []) ≡ e ∷ []
 
--- An event of the processor p may access x: it is the location of its next instruction, or of its oldest entry.
+-- An event of the processor p may access x: it is the location of its next instruction in the code, or of its oldest entry.
 abbrev pub MayAccess : List Instr → Processor → ℕ → Type 0
 MayAccess code p x =
     ((i : Instr) × (slice_get code p.position ≡ Some i) × (location_of (x86_operation i) ≡ Some x))
@@ -35,7 +35,7 @@ module _ (program : List (List Instr)) (locs : ℕ) where
       EffectSatisfies (Unit {0}) (λ x written. MayAccess (thread_code program (cpu_of e)) p x)
       (ProcessorChange (thread_code program (cpu_of e)) p)
 
-  -- The claim holds of a step: its effect is that of the thread's next instruction, if there is one.
+  -- The claim holds of a step of p whose next instruction is o, or that is at its end (`None`).
   IsEventEffect-step : (t : ℕ) (p : Processor) (o : Option Instr)
       → slice_get (thread_code program t) p.position ≡ o
       → IsEventEffect (Step t) p (step_effect o p)
@@ -59,19 +59,19 @@ module _ (program : List (List Instr)) (locs : ℕ) where
   IsEventEffect-of_event (Evict t x) p none = absurd cc
 
   module _ {M : Type 0} (mem : Memory M) (p q : Processor) (m n : M) (answer : EventResult) where
-    -- An eviction leaves the processor unchanged, whether it is carried out or refused.
+    -- An eviction leads from the processor p to p, whether the line is held and evicted, or the eviction is refused.
     processor_same-eviction : (held : Bool) (t x : ℕ) → EvictionTransition mem held t x p m answer q n → q ≡ p
     processor_same-eviction false t x done = done.1
     processor_same-eviction true t x done = done.1
 
-    -- The event of an eviction leaves the processor unchanged, whether the location exists or not.
+    -- The event of an eviction leads from the processor p to p, whether the location exists or not.
     processor_same-evict_event : (there : Bool) (t x : ℕ)
         → EffectTransition mem t (if there then Eviction x else Refused NoLocation) p m answer q n
         → q ≡ p
     processor_same-evict_event true t x done = processor_same-eviction (is_held (mem.state m t x)) t x done
     processor_same-evict_event false t x done = done.1
 
-    -- The processor after a step or a drain satisfies `ProcessorChange`.
+    -- If an event that is no eviction leads from p to q, then q satisfies `ProcessorChange`.
     ProcessorChange-other_event : (e : Event)
         → IsNoEviction e
         → EffectTransition mem (cpu_of e) (event_effect program locs e p) p m answer q n
@@ -82,7 +82,7 @@ module _ (program : List (List Instr)) (locs : ℕ) where
         (EffectSatisfies-result (Unit {0}) (λ x w. MayAccess code p x) (ProcessorChange code p) mem (cpu_of e) _ p q m n answer
         (IsEventEffect-of_event e p none) done)
 
-    -- The processor after any event satisfies `ProcessorChange`.
+    -- If an event leads from p to q, then q satisfies `ProcessorChange`.
     pub ProcessorChange-event : (e : Event)
         → EffectTransition mem (cpu_of e) (event_effect program locs e p) p m answer q n
         → ProcessorChange (thread_code program (cpu_of e)) p q

@@ -20,42 +20,44 @@ use Rattle.lw_tso.proofs.Rooms.{store_count-of_entry, IsWellFormedStatement-at, 
 use Rattle.lw_tso.proofs.Rooms.{HasRoomAhead-event}
 use Rattle.lw_memory.specs.declared.request.Request.TheVariants as request
 
--- The item that is read at an index of a list is at that index.
-pub slice_get-of_read : {X : Type 0} (xs ys : List X) (i t : ℕ) (x : X)
+-- If ys is xs, i is t, t is in range, and x was read in ys at i, then xs has x at t.
+pub slice_get-of_read : {X : Type 0} {xs ys : List X} {i t : ℕ} {x : X}
     → ys ≡ xs
     → i ≡ t
     → t < length xs
     → x ≡ get_or ys i x
     → slice_get xs t ≡ Some x
-slice_get-of_read xs ys i t x same index within is = slice_get_read xs _ t x refl within (rw (← same, ← index) is)
+slice_get-of_read {xs = xs} {t = t} {x = x} same index within is = slice_get_read xs _ t x refl within (rw (← same, ← index) is)
 
 module _ {M : Type 0} (mem : Memory M) (program : List (List Instr)) where
-  -- A step of a processor that has a next instruction is the effect of that instruction.
-  pub EffectTransition-step : (t : ℕ) (p q : Processor) (i : Instr) (o : Operation) (m n : M) (answer : EventResult)
+  -- If the next instruction of p is i, of operation o, the transition of o's effect is that of the event of a step.
+  pub EffectTransition-step : {i : Instr} {o : Operation} (t : ℕ) (p q : Processor) (m n : M) (answer : EventResult)
       → slice_get (thread_code program t) p.position ≡ Some i
       → o ≡ x86_operation i
       → EffectTransition mem t (operation_effect o p) p m answer q n
       → EffectTransition mem t (event_effect program (length (mem.content m)) (Step t) p) p m answer q n
-  EffectTransition-step t p q i o m n answer next is done =
+  EffectTransition-step t p q m n answer next is done =
       subst (λ k. EffectTransition mem t (step_effect k p) p m answer q n) (sym next) (rw is at done)
 
-  -- A step of a processor at the end of its code is refused.
+  -- If p has no next instruction, a step of it is refused with the cause `Ended`, and changes nothing.
   pub step-refused_at_end : (t : ℕ) (p : Processor) (m : M)
       → slice_get (thread_code program t) p.position ≡ None
       → EffectTransition mem t (event_effect program (length (mem.content m)) (Step t) p) p m (Err Ended) p m
   step-refused_at_end t p m next =
       subst (λ o. EffectTransition mem t (step_effect o p) p m (Err Ended) p m) (sym next) (refl, refl, refl)
 
-  -- What an eviction makes of the memory, whatever the processor, which stays as it is.
+  -- An eviction by processor t of location x leads from the memory m with this answer to n, whatever the processor, which is
+  -- unchanged.
   abbrev pub EvictionLeadsTo : ℕ → ℕ → M → EventResult → M → Type 0
   EvictionLeadsTo t x m answer n =
       (p : Processor) → EffectTransition mem t (event_effect program (length (mem.content m)) (Evict t x) p) p m answer p n
 
-  -- An eviction of a location that does not exist is refused.
+  -- If location x does not exist, an eviction of it is refused with the cause `NoLocation`, and changes nothing.
   pub EvictionLeadsTo-no_location : (t x : ℕ) (m : M) → length (mem.content m) ≤ x → EvictionLeadsTo t x m (Err NoLocation) m
   EvictionLeadsTo-no_location t x m past p = rw (le-ltb x (length (mem.content m)) past) (refl, refl, refl)
 
-  -- The memory serves an eviction of a line that is held.
+  -- If location x exists, t holds its line, and the memory serves the eviction and is n then, the eviction succeeds and leads
+  -- to n.
   pub EvictionLeadsTo-held : (t x : ℕ) (m n : M)
       → x < length (mem.content m)
       → is_held (mem.state m t x) ≡ true
@@ -63,7 +65,7 @@ module _ {M : Type 0} (mem : Memory M) (program : List (List Instr)) where
       → EvictionLeadsTo t x m (Ok tt) n
   EvictionLeadsTo-held t x m n there held serves p = rw (lt-ltb x (length (mem.content m)) there, held) (refl, refl, serves)
 
-  -- An eviction of a line that is not held is refused.
+  -- If location x exists and t does not hold its line, an eviction is refused with the cause `NotHeld`, and changes nothing.
   pub EvictionLeadsTo-not_held : (t x : ℕ) (m n : M)
       → x < length (mem.content m)
       → is_held (mem.state m t x) ≡ false
@@ -76,6 +78,7 @@ module _ {M : Type 0} where
   pub cpu_in_range-if_entry : (s : MachineState M) (t index : ℕ) → index < length (buffer_of s t) → t < length s.processors
   cpu_in_range-if_entry s t index there = go (cases_lt t (length s.processors))
     where
+      -- By whether the processor exists: without it the buffer has no entry.
       go : (t < length s.processors) ⊎ (length s.processors ≤ t) → t < length s.processors
       go (inl within) = within
       go (inr past) =
@@ -89,7 +92,8 @@ module _ {M A : Type 0} where
   abbrev pub state_of : List (ProcessorInMemory A) → M → MachineState M
   state_of processors m = record { processors = map processor_of processors; memory = m }
 
-  -- The index of a processor of the running machine is one of the processors in memory.
+  -- If the running machine is the one in memory, and has a processor t, then the index i, which is t, is that of a processor in
+  -- memory.
   pub index_in_range-of_cpu : {Z : Type 0} {run : MachineRun M} {program : List (List Instr)} {initial : InitialWords}
       (processors : Vec (ProcessorInMemory A) Z) {m : M} (i t : ℕ)
       → record { program = program; initial = initial; state = state_of processors.items m } ≡ run
@@ -100,7 +104,8 @@ module _ {M A : Type 0} where
       let many = ap (λ (r : MachineRun M). length r.state.processors) same in
       omega (arith, within, many, index, length-map processors.items processor_of)
 
-  -- What is read of a processor in memory is what the running machine's processor has.
+  -- If the running machine is the one in memory, and p was read in memory at t's index, then f of the machine's processor t is
+  -- f of the processor that p represents.
   pub processor_part-read : {Y : Type 0} (f : Processor → Y) {run : MachineRun M} {program : List (List Instr)}
       {initial : InitialWords} (processors : List (ProcessorInMemory A)) {m : M} (i t : ℕ) {p : ProcessorInMemory A}
       → record { program = program; initial = initial; state = state_of processors m } ≡ run
@@ -111,14 +116,15 @@ module _ {M A : Type 0} where
   processor_part-read {Y} f processors i t {p = p} same index within is =
       let many = ap (λ (r : MachineRun M). length r.state.processors) same in
       let at =
-      slice_get-of_read processors processors i t p refl index (omega (arith, within, many, length-map processors processor_of))
+      slice_get-of_read {xs = processors} {x = p} refl index (omega (arith, within, many, length-map processors processor_of))
       is in
       let got =
       slice_get-map f (map processor_of processors) t
       ∙ ap (option_map f) (slice_get-map processor_of processors t ∙ ap (option_map processor_of) at) in
       subst (λ (r : MachineRun M). slice_get (map f r.state.processors) t ≡ Some (f (processor_of p))) same got
 
-  -- The outcome of a running machine, of which all registers and the content are listed.
+  -- If the running machine is the one in memory, regs are the registers of its processors, and words are its content, they are
+  -- its outcome.
   pub machine_outcome-of_registers : (mem : Memory M) {run : MachineRun M} {program : List (List Instr)} {initial : InitialWords}
       (processors : List (ProcessorInMemory A)) {m : M} (regs : List (List ℕ)) (words : List ℕ)
       → record { program = program; initial = initial; state = state_of processors m } ≡ run
@@ -131,7 +137,8 @@ module _ {M A : Type 0} where
       ≡ machine_outcome mem (state_of processors m) = rw (listed, content, seen) refl in
       outcome ∙ ap (λ (r : MachineRun M). machine_outcome mem r.state) same
 
-  -- The test whether all processors are done has the same result on the processors in memory.
+  -- The test whether all processors have terminated, with their codes, has the same result on the processors in memory and on
+  -- the state that they represent.
   pub is_final-all_processors : (codes : List (List Instr)) (processors : List (ProcessorInMemory A)) (m : M)
       → list_all (λ p. has_terminated p.0 (processor_of p.1)) (zip codes processors) ≡ is_final codes (state_of processors m)
   is_final-all_processors (code ∷ codes) (p ∷ processors) m =
@@ -139,7 +146,8 @@ module _ {M A : Type 0} where
   is_final-all_processors _ _ m = refl
 
 module _ {M A : Type 0} (mem : Memory M) (program : List (List Instr)) where
-  -- If an event's effect leads a processor in memory from p to q, the whole machine makes the transition of this event.
+  -- If the running machine is the one in memory, and an event's effect leads its processor from p to q and the memory from m to
+  -- n, the machine makes the transition of this event.
   pub MachineTransition-by_effect : (e : Event) (run : MachineRun M) (initial : InitialWords) (p q : ProcessorInMemory A)
       (processors : List (ProcessorInMemory A)) (m n : M) (answer : EventResult)
       → record { program = program; initial = initial; state = state_of processors m } ≡ run
@@ -155,7 +163,8 @@ module _ {M A : Type 0} (mem : Memory M) (program : List (List Instr)) where
       (subst (λ o. ProcessorTransition mem o program e (state_of processors m) answer end) (sym there)
       (processor_of q, n, done, ap (λ c. let s : MachineState M = record { processors = c; memory = n } in s) set))
 
-  -- A machine evicts as its memory does, and its processors are unchanged.
+  -- If the running machine is the one in memory, processor t exists, and its eviction of x leads from the memory m to n, the
+  -- machine makes the transition of this eviction, with unchanged processors.
   pub MachineTransition-eviction : (t x : ℕ) (run : MachineRun M) (initial : InitialWords)
       (processors : List (ProcessorInMemory A)) (m n : M) (answer : EventResult)
       → record { program = program; initial = initial; state = state_of processors m } ≡ run
@@ -168,7 +177,8 @@ module _ {M A : Type 0} (mem : Memory M) (program : List (List Instr)) where
       subst (MachineTransition mem run.program (Evict t x) run.state answer) left
       (MachineTransition-by_effect (Evict t x) run initial p p processors m n answer same at (evicts (processor_of p)))
 
-  -- An event of a processor that does not exist is refused.
+  -- If the running machine is the one in memory, and the processor of an event does not exist, the event is refused with the
+  -- cause `NoCpu`, and changes nothing.
   pub MachineTransition-no_cpu : {Z : Type 0} (e : Event) (run : MachineRun M) (processors : Vec (ProcessorInMemory A) Z)
       {initial : InitialWords} {m : M} (count index : ℕ)
       → record { program = program; initial = initial; state = state_of processors.items m } ≡ run
@@ -183,7 +193,8 @@ module _ {M A : Type 0} (mem : Memory M) (program : List (List Instr)) where
       subst (λ (r : MachineRun M). MachineTransition mem r.program e r.state (Err NoCpu) r.state) same (rw none (refl, refl))
 
 module _ {M A : Type 0} (mem : Memory M) (inv : Invariant M) (program : List (List Instr)) where
-  -- What an operation needs to be carried out: processor and location are there, and a store has room.
+  -- What the operation o of processor t needs to be carried out: the processor exists, its location exists, its position can be
+  -- increased, and a store has room.
   pub record CanCarryOut (locs t : ℕ) (p : ProcessorInMemory A) (m : M) (o : Operation) : Type 0 where
     pub cpu : t < inv.cpus m
     pub loc : ForSome (location_of o) (λ x. x < length (mem.content m))
@@ -191,14 +202,14 @@ module _ {M A : Type 0} (mem : Memory M) (inv : Invariant M) (program : List (Li
     pub room : is_store o ≡ true → length p.buffer.entries < p.buffer.room
 
   module _ (locs : ℕ) (threads : All (IsWellFormedThread x86_language locs) program) where
-    -- The code of a processor of a reachable machine is that of a well-formed thread.
+    -- In a reachable machine, the code of a processor t that exists is well-formed.
     IsWellFormedThread-of_cpu : (processors : List (ProcessorInMemory A)) (m : M) (t : ℕ) (p : ProcessorInMemory A)
         → IsReachableMachine mem inv program locs m processors
         → slice_get processors t ≡ Some p
         → IsWellFormedThread x86_language locs (thread_code program t)
     IsWellFormedThread-of_cpu processors m t p ok at = threads t _ (omega (arith, slice_get_within processors t p at, ok.as_many))
 
-    -- In a reachable machine, the operation of a processor's next instruction can be carried out.
+    -- In a reachable machine, the operation o of the next instruction i of a processor can be carried out.
     pub CanCarryOut-reachable : (processors : List (ProcessorInMemory A)) {m : M} (t : ℕ) (p : ProcessorInMemory A) (i : Instr)
         {o : Operation}
         → IsReachableMachine mem inv program locs m processors
@@ -219,14 +230,15 @@ module _ {M A : Type 0} (mem : Memory M) (inv : Invariant M) (program : List (Li
           room = λ store. omega (arith, (ok.rooms t p at).fits, here, store_count-of_entry i store);
         })
 
-    -- The entries of a buffer are for locations of the memory.
+    -- In a reachable machine, the entries of a processor's buffer are for locations of the memory.
     pub entries_in_range : {processors : List (ProcessorInMemory A)} {m : M} (t : ℕ) (p : ProcessorInMemory A)
         → IsReachableMachine mem inv program locs m processors
         → slice_get processors t ≡ Some p
         → All (λ (entry : ℕ × ℕ). entry.0 < length (mem.content m)) p.buffer.entries
     entries_in_range t p ok at = rw ok.locations ((ok.rooms t p at).entries_in_range)
 
-    -- The parts of a machine after an event.
+    -- Over a lawful memory, an event that leads a processor of a reachable machine from p to q, whose buffer has the same room,
+    -- and the memory from m to n, leads to a reachable machine.
     pub IsReachableMachine-event : IsLawful mem inv
         → (e : Event) (p q : ProcessorInMemory A) (processors : List (ProcessorInMemory A)) (m n : M) (answer : EventResult)
         → IsReachableMachine mem inv program locs m processors

@@ -13,7 +13,8 @@ use Rattle.lw_tso.proofs.EventActs.{IsNoEviction, IsEventEffect, IsEventEffect-o
 use Rattle.lw_memory.specs.declared.request.Request.TheVariants as request
 
 module _ {M : Type 0} (mem : Memory M) (inv : Invariant M) (laws : IsLawful mem inv) where
-  -- An effect that is no eviction is the same over flat memory.
+  -- Over a memory whose invariant holds, an effect that is no eviction has the same result over the content, and leads to the
+  -- same processor and the content after it.
   EffectTransition-flat : (t : ℕ) (act : EventEffect) (p q : Processor) (m n : M) (answer : EventResult)
       → inv.sound m
       → ((x : ℕ) → act ≡ Eviction x → ⊥)
@@ -24,7 +25,8 @@ module _ {M : Type 0} (mem : Memory M) (inv : Invariant M) (laws : IsLawful mem 
   EffectTransition-flat t (Eviction x) p q m n answer sound none done = absurd (none x refl)
   EffectTransition-flat t _ p q m n answer sound none done = (done.0, done.1, ap mem.content done.2)
 
-  -- If an event is no eviction, its transition by the optional processor is the same over flat memory with the same content.
+  -- If the memory's invariant holds and an event is no eviction, its transition, of the processor o if there is one, is one
+  -- over flat memory with the same content.
   ProcessorTransition-flat : (o : Option Processor) (program : List (List Instr)) (e : Event) (s after : MachineState M)
       (answer : EventResult)
       → inv.sound s.memory
@@ -38,7 +40,7 @@ module _ {M : Type 0} (mem : Memory M) (inv : Invariant M) (laws : IsLawful mem 
       subst (IsEventEffect program l e p) is (IsEventEffect-of_event program l e p none) in
       (done.0, mem.content done.1, EffectTransition-flat _ _ p _ _ _ answer sound keeps done.2, ap (over_flat_memory mem) done.3)
 
-  -- An event other than an eviction has the same result over flat memory with the same content.
+  -- If the memory's invariant holds and an event is no eviction, its transition is one over flat memory with the same content.
   pub MachineTransition-flat : (program : List (List Instr)) (e : Event) (s after : MachineState M) (answer : EventResult)
       → inv.sound s.memory
       → IsNoEviction e
@@ -46,7 +48,7 @@ module _ {M : Type 0} (mem : Memory M) (inv : Invariant M) (laws : IsLawful mem 
       → MachineTransition flat_memory program e (over_flat_memory mem s) answer (over_flat_memory mem after)
   MachineTransition-flat program e s = ProcessorTransition-flat (slice_get s.processors (cpu_of e)) program e s
 
-  -- An eviction that is carried out changes neither the processor nor the content.
+  -- If the memory's invariant holds, an eviction that is carried out changes neither the processor nor the content.
   content_same-eviction : (held : Bool) (t x : ℕ) (p q : Processor) (m n : M)
       → inv.sound m
       → EvictionTransition mem held t x p m (Ok tt) q n
@@ -54,7 +56,8 @@ module _ {M : Type 0} (mem : Memory M) (inv : Invariant M) (laws : IsLawful mem 
   content_same-eviction false t x p q m n sound done = (done.1, ap mem.content done.2)
   content_same-eviction _ t x p q m n sound done = (done.1, (laws.served m (request.Evict t x) None n sound done.2).content)
 
-  -- The effect of an eviction event that is carried out changes neither the processor nor the content.
+  -- If the memory's invariant holds, an eviction event that is carried out changes neither the processor nor the content,
+  -- whether the location exists (`there`) or not.
   content_same-evict_effect : (there : Bool) (t x : ℕ) (p q : Processor) (m n : M)
       → inv.sound m
       → EffectTransition mem t (if there then Eviction x else Refused NoLocation) p m (Ok tt) q n
@@ -62,7 +65,7 @@ module _ {M : Type 0} (mem : Memory M) (inv : Invariant M) (laws : IsLawful mem 
   content_same-evict_effect true t x p q m n sound done = content_same-eviction (is_held (mem.state m t x)) t x p q m n sound done
   content_same-evict_effect false t x p q m n sound done = (done.1, ap mem.content done.2)
 
-  -- An eviction event that is carried out does not change the machine over flat memory with the same content.
+  -- If the memory's invariant holds, an eviction event that is carried out leaves the state over flat memory unchanged.
   content_same-evict_event : (o : Option Processor) (program : List (List Instr)) (t x : ℕ) (s after : MachineState M)
       → inv.sound s.memory
       → slice_get s.processors t ≡ o
@@ -77,7 +80,7 @@ module _ {M : Type 0} (mem : Memory M) (inv : Invariant M) (laws : IsLawful mem 
       (λ (ps : List Processor) (words : List ℕ). let a : MachineState (List ℕ) = record { processors = ps; memory = words } in a)
       processors same.1
 
-  -- A run over any lawful memory is, without its evictions, one over flat memory.
+  -- If the memory's invariant holds at the start, a run over it is, without its evictions, a run over flat memory.
   pub MachineRunsTo-flat : (program : List (List Instr)) (es : List Event) (s end : MachineState M)
       → inv.sound s.memory
       → MachineRunsTo mem program es s end
@@ -99,7 +102,8 @@ module _ {M : Type 0} (mem : Memory M) (inv : Invariant M) (laws : IsLawful mem 
       (MachineRunsTo-flat program es ran.0 end
       (IsSameSize-event mem inv laws program (Evict t x) s ran.0 (Ok tt) sound ran.1).sound ran.2)
 
-  -- A replay over any lawful memory is, without its evictions, one over flat memory.
+  -- If the memory's invariant holds at the start, a list of events that replays to an outcome over it replays, without its
+  -- evictions, to the same outcome over flat memory.
   pub ReplaysTo-flat : (test : X86Test) (m : M) (es : List Event) (o : FinalState)
       → inv.sound m
       → ReplaysTo mem test m es o

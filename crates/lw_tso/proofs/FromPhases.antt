@@ -3,14 +3,14 @@
 -- direction of the law that phases of locked instructions change no outcome; IntoPhases has the other.
 use Rattle.lw_tso.proofs.Common.{IsWellScopedThread, ◌≡◌, ◌≢◌, ℕ, ◌<◌, List, [], ◌∷◌, ◌++◌, length, Ok, Some}
 use Rattle.lw_tso.proofs.Common.{refl, sym, ap, ◌∙◌, subst, arith, slice_get, slice_set, slice_index, set-set}
-use Rattle.lw_tso.proofs.Common.{set_comm, same_Some, get-set_same, get-set_other, thread_code, Event, Step}
-use Rattle.lw_tso.proofs.Common.{Drain, flat_memory, Instr, All, x86_language, x86_operation, Processor}
-use Rattle.lw_tso.proofs.Common.{step_effect, event_effect, MachineState, buffer_of, MachineTransition}
-use Rattle.lw_tso.proofs.Common.{MachineRunsTo, RunsTo-append, Phase, Begun, HasRead, HasWritten, Lock, Free}
-use Rattle.lw_tso.proofs.Common.{HeldBy, PhasedState, PhasedEvent, Steps, Drains, Locks, Reads, Writes}
-use Rattle.lw_tso.proofs.Common.{Unlocks, IsNotBlocked, Locked, with_empty_buffer, read_value}
-use Rattle.lw_tso.proofs.Common.{after_locked_write, locked_next, IsAtLocked, PhasedStep, PhasedTransition}
-use Rattle.lw_tso.proofs.Common.{PhasedRunsTo, unlocked}
+use Rattle.lw_tso.proofs.Common.{set_comm, same_Some, slice_get-slice_set_same, slice_get-slice_set_other}
+use Rattle.lw_tso.proofs.Common.{thread_code, Event, Step, Drain, flat_memory, Instr, All, x86_language}
+use Rattle.lw_tso.proofs.Common.{x86_operation, Processor, step_effect, event_effect, MachineState, buffer_of}
+use Rattle.lw_tso.proofs.Common.{MachineTransition, MachineRunsTo, RunsTo-append, Phase, Begun, HasRead}
+use Rattle.lw_tso.proofs.Common.{HasWritten, Lock, Free, HeldBy, PhasedState, PhasedEvent, Steps, Drains}
+use Rattle.lw_tso.proofs.Common.{Locks, Reads, Writes, Unlocks, IsNotBlocked, Locked, with_empty_buffer}
+use Rattle.lw_tso.proofs.Common.{read_value, after_locked_write, locked_next, IsAtLocked, PhasedStep}
+use Rattle.lw_tso.proofs.Common.{PhasedTransition, PhasedRunsTo, unlocked}
 use Rattle.lw_tso.proofs.LockedSteps.{DoesAs-locked, location_in_range-of_locked, memory_same-plain_operation}
 use Rattle.lw_tso.proofs.LockedSteps.{DrainParts, DrainParts-of_drain, read_value-after_drain}
 use Rattle.lw_tso.proofs.LockedSteps.{length_memory-effect, buffer_empty-after_locked_step}
@@ -24,7 +24,8 @@ not-append_last_nil [] x e = cc
 not-append_last_nil (y ∷ xs) x e = cc
 
 module _ (program : List (List Instr)) where
-  -- What the lock's holder has read is what it would read now.
+  -- What the lock's holder has read is what it would read in this state; true if nobody holds the lock, or its holder has not
+  -- read, or has written.
   abbrev IsStillRead : Lock → MachineState (List ℕ) → Type 0
   IsStillRead (HeldBy t (HasRead w)) m =
       (p : Processor) (l : Locked) → IsAtLocked program m t p l → read_value p.buffer m.memory l.location ≡ w
@@ -44,12 +45,13 @@ module _ (program : List (List Instr)) where
     read : read_value older m.memory locked.location ≡ word
     machine_is : s.machine ≡ state (slice_set m.processors cpu (after_locked_write locked word older)) m.memory
 
-  -- The machine's state that corresponds to a state with phases.
+  -- The state m of the machine corresponds to a state with phases: it is the same state, and what was read is what would still
+  -- be read; or it is the one before an instruction whose write is pending.
   data Follows (s : PhasedState) (m : MachineState (List ℕ)) : Type 0 where
     Same : s.machine ≡ m → IsStillRead s.lock m → Follows s m
     Before : IsPending s m → Follows s m
 
-  -- A plain step leaves the memory unchanged.
+  -- A step of an instruction that is not locked leaves the memory unchanged.
   memory_same-plain_step : (t : ℕ) (s after : PhasedState) (st : PhasedStep program t s after)
       (d : EventOccurrence program (Step t) s.machine after.machine)
       → d.words ≡ s.machine.memory
@@ -59,7 +61,7 @@ module _ (program : List (List Instr)) where
       memory_same-plain_operation (x86_operation st.instr) d.from d.to s.machine.memory d.words st.plain
       (subst (λ o. EffectLeadsTo s.machine.memory (step_effect o d.from) d.to d.words) next d.does)
 
-  -- An event does not change the number of words.
+  -- An enabled event over flat memory does not change the number of words.
   length_memory-event : (e : Event) (s after : MachineState (List ℕ))
       → MachineTransition flat_memory program e s (Ok tt) after
       → length after.memory ≡ length s.memory
@@ -69,7 +71,7 @@ module _ (program : List (List Instr)) where
       ∙ length_memory-effect s.memory (event_effect program (length s.memory) e d.from) d.to d.words d.does
 
   module _ (locs : ℕ) (threads : All (IsWellScopedThread x86_language locs) program) where
-    -- The machine follows by some events.
+    -- From the state m some events lead the machine to a state that corresponds to `after`.
     record MachineFollowsPhases (after : PhasedState) (m : MachineState (List ℕ)) : Type 0 where
       events : List Event
       end : MachineState (List ℕ)
@@ -102,8 +104,8 @@ module _ (program : List (List Instr)) where
     -- ---- the machine is at the same state
 
     module _ (s after : PhasedState) (sized : length s.machine.memory ≡ locs) where
-      -- The step of a plain instruction is a step of the machine. It leaves memory and the lock holder's processor unchanged, so a word
-      -- that was read is still what would be read.
+      -- If what was read is what would still be read, the machine follows the step of an instruction that is not locked by the
+      -- same step, which leaves memory and the lock holder's processor unchanged.
       MachineFollowsPhases-step : (t : ℕ)
           → IsStillRead s.lock s.machine
           → PhasedStep program t s after
@@ -111,12 +113,15 @@ module _ (program : List (List Instr)) where
       MachineFollowsPhases-step t read st =
           MachineFollowsPhases-one_event after (Step t) s.machine after.machine sized st.done (Same refl still)
         where
+          -- The occurrence of the step in the machine.
           d : EventOccurrence program (Step t) s.machine after.machine
           d = EventOccurrence-of_event program (Step t) s.machine after.machine st.done
 
+          -- The step leaves the memory unchanged.
           memory : after.machine.memory ≡ s.machine.memory
           memory = ap (λ (z : MachineState (List ℕ)). z.memory) d.state_is ∙ memory_same-plain_step t s after st d
 
+          -- A word that another processor has read is what it would still read after the step.
           kept : (lock : Lock)
               → ((phase : Phase) → lock ≢ HeldBy t phase)
               → IsStillRead lock s.machine
@@ -124,18 +129,19 @@ module _ (program : List (List Instr)) where
           kept (HeldBy u (HasRead w)) outside was = λ p l at.
               let ne : t ≢ u = λ e. outside (HasRead w) (ap (λ v. HeldBy v (HasRead w)) (sym e)) in
               let there =
-              sym (get-set_other s.machine.processors t u d.to ne)
+              sym (slice_get-slice_set_other s.machine.processors t u d.to ne)
               ∙ ap (λ (z : MachineState (List ℕ)). slice_get z.processors u) (sym d.state_is)
               ∙ at.processor_at in
               ap (λ words. read_value p.buffer words l.location) memory
               ∙ was p l (record { processor_at = there; locked = at.locked })
           kept _ outside was = tt
 
+          -- What the lock's holder has read is what it would read after the step.
           still : IsStillRead after.lock after.machine
           still = subst (λ lock. IsStillRead lock after.machine) (sym st.lock) (kept s.lock st.outside read)
 
-      -- A drain is a drain of the machine. While a thread holds the lock only this thread drains, and its own drain does not change the
-      -- word that it would read.
+      -- If what was read is what would still be read, the machine follows a drain by the same drain. While a thread holds the
+      -- lock only this thread drains, and its own drain does not change the word that it would read.
       MachineFollowsPhases-drain : (t : ℕ)
           → IsStillRead s.lock s.machine
           → PhasedTransition program (Drains t) s after
@@ -143,17 +149,20 @@ module _ (program : List (List Instr)) where
       MachineFollowsPhases-drain t read done =
           MachineFollowsPhases-one_event after (Drain t) s.machine after.machine sized done.1 (Same refl still)
         where
+          -- The occurrence of the drain in the machine.
           d : EventOccurrence program (Drain t) s.machine after.machine
           d = EventOccurrence-of_event program (Drain t) s.machine after.machine done.1
 
+          -- The entry that was drained, and the newer ones.
           drain : DrainParts s.machine.memory d.from d.to d.words
           drain = DrainParts-of_drain s.machine.memory d.from d.to d.words d.does
 
+          -- The word that the drain's own processor has read is what it would still read after the drain.
           kept : (lock : Lock) → IsNotBlocked lock t → IsStillRead lock s.machine → IsStillRead lock after.machine
           kept (HeldBy u (HasRead w)) own was = λ p l at.
               let now : slice_get after.machine.processors t ≡ Some d.to =
               ap (λ (z : MachineState (List ℕ)). slice_get z.processors t) d.state_is
-              ∙ get-set_same s.machine.processors t d.to d.from d.was in
+              ∙ slice_get-slice_set_same s.machine.processors t d.to d.from d.was in
               let here : slice_get after.machine.processors t ≡ Some p =
               subst (λ v. slice_get after.machine.processors v ≡ Some p) own at.processor_at in
               let is : p ≡ record d.from { buffer = drain.newer } = same_Some p d.to (sym here ∙ now) ∙ drain.processor_is in
@@ -174,10 +183,12 @@ module _ (program : List (List Instr)) where
               ∙ before
           kept _ own was = tt
 
+          -- What the lock's holder has read is what it would read after the drain.
           still : IsStillRead after.lock after.machine
           still = subst (λ lock. IsStillRead lock after.machine) (sym done.2) (kept s.lock done.0 read)
 
-      -- An event that changes only the lock needs no event of the machine.
+      -- If an event changes only the lock, and what the holder of the new lock has read is what it would read, the machine
+      -- follows without an event.
       MachineFollowsPhases-lock_only : (lock : Lock)
           → after ≡ record { machine = s.machine; lock = lock }
           → IsStillRead lock s.machine
@@ -232,28 +243,34 @@ module _ (program : List (List Instr)) where
     module _ (s after : PhasedState) (m : MachineState (List ℕ)) (sized : length m.memory ≡ locs) (pending : IsPending s m) where
       open pending use {cpu, from, older, locked, word}
 
-      -- The machine follows the step of another thread by the same step, and the write of the lock's holder is still pending.
+      -- If a write is pending, the machine follows the step of another thread by the same step, and the write is still pending.
       before_step : (t : ℕ) → PhasedStep program t s after → MachineFollowsPhases after m
       before_step t st = MachineFollowsPhases-one_event after (Step t) m n sized way (Before still)
         where
+          -- The step is of another processor than the lock's holder.
           other_cpu : cpu ≢ t
           other_cpu = λ e. st.outside HasWritten (pending.lock ∙ ap (λ u. HeldBy u HasWritten) e)
 
+          -- The occurrence of the step in the machine of the state with phases.
           d : EventOccurrence program (Step t) s.machine after.machine
           d = EventOccurrence-of_event program (Step t) s.machine after.machine st.done
 
+          -- Both machines have the same memory.
           memory : s.machine.memory ≡ m.memory
           memory = ap (λ (z : MachineState (List ℕ)). z.memory) pending.machine_is
 
+          -- The processor of the step is in the state m as it is in the state with phases.
           there : slice_get m.processors t ≡ Some d.from
           there =
-              sym (get-set_other m.processors cpu t (after_locked_write locked word older) other_cpu)
+              sym (slice_get-slice_set_other m.processors cpu t (after_locked_write locked word older) other_cpu)
               ∙ ap (λ (z : MachineState (List ℕ)). slice_get z.processors t) (sym pending.machine_is)
               ∙ d.was
 
+          -- The state m after the step.
           n : MachineState (List ℕ)
           n = state (slice_set m.processors t d.to) d.words
 
+          -- The step leads from m to n.
           way : MachineTransition flat_memory program (Step t) m (Ok tt) n
           way =
               MachineTransition-of_effect program (Step t) m.processors d.from d.to m.memory d.words there
@@ -261,6 +278,7 @@ module _ (program : List (List Instr)) where
               (λ words. EffectLeadsTo words (step_effect (slice_get (thread_code program t) d.from.position) d.from) d.to d.words)
               memory d.does)
 
+          -- After the step the write is still pending.
           still : IsPending after n
           still = record {
             cpu = cpu;
@@ -269,7 +287,7 @@ module _ (program : List (List Instr)) where
             locked = locked;
             word = word;
             lock = st.lock ∙ pending.lock;
-            was = get-set_other m.processors t cpu d.to (λ e. other_cpu (sym e)) ∙ pending.was;
+            was = slice_get-slice_set_other m.processors t cpu d.to (λ e. other_cpu (sym e)) ∙ pending.was;
             next = pending.next;
             read =
                 ap (λ words. read_value older words locked.location) (memory_same-plain_step t s after st d ∙ memory)
@@ -282,6 +300,7 @@ module _ (program : List (List Instr)) where
 
       -- The drain of an older entry, and that of the write itself.
       module _ (lock : after.lock ≡ HeldBy cpu HasWritten) where
+        -- The lock's holder, before the instruction, has this buffer in the state m.
         abbrev HasBuffer : List (ℕ × ℕ) → Type 0
         HasBuffer buffer = slice_get m.processors cpu ≡ Some (record from { buffer = buffer })
 
@@ -297,36 +316,45 @@ module _ (program : List (List Instr)) where
             → MachineFollowsPhases after m
         drain_older entry newer was read done = MachineFollowsPhases-one_event after (Drain cpu) m n sized way (Before still)
           where
+            -- The words after the drain.
             words : List ℕ
             words = slice_set m.memory entry.0 entry.1
 
+            -- The lock's holder with the entries and its write in the buffer.
             full : Processor
             full = after_locked_write locked word (entry ∷ newer)
 
+            -- The lock's holder after the drain, in the state with phases.
             fewer : Processor
             fewer = after_locked_write locked word newer
 
+            -- The lock's holder after the drain, before the instruction.
             drained_from : Processor
             drained_from = record from { buffer = newer }
 
+            -- The state m after the drain.
             n : MachineState (List ℕ)
             n = state (slice_set m.processors cpu drained_from) words
 
+            -- The step of the instruction leads from m to n.
             way : MachineTransition flat_memory program (Drain cpu) m (Ok tt) n
             way =
                 MachineTransition-of_effect program (Drain cpu) m.processors (record from { buffer = entry ∷ newer }) drained_from
                 m.memory words was (refl, refl)
 
+            -- The drain of the write in the machine of the state with phases leads to the state with `drained`.
             expected : MachineTransition flat_memory program (Drain cpu) (writing (entry ∷ newer) word) (Ok tt)
                 (state (slice_set (slice_set m.processors cpu full) cpu fewer) words)
             expected =
                 MachineTransition-of_effect program (Drain cpu) (slice_set m.processors cpu full) full fewer m.memory words
-                (get-set_same m.processors cpu full (record from { buffer = entry ∷ newer }) was) (refl, refl)
+                (slice_get-slice_set_same m.processors cpu full (record from { buffer = entry ∷ newer }) was) (refl, refl)
 
+            -- The location of the locked instruction exists.
             location_in_range : locked.location < length m.memory
             location_in_range =
                 omega (arith, location_in_range-of_locked program locs threads cpu from locked pending.next, sized)
 
+            -- After the drain the write is still pending.
             still : IsPending after n
             still = record {
               cpu = cpu;
@@ -335,7 +363,7 @@ module _ (program : List (List Instr)) where
               locked = locked;
               word = word;
               lock = lock;
-              was = get-set_same m.processors cpu drained_from (record from { buffer = entry ∷ newer }) was;
+              was = slice_get-slice_set_same m.processors cpu drained_from (record from { buffer = entry ∷ newer }) was;
               next = pending.next;
               read = read_value-after_drain m.memory entry newer locked.location location_in_range ∙ read;
               machine_is =
@@ -352,18 +380,23 @@ module _ (program : List (List Instr)) where
             → MachineFollowsPhases after m
         drain_write was done = MachineFollowsPhases-one_event after (Step cpu) m n sized way (Same machine_eq still)
           where
+            -- The word that the locked instruction reads.
             w : ℕ
             w = slice_index m.memory locked.location
 
+            -- The words after the instruction.
             words : List ℕ
             words = slice_set m.memory locked.location (locked.leaves w)
 
+            -- The lock's holder with only its write in the buffer.
             full : Processor
             full = after_locked_write locked w []
 
+            -- The lock's holder after the drain of its write.
             drained : Processor
             drained = record (locked.next w) { buffer = [] }
 
+            -- The state m after the instruction.
             n : MachineState (List ℕ)
             n = state (slice_set m.processors cpu (locked.next w)) words
 
@@ -378,14 +411,16 @@ module _ (program : List (List Instr)) where
                 (state (slice_set (slice_set m.processors cpu full) cpu drained) words)
             expected =
                 MachineTransition-of_effect program (Drain cpu) (slice_set m.processors cpu full) full drained m.memory words
-                (get-set_same m.processors cpu full (with_empty_buffer from) was) (refl, refl)
+                (slice_get-slice_set_same m.processors cpu full (with_empty_buffer from) was) (refl, refl)
 
+            -- The processor after the drain is the one after the instruction, whose buffer is empty.
             same_processor : drained ≡ locked.next w
             same_processor =
                 ap (λ b. record (locked.next w) { buffer = b })
                 (sym (buffer_empty-after_locked_step (slice_get (thread_code program cpu) from.position) from locked w
                 pending.next))
 
+            -- The drain of the write leads to n too, since drains are deterministic.
             machine_eq : after.machine ≡ n
             machine_eq =
                 (MachineTransition-deterministic program (Drain cpu) (writing [] w) after.machine _ (Ok tt) (Ok tt) done
@@ -393,6 +428,7 @@ module _ (program : List (List Instr)) where
                 ∙ ap (λ ps. state ps words)
                 (set-set m.processors cpu full drained ∙ ap (slice_set m.processors cpu) same_processor)
 
+            -- A holder that has written has nothing that it would still read.
             still : IsStillRead after.lock n
             still = subst (λ k. IsStillRead k n) (sym lock) tt
 
@@ -407,7 +443,7 @@ module _ (program : List (List Instr)) where
             (subst (λ w. MachineTransition flat_memory program (Drain cpu) (writing [] w) (Ok tt) after.machine) (sym read) done)
         MachineFollowsPhases-drain_of_write (entry ∷ newer) was read done = drain_older entry newer was read done
 
-      -- The machine follows a drain while a write is pending, since nobody drains but the lock's holder.
+      -- If a write is pending, the machine follows a drain, since nobody drains but the lock's holder.
       before_drain : (t : ℕ) → PhasedTransition program (Drains t) s after → MachineFollowsPhases after m
       before_drain t done =
           let own : cpu ≡ t = subst (λ lock. IsNotBlocked lock t) pending.lock done.0 in
@@ -415,7 +451,7 @@ module _ (program : List (List Instr)) where
           (subst (λ z. MachineTransition flat_memory program (Drain cpu) z (Ok tt) after.machine) pending.machine_is
           (subst (λ u. MachineTransition flat_memory program (Drain u) s.machine (Ok tt) after.machine) (sym own) done.1))
 
-      -- It can't release the lock, since its write is in the buffer.
+      -- If a write is pending, the lock cannot be released, since the write is in the buffer: so the machine follows.
       before_unlock : (t : ℕ) → PhasedTransition program (Unlocks t) s after → MachineFollowsPhases after m
       before_unlock t done =
           let held : HeldBy cpu HasWritten ≡ HeldBy t HasWritten = sym pending.lock ∙ done.0 in
@@ -423,12 +459,12 @@ module _ (program : List (List Instr)) where
           let full = after_locked_write locked word older in
           let there : slice_get s.machine.processors cpu ≡ Some full =
           ap (λ (z : MachineState (List ℕ)). slice_get z.processors cpu) pending.machine_is
-          ∙ get-set_same m.processors cpu full (record from { buffer = older }) pending.was in
+          ∙ slice_get-slice_set_same m.processors cpu full (record from { buffer = older }) pending.was in
           let none : buffer_of s.machine cpu ≡ [] = subst (λ u. buffer_of s.machine u ≡ []) (sym own) done.1 in
           absurd (not-append_last_nil older (locked.location, locked.leaves word)
           (sym (buffer_of-in_range s.machine cpu full there) ∙ none))
 
-      -- While a write is pending, the lock's holder has written. So no event is enabled that needs another phase.
+      -- If a write is pending and the lock is not the one of a holder that has written, anything follows: the lock is that one.
       other_phase : {X : Type 0} (lock : Lock) → s.lock ≡ lock → (HeldBy cpu HasWritten ≡ lock → ⊥) → X
       other_phase lock is not = absurd (not (sym pending.lock ∙ is))
 
@@ -443,7 +479,7 @@ module _ (program : List (List Instr)) where
 
     -- ---- a run
 
-    -- The machine follows an event with phases from any corresponding state.
+    -- If m corresponds to a state s with phases, the machine follows each event with phases from s.
     MachineFollowsPhases-any_event : (e : PhasedEvent) (s after : PhasedState) (m : MachineState (List ℕ))
         → length m.memory ≡ locs
         → Follows s m
@@ -468,7 +504,7 @@ module _ (program : List (List Instr)) where
       sized = more.sized;
     }
 
-    -- The machine follows a run with phases from any corresponding state.
+    -- If m corresponds to a state s with phases, the machine follows each run with phases from s.
     MachineFollowsPhases-run : (es : List PhasedEvent) (s end : PhasedState) (m : MachineState (List ℕ))
         → length m.memory ≡ locs
         → Follows s m
@@ -481,12 +517,12 @@ module _ (program : List (List Instr)) where
         MachineFollowsPhases-trans ran.0 end m first
         (MachineFollowsPhases-run es ran.0 end first.end first.sized first.follows ran.2)
 
-    -- If nobody holds the lock, the corresponding state of the machine is that of the state with phases.
+    -- If m corresponds to a state in which nobody holds the lock, it is that state's machine.
     machine_eq-unlocked : (end m : MachineState (List ℕ)) → Follows (unlocked end) m → end ≡ m
     machine_eq-unlocked end m (Same is read) = is
     machine_eq-unlocked end m (Before pending) = absurd (let e : Free ≡ HeldBy pending.cpu HasWritten = pending.lock in cc)
 
-    -- If nobody holds the lock at either end, the run ends where some events of the machine end.
+    -- If nobody holds the lock at either end of a run with phases, some events of the machine lead from its start to its end.
     pub MachineRunsTo-of_phases : (es : List PhasedEvent) (s end : MachineState (List ℕ))
         → length s.memory ≡ locs
         → PhasedRunsTo program es (unlocked s) (unlocked end)

@@ -2,20 +2,20 @@
 -- releases the lock, in sequence. One direction of the law that these phases change no outcome; FromPhases has the other.
 use Rattle.lw_tso.proofs.Common.{◌≡◌, ℕ, Bool, true, false, List, [], ◌∷◌, ◌++◌, length, map, Ok, Option}
 use Rattle.lw_tso.proofs.Common.{Some, None, refl, sym, ap, ◌∙◌, subst, slice_get, slice_set, slice_index}
-use Rattle.lw_tso.proofs.Common.{option_map, set-set, get_or_from_slice_get, slice_get-map, get-set_same}
-use Rattle.lw_tso.proofs.Common.{thread_code, Event, Step, Drain, Evict, flat_memory, Instr, is_locked}
-use Rattle.lw_tso.proofs.Common.{x86_operation, Processor, step_effect, MachineState, buffer_of}
-use Rattle.lw_tso.proofs.Common.{MachineTransition, MachineRunsTo, Begun, HasRead, HasWritten, Lock, HeldBy}
-use Rattle.lw_tso.proofs.Common.{PhasedState, PhasedEvent, Steps, Drains, Locks, Reads, Writes, Unlocks}
-use Rattle.lw_tso.proofs.Common.{Locked, locked_by, with_empty_buffer, after_locked_write, IsAtLocked}
-use Rattle.lw_tso.proofs.Common.{PhasedRunsTo, unlocked}
+use Rattle.lw_tso.proofs.Common.{option_map, set-set, get_or_from_slice_get, slice_get-map}
+use Rattle.lw_tso.proofs.Common.{slice_get-slice_set_same, thread_code, Event, Step, Drain, Evict}
+use Rattle.lw_tso.proofs.Common.{flat_memory, Instr, is_locked, x86_operation, Processor, step_effect}
+use Rattle.lw_tso.proofs.Common.{MachineState, buffer_of, MachineTransition, MachineRunsTo, Begun, HasRead}
+use Rattle.lw_tso.proofs.Common.{HasWritten, Lock, HeldBy, PhasedState, PhasedEvent, Steps, Drains, Locks}
+use Rattle.lw_tso.proofs.Common.{Reads, Writes, Unlocks, Locked, locked_by, with_empty_buffer}
+use Rattle.lw_tso.proofs.Common.{after_locked_write, IsAtLocked, PhasedRunsTo, unlocked}
 use Rattle.lw_tso.proofs.LockedSteps.{DoesAs-locked, locked_by-of_locked, buffer_empty-if_locked}
 use Rattle.lw_tso.proofs.LockedSteps.{buffer_empty-after_locked_step}
 use Rattle.lw_tso.proofs.api.Effects.{state, EffectLeadsTo, not-EffectLeadsTo-evict_event, EventOccurrence}
 use Rattle.lw_tso.proofs.api.Effects.{MachineTransition-deterministic, MachineTransition-of_effect}
 use Rattle.lw_tso.proofs.api.Effects.{EventOccurrence-of_event}
 
--- The store buffer of a processor in range is that in the machine.
+-- If the machine has the processor p at index t, the buffer of t is that of p.
 pub buffer_of-in_range : (s : MachineState (List ℕ)) (t : ℕ) (p : Processor)
     → slice_get s.processors t ≡ Some p
     → buffer_of s t ≡ p.buffer
@@ -51,15 +51,15 @@ module _ (program : List (List Instr)) where
     abbrev words : List ℕ
     words = slice_set s.memory l.location left
 
-    -- The state after it.
+    -- The state after the instruction in one step.
     abbrev done_at_once : MachineState (List ℕ)
     done_at_once = state (slice_set s.processors t (l.next word)) words
 
-    -- Its processor with its write in the buffer.
+    -- The instruction's processor with its write in the buffer.
     abbrev written : Processor
     written = after_locked_write l word []
 
-    -- Its processor after the drain of its write.
+    -- The instruction's processor after the drain of its write.
     abbrev drained : Processor
     drained = record (l.next word) { buffer = [] }
 
@@ -75,9 +75,9 @@ module _ (program : List (List Instr)) where
     abbrev ending : MachineState (List ℕ)
     ending = state (slice_set (slice_set s.processors t written) t drained) words
 
-    -- After the write, processor t is the one with the write in its buffer.
+    -- After the write, processor t is `written`.
     written_processor_found : slice_get (slice_set s.processors t written) t ≡ Some written
-    written_processor_found = get-set_same s.processors t written (with_empty_buffer p) at.processor_at
+    written_processor_found = slice_get-slice_set_same s.processors t written (with_empty_buffer p) at.processor_at
 
     -- The drain of the write leads from the state `writing` to `ending`.
     write_drains : MachineTransition flat_memory program (Drain t) writing (Ok tt) ending
@@ -89,20 +89,20 @@ module _ (program : List (List Instr)) where
     buffer_empty_at_end : buffer_of ending t ≡ []
     buffer_empty_at_end =
         buffer_of-in_range ending t drained
-        (get-set_same (slice_set s.processors t written) t drained written written_processor_found)
+        (slice_get-slice_set_same (slice_set s.processors t written) t drained written written_processor_found)
 
-    -- The processor after the drain is the one that executed the instruction at once, since both buffers are empty.
+    -- The processor after the drain is the one that executed the instruction in one step, since both buffers are empty.
     same_processor : drained ≡ l.next word
     same_processor =
         ap (λ b. record (l.next word) { buffer = b })
         (sym (buffer_empty-after_locked_step (slice_get (thread_code program t) p.position) p l word at.locked))
 
-    -- The phases end in the state that the instruction reaches at once.
+    -- The phases end in the state that the instruction reaches in one step.
     ends_equal : done_at_once ≡ ending
     ends_equal =
         ap (λ ps. state ps words) (sym (set-set s.processors t written drained ∙ ap (slice_set s.processors t) same_processor))
 
-    -- What a locked instruction does at once, it also does in phases: lock, read, write, drain, unlock.
+    -- What a locked instruction does in one step, it also does in phases: lock, read, write, drain, unlock.
     InPhases-locked : InPhases s done_at_once
     InPhases-locked = (
       Locks t ∷ Reads t ∷ Writes t ∷ Drains t ∷ Unlocks t ∷ [],
@@ -125,7 +125,7 @@ module _ (program : List (List Instr)) where
       ),
     )
 
-    -- Its step leads to that state.
+    -- If the step of processor t leads from s to `after`, that is the state `done_at_once`.
     step_end-unique : (after : MachineState (List ℕ))
         → MachineTransition flat_memory program (Step t) s (Ok tt) after
         → after ≡ done_at_once
@@ -136,7 +136,7 @@ module _ (program : List (List Instr)) where
         at.processor_at (DoesAs-locked s.memory act l at.locked) in
         (MachineTransition-deterministic program (Step t) s after done_at_once (Ok tt) (Ok tt) done way).1
 
-  -- An event is a run in phases.
+  -- If an event leads from s to `after`, events with locked instructions in phases do, with the lock free at both ends.
   InPhases-event : (e : Event) (s after : MachineState (List ℕ))
       → MachineTransition flat_memory program e s (Ok tt) after
       → InPhases s after
@@ -146,9 +146,11 @@ module _ (program : List (List Instr)) where
       absurd (not-EffectLeadsTo-evict_event program (length s.memory) t x d.from d.to s.memory d.words d.does)
   InPhases-event (Step t) s after done = InPhases-by_instruction (slice_get (thread_code program t) d.from.position) refl
     where
+      -- The occurrence of the step.
       d : EventOccurrence program (Step t) s after
       d = EventOccurrence-of_event program (Step t) s after done
 
+      -- If the next instruction is not locked, the step is one event with phases.
       InPhases-plain_step : (i : Instr)
           → slice_get (thread_code program t) d.from.position ≡ Some i
           → is_locked (x86_operation i) ≡ false
@@ -172,6 +174,7 @@ module _ (program : List (List Instr)) where
         ),
       )
 
+      -- If the next instruction is locked, the step is its phases in sequence.
       InPhases-locked_step : (i : Instr)
           → slice_get (thread_code program t) d.from.position ≡ Some i
           → is_locked (x86_operation i) ≡ true
@@ -186,6 +189,7 @@ module _ (program : List (List Instr)) where
           } in
           subst (InPhases s) (sym (step_end-unique t s d.from l.0 at after done)) (InPhases-locked t s d.from l.0 at)
 
+      -- By whether the next instruction is locked.
       InPhases-by_kind : (i : Instr)
           → slice_get (thread_code program t) d.from.position ≡ Some i
           → (b : Bool)
@@ -194,12 +198,13 @@ module _ (program : List (List Instr)) where
       InPhases-by_kind i next true is = InPhases-locked_step i next is
       InPhases-by_kind i next false is = InPhases-plain_step i next is
 
+      -- By the next instruction: there is one, since the step is enabled.
       InPhases-by_instruction : (o : Option Instr) → slice_get (thread_code program t) d.from.position ≡ o → InPhases s after
       InPhases-by_instruction None next =
           absurd (subst (λ o. EffectLeadsTo s.memory (step_effect o d.from) d.to d.words) next d.does)
       InPhases-by_instruction (Some i) next = InPhases-by_kind i next (is_locked (x86_operation i)) refl
 
-  -- Each run is one with locked instructions in phases.
+  -- If events lead from s to `end`, events with locked instructions in phases do, with the lock free at both ends.
   pub InPhases-run : (es : List Event) (s end : MachineState (List ℕ))
       → MachineRunsTo flat_memory program es s end
       → InPhases s end

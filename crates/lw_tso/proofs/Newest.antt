@@ -5,7 +5,7 @@ use Rattle.lw_tso.proofs.Common.{◌<◌, true, false, List, ◌∷◌, slice_ge
 use Rattle.lw_tso.proofs.Common.{if◌then◌else◌, ap, sym, ◌∙◌, subst, arith, drop-cons, option_or}
 use Rattle.lw_tso.proofs.Common.{slice_get_within, get_or_from_slice_get, newest_buffered}
 
--- An index in range is found.
+-- If what was read is what a list has at i, and i is in range, then something was read.
 pub IsSome-index_in_range : {X : Type 0} (read : Option (Bor X)) (xs : List X) (i : ℕ)
     → option_copied read ≡ slice_get xs i
     → i < length xs
@@ -17,7 +17,7 @@ IsSome-index_in_range None xs i is within = let (x, at) = slice_get-some xs i wi
 abbrev word_for : ℕ → ℕ × ℕ → Option ℕ
 word_for x entry = if entry.0 == x then Some entry.1 else None
 
--- If the entries from index k on have a word for x, the newest of these is the newest of all.
+-- If the entries from index k on have a newest word w for x, it is the newest of all.
 newest_buffered-of_newer : (x k w : ℕ) (entries : List (ℕ × ℕ))
     → newest_buffered (drop k entries) x ≡ Some w
     → newest_buffered entries x ≡ Some w
@@ -25,7 +25,7 @@ newest_buffered-of_newer x (suc k) w (entry ∷ entries) h =
     ap (λ q. option_or q (word_for x entry)) (newest_buffered-of_newer x k w entries h)
 newest_buffered-of_newer x _ w _ h = h
 
--- If no entry after index k is for x, the newest word from k on is that of the entry at k, if that is for x.
+-- If the entry at k is `entry`, and none after it is for x, the newest word for x from k on is that of `entry`, if it is for x.
 newest_buffered-at_index : (x k : ℕ) (entries : List (ℕ × ℕ)) (entry : ℕ × ℕ)
     → slice_get entries k ≡ Some entry
     → newest_buffered (drop (suc k) entries) x ≡ None
@@ -36,7 +36,8 @@ newest_buffered-at_index x k entries entry at h =
     ∙ ap (λ y. y ∷ drop (suc k) entries) (get_or_from_slice_get entries k entry entry at) in
     ap (λ es. newest_buffered es x) parts ∙ ap (λ q. option_or q (word_for x entry)) h
 
--- If no entry from index p on is for x, the newest word from `p - 1` on is that of the entry there, if that is for x.
+-- If the entry at `p - 1` is `entry`, and none from p on is for x, the newest word for x from `p - 1` on is that of `entry`, if
+-- it is for x.
 newest_buffered-one_before : (x p : ℕ) (entries : List (ℕ × ℕ)) (entry : ℕ × ℕ)
     → 0 < p
     → slice_get entries (p - 1) ≡ Some entry

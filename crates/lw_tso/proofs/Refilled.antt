@@ -11,18 +11,19 @@ pub record RefilledUpTo {X Y Z : Type 0} (f : X → Z) (g : Y → Z) (xs : List 
   pub first_in_range : i < length xs
   pub second_in_range : i < length ys
 
--- Overwriting the item at i of xs with one of the same image extends the property to `i + 1`.
-pub RefilledUpTo-suc : {X Y Z : Type 0} (f : X → Z) (g : Y → Z) (xs : List X) (ys : List Y) (i : ℕ) (x : X) (d : Y)
+-- If the property holds up to i, and f of x is g of the item of ys at i, then it holds up to i + 1 after x is set at i.
+pub RefilledUpTo-next : {X Y Z : Type 0} (f : X → Z) (g : Y → Z) (xs : List X) (ys : List Y) (i : ℕ) (x : X) (d : Y)
     → RefilledUpTo f g xs ys i
     → f x ≡ g (get_or ys i d)
     → map f (take (i + 1) (set xs i x)) ≡ map g (take (i + 1) ys)
-RefilledUpTo-suc f g xs ys i x d upto is =
+RefilledUpTo-next f g xs ys i x d upto is =
     ap (map f) (take_more_set xs i x upto.first_in_range)
     ∙ map-append f (take i xs) (x ∷ [])
     ∙ rw (upto.so_far, is) refl
     ∙ sym (map_more g ys i d upto.second_in_range)
 
--- If the property holds up to k, and both lists have the same length, at most k, it holds of all items.
+-- If the first k items of xs and ys have equal images, both lists have the same length, and that is at most k, then all items
+-- have equal images.
 pub RefilledUpTo-all : {X Y Z : Type 0} (f : X → Z) (g : Y → Z) (xs : List X) (ys : List Y) {k : ℕ}
     → map f (take k xs) ≡ map g (take k ys)
     → length xs ≡ length ys
@@ -31,14 +32,14 @@ pub RefilledUpTo-all : {X Y Z : Type 0} (f : X → Z) (g : Y → Z) (xs : List X
 RefilledUpTo-all f g xs ys {k = k} so_far many past =
     ap (map f) (sym (take_all k xs (omega arith))) ∙ so_far ∙ ap (map g) (take_all k ys past)
 
--- Overwriting an item with one of the same image preserves the list of images.
+-- If x has the same image as the item at i, setting x at i preserves the list of images.
 pub map-set_same_image : {X Y : Type 0} (f : X → Y) (xs : List X) (i : ℕ) (x y : X)
     → slice_get xs i ≡ Some y
     → f x ≡ f y
     → map f (set xs i x) ≡ map f xs
 map-set_same_image f xs i x y at same = map-set f xs i x ∙ rw same (sym (map-set f xs i y) ∙ ap (map f) (set-get_same xs i y at))
 
--- In the list of all locations, or of its first n, the item at index i is i.
+-- If l was read at index i of the first n of all locations, and i is in range, then l is i.
 pub all_locations-at : (n i l : ℕ) {all : List ℕ}
     → all ≡ range_with_len 0 most_locations
     → i < length (take n all)
@@ -52,7 +53,8 @@ all_locations-at n i l {all = all} are within is =
     ∙ get_or-range_with_len 0 most_locations i l (omega (arith, within, inside, ap length are))
     ∙ (omega arith)
 
--- Writing the next word of ys at i extends the equal prefix of xs and ys to `i + 1`.
+-- If the first i items of xs and ys are equal, both have an item at i, and w is that of ys, then after w is set at i in xs the
+-- first i + 1 are equal.
 pub take-set_next : (xs ys : List ℕ) (i : ℕ) {j : ℕ} (w : ℕ)
     → j ≡ i
     → i < length xs

@@ -10,13 +10,13 @@ use Rattle.lw_tso.proofs.api.Operations.{OperationTransition}
 use Rattle.lw_tso.proofs.EventActs.{ProcessorChange, Stays, Steps, Drains}
 
 module _ (locs : ℕ) (code : List Instr) (thread : IsWellScopedThread x86_language locs code) where
-  -- The instruction at a position of a well-scoped code is well-formed.
+  -- An instruction of a well-scoped code is well-formed.
   pub IsWellFormedStatement-at : (k : ℕ) (i : Instr) → slice_get code k ≡ Some i → IsWellFormedStatement x86_language locs i
   IsWellFormedStatement-at k i at =
       let got : get_or code k i ≡ i = get_or_from_slice_get code k i i at in
       subst (IsWellFormedStatement x86_language locs) got (thread.statements_formed k i (slice_get_within code k i at))
 
-  -- An instruction of a well-scoped code leads only to later positions.
+  -- If j is a successor of the instruction at position k of a well-scoped code, then j is later than k.
   pub IsSuccessor-later : (k j : ℕ) (i : Instr) → slice_get code k ≡ Some i → IsSuccessor (x86_operation i) k j → k < j
   IsSuccessor-later k j i at leads = ⊎_elim (λ on. (omega (arith, on.1))) (λ to. (thread.forward k i at j to).0) leads
 
@@ -36,7 +36,7 @@ stores_from-suc code k i at =
     sum_by-drop_more store_count code k i (slice_get_within code k i at)
     ∙ ap (λ (x : Instr). store_count x + stores_from (k + 1) code) (get_or_from_slice_get code k i i at)
 
--- A code has at most as many stores from a later position on as from an earlier one.
+-- If k ≤ `to`, a code has at most as many stores from `to` on as from k on.
 pub stores_from-antitone : (code : List Instr) (k to : ℕ) → k ≤ to → stores_from to code ≤ stores_from k code
 stores_from-antitone code zero to later = omega (arith, sum_by-take-drop store_count code to)
 stores_from-antitone [] (suc k) zero later = omega arith
@@ -44,7 +44,7 @@ stores_from-antitone [] (suc k) (suc to) later = omega arith
 stores_from-antitone (i ∷ code) (suc k) zero later = absurd (omega arith)
 stores_from-antitone (i ∷ code) (suc k) (suc to) later = stores_from-antitone code k to (omega arith)
 
--- What holds of the one item of a list holds of all.
+-- If P holds of x, it holds of all items of the list with just x.
 All-singleton : {X : Type 0} (P : X → Type 0) (x : X) → P x → All P (x ∷ [])
 All-singleton P x h zero d within = h
 All-singleton P x h (suc k) d within = absurd (omega arith)
@@ -54,14 +54,15 @@ module _ (locs : ℕ) (code : List Instr) (room : ℕ) where
   abbrev HasRoomAhead : Processor → Type 0
   HasRoomAhead p = HasRoom locs code p room
 
-  -- There is still room at a later position, with the same buffer.
+  -- If p has room for all stores ahead, so does q at the same or a later position, with the same buffer.
   HasRoomAhead-later : (p q : Processor) → p.position ≤ q.position → q.buffer ≡ p.buffer → HasRoomAhead p → HasRoomAhead q
   HasRoomAhead-later p q later same has = record {
     fits = omega (arith, has.fits, ap length same, stores_from-antitone code p.position q.position later);
     entries_in_range = subst (All (λ (e : ℕ × ℕ). e.0 < locs)) (sym same) has.entries_in_range;
   }
 
-  -- After a store, which was one of those ahead, there is room for the others.
+  -- If p has room for all stores ahead, its next instruction is a store of an existing location, and q is at a later position
+  -- with the store's entry appended, then q has room for all stores ahead.
   HasRoomAhead-store : (p q : Processor) (entry : ℕ × ℕ) (i : Instr)
       → slice_get code p.position ≡ Some i
       → makes_entry i ≡ true
@@ -82,7 +83,7 @@ module _ (locs : ℕ) (code : List Instr) (room : ℕ) where
             (All-singleton (λ (e : ℕ × ℕ). e.0 < locs) entry there));
       }
 
-  -- After a drain there is still room.
+  -- If p has room for all stores ahead, so does p without its oldest entry.
   HasRoomAhead-drain : (p q : Processor) (entry : ℕ × ℕ) (newer : List (ℕ × ℕ))
       → p.buffer ≡ entry ∷ newer
       → q ≡ record p { buffer = newer }
@@ -93,7 +94,7 @@ module _ (locs : ℕ) (code : List Instr) (room : ℕ) where
     entries_in_range = λ k d within. (subst (All (λ (e : ℕ × ℕ). e.0 < locs)) was has.entries_in_range) (suc k) d (omega arith);
   })
 
-  -- After the instruction at its position the processor still has room.
+  -- If p has room for all stores ahead, and its next instruction leads to q, then q has room for all stores ahead.
   HasRoomAhead-operation : IsWellScopedThread x86_language locs code
       → (p q : Processor) (i : Instr)
       → slice_get code p.position ≡ Some i
@@ -106,7 +107,7 @@ module _ (locs : ℕ) (code : List Instr) (room : ℕ) where
       HasRoomAhead-store p q store.0 i at store.1 later
       ((IsWellFormedStatement-at locs code thread p.position i at).0 store.0.0 store.2) store.3 has) w.buffers
 
--- A processor that has room for all stores ahead still has after an event.
+-- If the code is well-scoped, and p has room for all stores ahead, so does the processor q after an event.
 pub HasRoomAhead-event : {locs room : ℕ} {code : List Instr} {p q : Processor}
     → IsWellScopedThread x86_language locs code
     → ProcessorChange code p q

@@ -26,12 +26,13 @@ pub data EventEffect : Type 0 where
   MemoryAccess : ℕ → Access → (ℕ → Processor) → EventEffect
   Eviction : ℕ → EventEffect  -- The processor's line of a location is evicted.
 
--- The effect of a load: the processor's own newest buffered word (store forwarding), or the memory's if there is none.
+-- The effect of a load of location x: `next` of the processor's newest buffered word for x (store forwarding), or of memory's
+-- word if there is none (`None`).
 abbrev pub load_effect : Option ℕ → ℕ → (ℕ → Processor) → EventEffect
 load_effect (Some w) x next = LocalStep (next w)
 load_effect None x next = MemoryAccess x to.Load next
 
--- Rejects the effect with this cause unless the buffer is empty.
+-- The effect `act`, if the buffer is empty; otherwise a refusal with this cause.
 abbrev pub if_buffer_empty : List (ℕ × ℕ) → Stop → EventEffect → EventEffect
 if_buffer_empty [] stop act = act
 if_buffer_empty (entry ∷ newer) stop act = Refused stop

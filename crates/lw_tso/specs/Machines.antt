@@ -32,12 +32,14 @@ module _ {M : Type 0} (mem : Memory M) where
   abbrev pub over_flat_memory : MachineState M → MachineState (List ℕ)
   over_flat_memory s = record { processors = s.processors; memory = mem.content s.memory }
 
-  -- The result and the effect of an eviction. It is rejected if the processor does not hold the line (the first argument is false).
+  -- The transition of an eviction of location x by processor t, which is p, from the memory m: if t holds the line (the first
+  -- argument), the memory serves it; otherwise it is refused. The processor is unchanged.
   abbrev pub EvictionTransition : Bool → ℕ → ℕ → Processor → M → EventResult → Processor → M → Type 0
   EvictionTransition false t x p m answer q n = (answer ≡ Err NotHeld) × (q ≡ p) × (n ≡ m)
   EvictionTransition true t x p m answer q n = (answer ≡ Ok tt) × (q ≡ p) × mem.serves m (Evict t x) None n
 
-  -- The result of an effect of processor t, which is p, over the memory m, and the two after it.
+  -- The transition of an effect of processor t, which is p, over the memory m: its result, and the processor and the memory
+  -- after it.
   abbrev pub EffectTransition : ℕ → EventEffect → Processor → M → EventResult → Processor → M → Type 0
   EffectTransition t (Refused stop) p m answer q n = (answer ≡ Err stop) × (q ≡ p) × (n ≡ m)
   EffectTransition t (LocalStep next) p m answer q n = (answer ≡ Ok tt) × (q ≡ next) × (n ≡ m)
@@ -45,7 +47,8 @@ module _ {M : Type 0} (mem : Memory M) where
       (a : Option ℕ) × (answer ≡ Ok tt) × (q ≡ next (unwrap_or a 0)) × mem.serves m (Ask t x access) a n
   EffectTransition t (Eviction x) p m answer q n = EvictionTransition (is_held (mem.state m t x)) t x p m answer q n
 
-  -- The result of an event, given its processor, and the state after it. It is rejected if there is no such processor.
+  -- The transition of an event, for its processor, if it exists (`Some`): its result, and the state after it. Without the
+  -- processor (`None`) it is refused, and changes nothing.
   abbrev pub ProcessorTransition : Option Processor → List (List Instr) → Event → MachineState M → EventResult → MachineState M → Type 0
   ProcessorTransition None program e s answer after = (answer ≡ Err NoCpu) × (after ≡ s)
   ProcessorTransition (Some p) program e s answer after =

@@ -8,7 +8,7 @@ use Rattle.lw_base.specs.Limits.{most_threads}
 abbrev pub at_each : {A : Type 0} → (ℕ → A) → List A
 at_each f = map f (range_with_len 0 most_threads)
 
--- The set of processors whose bits are 1 in a number.
+-- The set of processors whose bits are 1 in a number, as a list of truth values by processor.
 abbrev pub cpu_set_of_bits : ℕ → List Bool
 cpu_set_of_bits bits = at_each (λ t. bit_at bits t == 1)
 

@@ -5,13 +5,13 @@ use Rattle.lw_mesi.specs.declared.cache_line.PackedCacheLine.TheInside.{Inside}
 use Rattle.lw_mesi.specs.inner.EachIndex.{at_each, empty_cpu_set, is_owner}
 use Rattle.lw_mesi.specs.CacheLines.{Copy, Modified, Owned, Exclusive, Shared, Invalid, CacheLine}
 
--- The owner's copy, from whether it is dirty, and whether it is in O.
+-- The owner's copy with the line's word, from whether it is dirty (first) and whether it is in O (second).
 abbrev pub owner_copy : Bool → Bool → ℕ → Copy
 owner_copy true false w = Modified w
 owner_copy true true w = Owned w
 owner_copy false o w = Exclusive w
 
--- The copy of a processor that is not the owner, from whether it is a sharer.
+-- The copy, with the line's word, of a processor that is not the owner: in S if it is a sharer, and otherwise invalid.
 abbrev pub sharer_copy : Bool → ℕ → Copy
 sharer_copy true w = Shared w
 sharer_copy false w = Invalid

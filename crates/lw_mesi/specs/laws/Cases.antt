@@ -10,7 +10,7 @@ use Rattle.lw_mesi.specs.Coherence.{IsOnlyCopy, IsDirty, IsCoherentCacheLine}
 use Rattle.lw_mesi.specs.Snooping.{ProtocolTable, is_held_anywhere, copy_from, get_m, cache_line_to_read, cache_line_to_write, cache_line_with_word, cache_line_evicted}
 use Rattle.lw_mesi.specs.laws.Coherent.{copy_in, at_index, copy_in-set_same, copy_in-set_other, copy_in-map, dirty_word_or-if_clean, dirty_word_or-if_dirty, dirty_word_or-set_clean, HasNoOtherCopy, copy_word-none_if_invalid, copy_word-unique, IsCoherentCacheLine-if_single, LineAfterRequest}
 
--- If no cache holds the line, each copy is invalid.
+-- If `is_held_anywhere` is false of a list of copies, each of them is invalid.
 pub copy_in-invalid_if_none_held : (copies : List Copy) → is_held_anywhere copies ≡ false → (t : ℕ) → copy_in copies t ≡ Invalid
 copy_in-invalid_if_none_held [] h t = refl
 copy_in-invalid_if_none_held (Invalid ∷ copies) h zero = refl
@@ -35,7 +35,7 @@ pub record SharesOthers (f : Copy → Copy) (line : CacheLine) : Type 0 where
   pub dirty : (u : ℕ) → IsDirty (f (copy_of line u)) → IsDirty (copy_of line u)
 
 module _ (t : ℕ) (line : CacheLine) (lt : t < most_threads) (sound : IsCoherentCacheLine line) where
-  -- What a write finds: only this processor has a copy, with the coherent word.
+  -- What a write finds in line l: only processor t has a copy, and it has the coherent word of `line`.
   pub record ToWrite (l : CacheLine) : Type 0 where
     pub as_many : length l.copies ≡ most_threads
     pub word : copy_word (copy_of l t) ≡ Some (coherent_word line)
@@ -60,7 +60,7 @@ module _ (t : ℕ) (line : CacheLine) (lt : t < most_threads) (sound : IsCoheren
         others = λ u ne. copy_in-set_other gone t (Modified (coherent_word line)) u ne ∙ copy_in-map (λ c. Invalid) line.copies u refl;
       }
 
-  -- A write to the only copy leaves a coherent line whose coherent word is the written one.
+  -- If only processor t has a copy of l, then l with t's copy in M with the word w is coherent, and its coherent word is w.
   pub LineAfterRequest-after_write : (w : ℕ) (l : CacheLine) → ToWrite l → LineAfterRequest w (cache_line_with_word t w l)
   LineAfterRequest-after_write w l h =
       let copies : List Copy = set l.copies t (Modified w) in
@@ -79,7 +79,7 @@ module _ (t : ℕ) (line : CacheLine) (lt : t < most_threads) (sound : IsCoheren
     pub after : LineAfterRequest (coherent_word line) l
     pub word : copy_word (copy_of l t) ≡ Some (coherent_word line)
 
-  -- A load that hits leaves the line unchanged, and finds the coherent word.
+  -- If processor t has a copy, a load leaves the line as it is: it is coherent, and t's copy has the coherent word.
   pub Loaded-if_hit : (c : Copy) (w : ℕ) → copy_of line t ≡ c → copy_word c ≡ Some w → Loaded line
   Loaded-if_hit c w e h = record {
     after = record { content = refl; sound = sound };
@@ -103,7 +103,7 @@ module _ (t : ℕ) (line : CacheLine) (lt : t < most_threads) (sound : IsCoheren
     no_other_copy : IsOnlyCopy c → (u : ℕ) → f (copy_of line u) ≡ Invalid
     only : (u : ℕ) → IsOnlyCopy (f (copy_of line u)) → IsOnlyCopy (copy_of line u) × (c ≡ Invalid)
 
-  -- Such a line is coherent too, with the same coherent word.
+  -- Such a line is coherent, with the coherent word of `line`.
   LineAfterRequest-if_changes : (f : Copy → Copy) (c : Copy) (copies : List Copy) (m : ℕ)
       → Changes f c copies m
       → LineAfterRequest (coherent_word line) (record { copies = set copies t c; memory = m })
@@ -131,7 +131,9 @@ module _ (t : ℕ) (line : CacheLine) (lt : t < most_threads) (sound : IsCoheren
         };
       }
 
-  -- A load by a GetS, which changes the other copies by f and memory to m, preserves the coherent word, and leaves a copy with it.
+  -- If t has no copy, f shares the others' copies, and the coherent word is the same after f with m in memory, then a GetS
+  -- leaves a coherent line with the same coherent word, in which t has a copy with it: in E (b is `false`) only if no processor
+  -- held the line.
   pub Loaded-after_get_s : (f : Copy → Copy) (m : ℕ)
       → SharesOthers f line → dirty_word_or m (map f line.copies) ≡ coherent_word line → copy_of line t ≡ Invalid
       → (b : Bool) → (b ≡ false → is_held_anywhere line.copies ≡ false)
@@ -157,12 +159,12 @@ module _ (t : ℕ) (line : CacheLine) (lt : t < most_threads) (sound : IsCoheren
         word = ap copy_word (copy_in-set_same (map f line.copies) t (copy_from b v) (omega (arith, long))) ∙ copy_word-copy_from b v;
       }
     where
-      -- If the requestor's copy is in E, nobody else has a copy.
+      -- If t's new copy is in E (b is `false`), every other copy is invalid.
       nobody : (b : Bool) → (b ≡ false → is_held_anywhere line.copies ≡ false) → IsOnlyCopy (copy_from b (coherent_word line)) → (u : ℕ) → f (copy_of line u) ≡ Invalid
       nobody true e own u = absurd own
       nobody false e own u = ap f (copy_in-invalid_if_none_held line.copies (e refl) u) ∙ shared.invalid
 
-  -- Without the own copy the line is coherent too, if the coherent word is the same.
+  -- If the coherent word is the same with t's copy invalidated and m in memory, that line is coherent.
   LineAfterRequest-without_own : (m : ℕ)
       → dirty_word_or m (set line.copies t Invalid) ≡ coherent_word line → LineAfterRequest (coherent_word line) (record { copies = set line.copies t Invalid; memory = m })
   LineAfterRequest-without_own m content = LineAfterRequest-if_changes (λ c. c) Invalid line.copies m (record {
@@ -178,7 +180,8 @@ module _ (t : ℕ) (line : CacheLine) (lt : t < most_threads) (sound : IsCoheren
     only = λ u only. (only, refl);
   })
 
-  -- An eviction of a dirty copy, whose word is written back, leaves a coherent line with the same coherent word.
+  -- If t's copy is dirty with the word w, the line with that copy invalidated and w in memory is coherent, with the same
+  -- coherent word.
   pub LineAfterRequest-if_dirty_copy_evicted : (c : Copy) (w : ℕ) → copy_of line t ≡ c → copy_word c ≡ Some w → IsDirty c
       → LineAfterRequest (coherent_word line) (record { copies = set line.copies t Invalid; memory = w })
   LineAfterRequest-if_dirty_copy_evicted c w e h own =
@@ -189,7 +192,8 @@ module _ (t : ℕ) (line : CacheLine) (lt : t < most_threads) (sound : IsCoheren
       (λ u ne d. ne (sound.one_dirty t u (subst IsDirty (sym e) own) (subst IsDirty (copy_in-set_other line.copies t Invalid u ne) d))) in
       LineAfterRequest-without_own w (dirty_word_or-if_clean w copies none ∙ sound.same_word t w (ap copy_word e ∙ h))
 
-  -- An eviction of a clean copy leaves a coherent line with the same coherent word, and memory unchanged.
+  -- If t's copy is not dirty, the line with that copy invalidated and the same word in memory is coherent, with the same
+  -- coherent word.
   pub LineAfterRequest-if_clean_copy_evicted : (c : Copy) → copy_of line t ≡ c → (IsDirty c → ⊥)
       → LineAfterRequest (coherent_word line) (record { copies = set line.copies t Invalid; memory = line.memory })
   LineAfterRequest-if_clean_copy_evicted c e not = LineAfterRequest-without_own line.memory (dirty_word_or-set_clean line.memory line.copies t Invalid (λ d. not (subst IsDirty e d)) (λ d. d))

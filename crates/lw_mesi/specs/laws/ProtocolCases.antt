@@ -17,7 +17,7 @@ pub IsProtocolState-invalid : (p : Protocol) → IsProtocolState p Invalid
 IsProtocolState-invalid Mesi = tt
 IsProtocolState-invalid Moesi = tt
 
--- Another cache's GetS leaves an invalid copy invalid.
+-- Under each protocol another cache's GetS leaves an invalid copy invalid.
 pub on_other_get_s-invalid : (p : Protocol) → (table_of p).on_other_get_s Invalid ≡ Invalid
 on_other_get_s-invalid Mesi = refl
 on_other_get_s-invalid Moesi = refl
@@ -29,20 +29,20 @@ on_other_get_s-copy Mesi (Modified w) = (refl, (λ h. h), (λ d. absurd d))
 on_other_get_s-copy Moesi (Modified w) = (refl, (λ h. h), (λ d. d))
 on_other_get_s-copy _ _ = (refl, (λ h. h), (λ d. d))
 
--- Under MESI no copy is dirty after another cache's GetS.
+-- Under MESI a copy in a state of the protocol is not dirty after another cache's GetS.
 not-IsDirty-after_get_s : (c : Copy) → IsProtocolState Mesi c → IsDirty (mesi_on_other_get_s c) → ⊥
 not-IsDirty-after_get_s (Owned w) s d = s
 not-IsDirty-after_get_s _ s d = d
 
--- Under MOESI a dirty copy remains dirty after another cache's GetS, with its word, so the coherent word is preserved.
+-- Under MOESI another cache's GetS, done to all copies, preserves the coherent word, since a dirty copy remains dirty.
 dirty_word_or-after_get_s : (m : ℕ) (copies : List Copy) → dirty_word_or m (map moesi_on_other_get_s copies) ≡ dirty_word_or m copies
 dirty_word_or-after_get_s m (Exclusive w ∷ copies) = dirty_word_or-after_get_s m copies
 dirty_word_or-after_get_s m (Shared w ∷ copies) = dirty_word_or-after_get_s m copies
 dirty_word_or-after_get_s m (Invalid ∷ copies) = dirty_word_or-after_get_s m copies
 dirty_word_or-after_get_s m _ = refl
 
--- Another cache's GetS, done to every copy and to memory, preserves the coherent word, by each protocol. The requestor's new copy is put after
--- it (`Loaded-after_get_s`).
+-- If the copies are in states of the protocol, another cache's GetS, done to every copy and to memory, preserves the coherent
+-- word. The requestor's new copy is put after it (`Loaded-after_get_s`).
 coherent_word-after_get_s : (p : Protocol) (line : CacheLine) → HasProtocolStates p line
     → dirty_word_or ((table_of p).memory_after_get_s line) (map (table_of p).on_other_get_s line.copies) ≡ coherent_word line
 coherent_word-after_get_s Mesi line states =
@@ -93,18 +93,18 @@ IsProtocolState-modified : (p : Protocol) (w : ℕ) → IsProtocolState p (Modif
 IsProtocolState-modified Mesi w = tt
 IsProtocolState-modified Moesi w = tt
 
--- Each protocol has the states S and E, in which a load brings a copy.
+-- Each protocol has the states S (b is `true`) and E, in which a load brings a copy.
 IsProtocolState-copy_from : (p : Protocol) (b : Bool) (w : ℕ) → IsProtocolState p (copy_from b w)
 IsProtocolState-copy_from Mesi true w = tt
 IsProtocolState-copy_from Mesi false w = tt
 IsProtocolState-copy_from Moesi b w = tt
 
--- A copy after another cache's GetS is in a state of the protocol.
+-- If a copy is in a state of the protocol, it is so after another cache's GetS.
 IsProtocolState-after_get_s : (p : Protocol) (c : Copy) → IsProtocolState p c → IsProtocolState p ((table_of p).on_other_get_s c)
 IsProtocolState-after_get_s Mesi (Owned w) s = s
 IsProtocolState-after_get_s _ _ s = tt
 
--- Writing a copy in a state of the protocol preserves that all copies are in such states.
+-- If all copies, and c, are in states of the protocol, so are all after c is set at t.
 IsProtocolState-set : (p : Protocol) (copies : List Copy) (t : ℕ) (c : Copy)
     → IsProtocolState p c → ((u : ℕ) → IsProtocolState p (copy_in copies u)) → (u : ℕ) → IsProtocolState p (copy_in (set copies t c) u)
 IsProtocolState-set p [] t c here there u = there u
@@ -113,14 +113,14 @@ IsProtocolState-set p (k ∷ copies) zero c here there (suc u) = there (suc u)
 IsProtocolState-set p (k ∷ copies) (suc t) c here there zero = there zero
 IsProtocolState-set p (k ∷ copies) (suc t) c here there (suc u) = IsProtocolState-set p copies t c here (λ u. there (suc u)) u
 
--- A function that preserves the states of the protocol preserves that all copies are in such states.
+-- If f preserves states of the protocol, and an invalid copy, and all copies are in such states, so are all after f.
 IsProtocolState-map : (p : Protocol) (f : Copy → Copy) (copies : List Copy)
     → f Invalid ≡ Invalid → ((c : Copy) → IsProtocolState p c → IsProtocolState p (f c)) → ((u : ℕ) → IsProtocolState p (copy_in copies u))
     → (u : ℕ) → IsProtocolState p (copy_in (map f copies) u)
 IsProtocolState-map p f copies invalid preserves states u = subst (IsProtocolState p) (sym (copy_in-map f copies u invalid)) (preserves (copy_in copies u) (states u))
 
 module _ (p : Protocol) (line : CacheLine) (states : HasProtocolStates p line) where
-  -- A load preserves that all copies are in states of the protocol.
+  -- After a load, by the copy c, all copies are in states of the protocol, since they were before.
   HasProtocolStates-on_load : (c : Copy) (t : ℕ) → HasProtocolStates p (on_load (table_of p) c t line)
   HasProtocolStates-on_load Invalid t =
       IsProtocolState-set p (map (table_of p).on_other_get_s line.copies) t (copy_from (is_held_anywhere line.copies) (coherent_word line))
@@ -128,19 +128,19 @@ module _ (p : Protocol) (line : CacheLine) (states : HasProtocolStates p line) w
       (IsProtocolState-map p (table_of p).on_other_get_s line.copies (on_other_get_s-invalid p) (IsProtocolState-after_get_s p) states)
   HasProtocolStates-on_load _ t = states
 
-  -- A GetM preserves that all copies are in states of the protocol.
+  -- After a GetM all copies are in states of the protocol, since they were before.
   HasProtocolStates-get_m : (t : ℕ) → HasProtocolStates p (get_m t line)
   HasProtocolStates-get_m t =
       IsProtocolState-set p (map (λ c. Invalid) line.copies) t (Modified (coherent_word line)) (IsProtocolState-modified p (coherent_word line))
       (IsProtocolState-map p (λ c. Invalid) line.copies refl (λ c s. IsProtocolState-invalid p) states)
 
-  -- A write preserves that all copies are in states of the protocol.
+  -- After a write, by the copy c, all copies are in states of the protocol, since they were before.
   HasProtocolStates-on_write : (c : Copy) (t : ℕ) → HasProtocolStates p (on_write c t line)
   HasProtocolStates-on_write (Modified w) t = states
   HasProtocolStates-on_write (Exclusive w) t = states
   HasProtocolStates-on_write _ t = HasProtocolStates-get_m t
 
-  -- An eviction preserves that all copies are in states of the protocol.
+  -- After an eviction, by the copy c, all copies are in states of the protocol, since they were before.
   HasProtocolStates-on_evict : (c : Copy) (t : ℕ) → HasProtocolStates p (on_evict c t line)
   HasProtocolStates-on_evict Invalid t = states
   HasProtocolStates-on_evict _ t = IsProtocolState-set p line.copies t Invalid (IsProtocolState-invalid p) states

@@ -18,13 +18,13 @@ use Rattle.lw_mesi.specs.laws.Coherent.{at_index, LineAfterRequest}
 use Rattle.lw_mesi.specs.laws.Cases.{LineAfterRequest-after_write}
 use Rattle.lw_mesi.specs.laws.ProtocolCases.{PreservesCoherentLine-of_table, HasProtocolStates-after_load, HasProtocolStates-after_write, HasProtocolStates-after_eviction}
 
--- Replacing a line replaces its coherent word in the list of coherent words.
+-- Replacing the line of location x replaces the coherent word of x, and no other.
 coherent_words-set : (cache_lines : List CacheLine) (x : ℕ) (line : CacheLine)
     → map coherent_word (set cache_lines x line) ≡ slice_set (map coherent_word cache_lines) x (coherent_word line)
 coherent_words-set (l ∷ cache_lines) (suc x) line = ap (λ r. coherent_word l ∷ r) (coherent_words-set cache_lines x line)
 coherent_words-set _ _ line = refl
 
--- Replacing a line by one with the same coherent word preserves the list of coherent words.
+-- If a line has the coherent word of the line of location x, replacing this line by it preserves all coherent words.
 coherent_words-set_same_word : (cache_lines : List CacheLine) (x : ℕ) (line : CacheLine)
     → coherent_word line ≡ coherent_word (cache_line_at cache_lines x) → map coherent_word (set cache_lines x line) ≡ map coherent_word cache_lines
 coherent_words-set_same_word [] x line e = refl
@@ -36,7 +36,7 @@ coherent_word-at_location : (cache_lines : List CacheLine) (x : ℕ) → coheren
 coherent_word-at_location (l ∷ cache_lines) (suc x) = coherent_word-at_location cache_lines x
 coherent_word-at_location _ _ = refl
 
--- Replacing a line by one that satisfies the protocol preserves that the caches do.
+-- If caches and a line satisfy a protocol, so do the caches with that line in place of the one of location x.
 pub SatisfiesProtocol-set : (p : Protocol) (m : Caches) (x : ℕ) (line : CacheLine)
     → SatisfiesProtocol p m → x < length m.cache_lines → LineSatisfiesProtocol p line → SatisfiesProtocol p (record { cpus = m.cpus; cache_lines = set m.cache_lines x line })
 SatisfiesProtocol-set p m x line ok lt s =
@@ -53,7 +53,7 @@ SatisfiesProtocol-set p m x line ok lt s =
       states = each (HasProtocolStates p) s.states ok.states;
     }
 
--- Each line of caches that satisfy a protocol satisfies it.
+-- If caches satisfy a protocol, so does the line of each location x in range.
 pub LineSatisfiesProtocol-at_location : (p : Protocol) (m : Caches) (x : ℕ) → SatisfiesProtocol p m → x < length m.cache_lines → LineSatisfiesProtocol p (cache_line_at m.cache_lines x)
 LineSatisfiesProtocol-at_location p m x ok lt = record { coherent = ok.coherent.cache_lines x lt; states = ok.states x lt }
 
@@ -103,7 +103,7 @@ module _ (p : Protocol) (m : Caches) (ok : SatisfiesProtocol p m) where
     abbrev line : CacheLine
     line = cache_line_at m.cache_lines x
 
-    -- The processor is one of the most that there may be.
+    -- The processor's index is below `most_threads`.
     lt : t < most_threads
     lt = omega (arith, ok.coherent.bounded, cpu)
 
@@ -127,7 +127,7 @@ module _ (p : Protocol) (m : Caches) (ok : SatisfiesProtocol p m) where
     old_word : copy_word (copy_of (cache_line_to_write t line) t) ≡ Some (slice_index (map coherent_word m.cache_lines) x)
     old_word = copy_word-to_write p t line lt line_satisfies ∙ ap Some (coherent_word-at_location m.cache_lines x)
 
-  -- Each enabled request is served as a lawful memory serves it.
+  -- An enabled request of a processor and for a location that exist is served as a lawful memory serves it.
   RequestEffect-of_request : (r : Request) → IsInRange m.cpus (length m.cache_lines) r → IsEnabled (line_state m) r → IsServed r
   RequestEffect-of_request (Ask t x Load) (cpu, loc) possible = record {
     possible = tt;

@@ -20,7 +20,7 @@ record ActDid (t : ℕ) (act : EventEffect) (p : Processor) (m : List ℕ) : Typ
   words : List ℕ
   done : EffectTransition flat_memory t act p m answer to words
 
--- Over flat memory an effect has a unique result, processor and memory.
+-- Over flat memory two results of the same effect are the same, and so are the processors and the words after it.
 effect-deterministic : (t : ℕ) (act : EventEffect) (p : Processor) (m : List ℕ) (x y : ActDid t act p m)
     → (x.answer ≡ y.answer) × (x.to ≡ y.to) × (x.words ≡ y.words)
 effect-deterministic t (MemoryAccess l access next) p m x y =
@@ -32,7 +32,7 @@ effect-deterministic t _ p m x y =
     let e = y.done in
     (d.0 ∙ sym e.0, d.1 ∙ sym e.1, d.2 ∙ sym e.2)
 
--- The flat machine is deterministic: an event has a unique result and next state.
+-- If an event leads the flat machine from s to two states with two results, the results are the same, and so are the states.
 pub MachineTransition-deterministic : (program : List (List Instr)) (e : Event) (s after other : MachineState (List ℕ))
     (a b : EventResult)
     → MachineTransition flat_memory program e s a after
@@ -40,6 +40,7 @@ pub MachineTransition-deterministic : (program : List (List Instr)) (e : Event) 
     → (a ≡ b) × (after ≡ other)
 MachineTransition-deterministic program e s after other a b = go (slice_get s.processors (cpu_of e))
   where
+    -- By the processor, if it exists.
     go : (o : Option Processor)
         → ProcessorTransition flat_memory o program e s a after
         → ProcessorTransition flat_memory o program e s b other
@@ -69,7 +70,7 @@ Leaves (Some end) q n = (q ≡ end.0) × (n ≡ end.1)
 abbrev pub EffectLeadsTo : List ℕ → EventEffect → Processor → List ℕ → Type 0
 EffectLeadsTo m act q n = Leaves (act_after act m) q n
 
--- An enabled effect succeeds.
+-- If an effect over m leads to q and n, its transition over flat memory is a success with q and n.
 pub EffectTransition-if_enabled : (t : ℕ) (act : EventEffect) (p q : Processor) (m n : List ℕ)
     → EffectLeadsTo m act q n
     → EffectTransition flat_memory t act p m (Ok tt) q n
@@ -77,7 +78,7 @@ EffectTransition-if_enabled t (LocalStep next) p q m n d = (refl, d.0, d.1)
 EffectTransition-if_enabled t (MemoryAccess x access next) p q m n d = (value_returned m x access, refl, d.0, (refl, d.1))
 EffectTransition-if_enabled t _ p q m n d = absurd d
 
--- An effect that succeeds is enabled, and leads to the processor and the words of `EffectLeadsTo`.
+-- If the transition of an effect over flat memory is a success with q and n, the effect over m leads to q and n.
 pub EffectLeadsTo-if_done : (t : ℕ) (act : EventEffect) (p q : Processor) (m n : List ℕ)
     → EffectTransition flat_memory t act p m (Ok tt) q n
     → EffectLeadsTo m act q n
@@ -85,20 +86,20 @@ EffectLeadsTo-if_done t (LocalStep next) p q m n d = (d.1, d.2)
 EffectLeadsTo-if_done t (MemoryAccess x access next) p q m n d = (d.2 ∙ ap (λ w. next (unwrap_or w 0)) d.3.0, d.3.1)
 EffectLeadsTo-if_done t _ p q m n d = absurd (let e = d.0 in cc)
 
--- Over flat memory no eviction is enabled.
+-- Over flat memory the effect of an eviction leads to no state, whether the location exists (`there`) or not.
 not-EffectLeadsTo-eviction : (m : List ℕ) (x : ℕ) (q : Processor) (n : List ℕ) (there : Bool)
     → EffectLeadsTo m (if there then Eviction x else Refused NoLocation) q n
     → ⊥
 not-EffectLeadsTo-eviction m x q n true d = d
 not-EffectLeadsTo-eviction m x q n false d = d
 
--- On the flat machine no eviction is enabled: no cache holds a line.
+-- On the flat machine an eviction event leads to no state: no cache holds a line.
 pub not-EffectLeadsTo-evict_event : (program : List (List Instr)) (locs t x : ℕ) (p q : Processor) (m n : List ℕ)
     → EffectLeadsTo m (event_effect program locs (Evict t x) p) q n
     → ⊥
 not-EffectLeadsTo-evict_event program locs t x p q m n d = not-EffectLeadsTo-eviction m x q n (nat_lt x locs) d
 
--- An event of a run: its processor before and after it, and the words of memory after it.
+-- An enabled event of a run: its processor before and after it, and the words of memory after it. No other processor changes.
 pub record EventOccurrence (program : List (List Instr)) (e : Event) (s mid : MachineState (List ℕ)) : Type 0 where
   pub from : Processor
   pub to : Processor
@@ -108,7 +109,8 @@ pub record EventOccurrence (program : List (List Instr)) (e : Event) (s mid : Ma
   pub state_is : mid ≡ state (slice_set s.processors (cpu_of e) to) words
 
 module _ (program : List (List Instr)) where
-  -- The effect of an event is that of the event in the whole machine.
+  -- If processor p exists and the effect of an event leads it to q and the words m to n, the flat machine makes the transition
+  -- of this event.
   pub MachineTransition-of_effect : (e : Event) (processors : List Processor) (p q : Processor) (m n : List ℕ)
       → slice_get processors (cpu_of e) ≡ Some p
       → EffectLeadsTo m (event_effect program (length m) e p) q n
@@ -118,12 +120,13 @@ module _ (program : List (List Instr)) where
       ProcessorTransition flat_memory o program e (state processors m) (Ok tt) (state (slice_set processors (cpu_of e) q) n))
       (sym was) (q, n, EffectTransition-if_enabled (cpu_of e) (event_effect program (length m) e p) p q m n d, refl)
 
-  -- An event that succeeds is an effect of its processor, and changes no other.
+  -- If an event leads the flat machine from s to mid, it is an effect of its processor, and changes no other.
   pub EventOccurrence-of_event : (e : Event) (s mid : MachineState (List ℕ))
       → MachineTransition flat_memory program e s (Ok tt) mid
       → EventOccurrence program e s mid
   EventOccurrence-of_event e s mid done = go (slice_get s.processors (cpu_of e)) refl done
     where
+      -- By the processor, which exists, since the event is enabled.
       go : (o : Option Processor)
           → slice_get s.processors (cpu_of e) ≡ o
           → ProcessorTransition flat_memory o program e s (Ok tt) mid

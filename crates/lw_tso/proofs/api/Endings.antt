@@ -21,25 +21,25 @@ use Rattle.lw_tso.proofs.api.FlatSimulation.{IsWithin-effect, IsWithin-reached}
 use Rattle.lw_tso.proofs.api.Operations.{EffectSatisfies, EffectSatisfies-operation}
 use Rattle.lw_memory.specs.declared.request.Request.TheVariants as request
 
--- Two lists of events without evictions are without evictions when concatenated.
+-- A concatenation without its evictions is the concatenation of the two lists without theirs.
 without_evictions-append : (es fs : List Event) → without_evictions (es ++ fs) ≡ without_evictions es ++ without_evictions fs
 without_evictions-append [] fs = refl
 without_evictions-append (Step t ∷ es) fs = ap (λ l. Step t ∷ l) (without_evictions-append es fs)
 without_evictions-append (Drain t ∷ es) fs = ap (λ l. Drain t ∷ l) (without_evictions-append es fs)
 without_evictions-append (Evict t x ∷ es) fs = without_evictions-append es fs
 
--- If two tests pass, both pass.
+-- If a and b are true, so is `a && b`.
 and-both_true : {a b : Bool} → a ≡ true → b ≡ true → (a && b) ≡ true
 and-both_true e f = rw (e, f) refl
 
--- A processor past the end of its code, with an empty buffer, is done.
+-- If a processor is past the end of its code, and its buffer is empty, it has terminated.
 has_terminated-past_end : (code : List Instr) (p : Processor)
     → length code ≤ p.position
     → p.buffer ≡ []
     → has_terminated code p ≡ true
 has_terminated-past_end code p past empty = and-both_true (le-leb _ p.position past) (ap (λ b. length b == 0) empty)
 
--- The test for all processors passes if each processor is done.
+-- If each processor has terminated, with its thread's code, the test for all processors passes.
 is_final-each_terminated : (codes : List (List Instr)) (ps : List Processor)
     → ((t : ℕ) (p : Processor) → slice_get ps t ≡ Some p → has_terminated (thread_code codes t) p ≡ true)
     → list_all (λ p. has_terminated p.0 p.1) (zip codes ps) ≡ true
@@ -48,11 +48,12 @@ is_final-each_terminated (code ∷ codes) (p ∷ ps) each =
 is_final-each_terminated _ _ each = refl
 
 module _ {M : Type 0} (mem : Memory M) (inv : Invariant M) (laws : IsLawful mem inv) where
-  -- The effect can be carried out, and leads to a processor that satisfies `Makes`.
+  -- The effect `act` of processor t, which is p, can be carried out over m, and leads to a processor that satisfies `Makes`.
   abbrev IsPossible : ℕ → EventEffect → Processor → M → (Processor → Type 0) → Type 0
   IsPossible t act p m Makes = (q : Processor) × (n : M) × EffectTransition mem t act p m (Ok tt) q n × Makes q
 
-  -- What is not refused, and requests locations that exist, can be done.
+  -- If the memory's invariant holds, processor t exists, and the effect can't be refused, accesses only existing locations and
+  -- makes processors of `Makes` (`EffectSatisfies`), then it can be carried out.
   IsPossible-if_satisfied : (t : ℕ) (act : EventEffect) (p : Processor) (m : M) (Makes : Processor → Type 0)
       → inv.sound m
       → t < inv.cpus m
@@ -69,7 +70,7 @@ module _ {M : Type 0} (mem : Memory M) (inv : Invariant M) (laws : IsLawful mem 
     abbrev IsWithinInvariant : MachineState M → Type 0
     IsWithinInvariant s = IsWithin mem inv laws program locs threads s
 
-    -- One processor reaches its end in at most k events of its own.
+    -- Processor t can reach its end from s in at most k events of its own, which change no other processor.
     record ProcessorFinishes (t k : ℕ) (s : MachineState M) : Type 0 where
       events : List Event
       end : MachineState M
@@ -81,7 +82,7 @@ module _ {M : Type 0} (mem : Memory M) (inv : Invariant M) (laws : IsLawful mem 
       none : (u : ℕ) → u ≢ t → event_count u events ≡ 0
       kept : without_evictions events ≡ events
 
-    -- A processor past the end of its code, with an empty buffer, has reached its end without an event.
+    -- If processor t is past the end of its code with an empty buffer, it reaches its end without an event.
     ProcessorFinishes-terminated : (t k : ℕ) (s : MachineState M) (p : Processor)
         → IsWithinInvariant s
         → slice_get s.processors t ≡ Some p
@@ -102,7 +103,8 @@ module _ {M : Type 0} (mem : Memory M) (inv : Invariant M) (laws : IsLawful mem 
       kept = refl;
     }
 
-    -- One event, and then the others.
+    -- If an event of processor t leads from s to states from which t can reach its end in k events, t can reach its end from s
+    -- in k + 1.
     ProcessorFinishes-after_event : (e : Event) (s : MachineState M) (p q : Processor) (n : M) (k : ℕ)
         → IsWithinInvariant s
         → slice_get s.processors (cpu_of e) ≡ Some p
@@ -132,7 +134,7 @@ module _ {M : Type 0} (mem : Memory M) (inv : Invariant M) (laws : IsLawful mem 
           kept = keeps f.events ∙ ap (λ l. e ∷ l) f.kept;
         }
 
-    -- The next instruction of a processor with an empty buffer leads forward.
+    -- If processor t has an empty buffer and a next instruction, its step can be carried out, and leads to a later position.
     IsPossible-step : (t : ℕ) (s : MachineState M) (p : Processor)
         → IsWithinInvariant s
         → slice_get s.processors t ≡ Some p
@@ -153,7 +155,7 @@ module _ {M : Type 0} (mem : Memory M) (inv : Invariant M) (laws : IsLawful mem 
         subst (λ o. IsPossible t (step_effect o p) p s.memory (λ q. p.position < q.position)) (sym next)
         (IsPossible-if_satisfied t (operation_effect (x86_operation i) p) p s.memory _ within.sound cpu comes)
 
-    -- If the buffer has an entry, it can be drained, and the newer entries are left.
+    -- If the buffer of processor t has an entry, the drain of the oldest can be carried out, and leaves the newer ones.
     IsPossible-drain : (t : ℕ) (s : MachineState M) (p : Processor) (entry : ℕ × ℕ) (newer : List (ℕ × ℕ))
         → IsWithinInvariant s
         → slice_get s.processors t ≡ Some p
@@ -167,7 +169,8 @@ module _ {M : Type 0} (mem : Memory M) (inv : Invariant M) (laws : IsLawful mem 
         EffectSatisfies ⊥ (λ x written. x < length (mem.content s.memory)) (λ q. q ≡ record p { buffer = newer })
         (drain_effect b p)) (sym full) (lt, λ none. refl))
 
-    -- With at most r steps ahead, and k events.
+    -- If processor t, with the buffer b, is at most r positions before its end, and r and the entries and stores ahead are
+    -- together at most k, then it can reach its end in k events. By induction on k and r.
     ProcessorFinishes-any : (t k r : ℕ) (s : MachineState M) (p : Processor) (b : List (ℕ × ℕ))
         → IsWithinInvariant s
         → slice_get s.processors t ≡ Some p
@@ -189,6 +192,8 @@ module _ {M : Type 0} (mem : Memory M) (inv : Invariant M) (laws : IsLawful mem 
         (λ past. ProcessorFinishes-terminated t (suc k) s p within at past is)
         (cases_lt p.position (length (thread_code program t)))
       where
+        -- The processor with an empty buffer has a next instruction: its step leads to a later position, and the rest follows
+        -- by induction.
         go : p.position < length (thread_code program t)
             → ((mid : MachineState M) (q : Processor)
             → IsWithinInvariant mid
@@ -208,7 +213,8 @@ module _ {M : Type 0} (mem : Memory M) (inv : Invariant M) (laws : IsLawful mem 
             ProcessorFinishes-after_event (Step t) s p g.0 g.1 k within at g.2 (λ es. refl)
             (λ mid w got. later mid g.0 w got (omega (arith, ahead, g.3)) (omega (arith, small, has.fits)))
 
-    -- The first k processors have reached their ends.
+    -- The first k processors can reach their ends from s, each in at most twice as many events as its code has instructions,
+    -- and no other processor has an event.
     record FirstProcessorsFinish (k : ℕ) (s : MachineState M) : Type 0 where
       events : List Event
       end : MachineState M
@@ -226,7 +232,8 @@ module _ {M : Type 0} (mem : Memory M) (inv : Invariant M) (laws : IsLawful mem 
     event_count-append : (u : ℕ) (es fs : List Event) → event_count u (es ++ fs) ≡ event_count u es + event_count u fs
     event_count-append u es fs = sum_by-append (λ (d : Event). cond (cpu_of d == u) 1 0) es fs
 
-    -- If the first k processors have reached their ends, and processor k then reaches its own, the first k + 1 have.
+    -- If the first k processors can reach their ends from s, and processor k can then reach its own, the first k + 1 can reach
+    -- theirs.
     FirstProcessorsFinish-suc : (k : ℕ) (s : MachineState M) (a : FirstProcessorsFinish k s)
         → ProcessorFinishes k (2 * length (thread_code program k)) a.end
         → FirstProcessorsFinish (suc k) s
@@ -248,6 +255,7 @@ module _ {M : Type 0} (mem : Memory M) (inv : Invariant M) (laws : IsLawful mem 
       kept = without_evictions-append a.events f.events ∙ ap₂ (λ x y. x ++ y) a.kept f.kept;
     }
       where
+        -- Processor k has few events in both parts: none in the first.
         few_events_own : event_count k (a.events ++ f.events) ≤ 2 * length (thread_code program k)
         few_events_own = omega (
           arith,
@@ -257,9 +265,11 @@ module _ {M : Type 0} (mem : Memory M) (inv : Invariant M) (laws : IsLawful mem 
           f.within_bound,
         )
 
+        -- Every other processor has few events in both parts: none in the second.
         few_events_others : (t : ℕ) → t ≢ k → event_count t (a.events ++ f.events) ≤ 2 * length (thread_code program t)
         few_events_others t ne = omega (arith, event_count-append t a.events f.events, a.within_bound t, f.none t ne)
 
+        -- A processor after k has no event in either part.
         no_events_later : (t : ℕ) → suc k ≤ t → event_count t (a.events ++ f.events) ≡ 0
         no_events_later t le =
             let ne : t ≢ k = omega arith in
@@ -295,9 +305,11 @@ module _ {M : Type 0} (mem : Memory M) (inv : Invariant M) (laws : IsLawful mem 
     }
     FirstProcessorsFinish-any (suc k) s within = FirstProcessorsFinish-next (FirstProcessorsFinish-any k s within)
       where
+        -- If the first k processors can reach their ends, so can the first k + 1.
         FirstProcessorsFinish-next : FirstProcessorsFinish k s → FirstProcessorsFinish (suc k) s
         FirstProcessorsFinish-next a = FirstProcessorsFinish-suc k s a (go (slice_get a.end.processors k) refl)
           where
+            -- By whether processor k exists.
             go : (o : Option Processor)
                 → slice_get a.end.processors k ≡ o
                 → ProcessorFinishes k (2 * length (thread_code program k)) a.end
@@ -308,7 +320,7 @@ module _ {M : Type 0} (mem : Memory M) (inv : Invariant M) (laws : IsLawful mem 
                 ProcessorFinishes-any k (2 * length code) (length code) a.end p p.buffer a.in_invariant at refl (omega arith)
                 (omega (arith, (a.in_invariant.rooms k p at).fits, most))
 
-    -- Each state that runs reach can be extended to an end.
+    -- From each state that satisfies the invariant, further events lead to a final state.
     CanTerminate-in_invariant : (s : MachineState M) → IsWithinInvariant s → CanTerminate mem program s
     CanTerminate-in_invariant s within =
         let a = FirstProcessorsFinish-any (length program) s within in
@@ -317,7 +329,7 @@ module _ {M : Type 0} (mem : Memory M) (inv : Invariant M) (laws : IsLawful mem 
         (λ t p got. a.done t p (omega (arith, slice_get_within a.end.processors t p got, a.in_invariant.as_many)) got) in
         record { more = a.events; end = a.end; ran = a.ran; final = all; bounded = a.within_bound; no_evictions = a.kept }
 
-  -- Every run of a well-scoped test can be brought to a final state.
+  -- From each state that a run of a well-scoped test reaches, over a lawful memory, further events lead to a final state.
   pub CanTerminate-reached : (test : X86Test)
       → IsWellScopedProgram test
       → (m : M) (es : List Event) (s : MachineState M)

@@ -6,7 +6,7 @@ use Rattle.lw_tso.proofs.Common.{slice_get, same_Some, sum_by-cons, Instr, Mfenc
 use Rattle.lw_tso.proofs.Common.{HasInsertedFencesInCode, unmarked_count_before, unmarked_instructions}
 use Rattle.lw_tso.proofs.Common.{code_without, MarksAreFences, not}
 
--- Before index 0 there is no unmarked instruction.
+-- No instruction is before index 0, so no unmarked one is.
 pub unmarked_count_before-zero : (marks : List Bool) → unmarked_count_before marks 0 ≡ 0
 unmarked_count_before-zero [] = refl
 unmarked_count_before-zero (mark ∷ marks) = refl
@@ -17,7 +17,7 @@ pub unmarked_count_before-cons : (mark : Bool) (marks : List Bool) (index : ℕ)
     → unmarked_count_before (mark ∷ marks) (suc index) ≡ cond (not mark) 1 0 + unmarked_count_before marks index
 unmarked_count_before-cons mark marks index = sum_by-cons (λ (m : Bool). cond (not m) 1 0) mark (take index marks)
 
--- The unmarked instructions of a concatenation are those of its parts, concatenated.
+-- If only MFENCEs of `code` are marked, the unmarked instructions of a concatenation are those of its parts, concatenated.
 pub unmarked_instructions-append : (marks others : List Bool) (code more : List Instr)
     → MarksAreFences marks code
     → unmarked_instructions (marks ++ others) (code ++ more)
@@ -42,27 +42,31 @@ MarksAreFences-append (false ∷ marks) others (i ∷ code) more fences rest =
 MarksAreFences-append _ others _ more fences rest = absurd fences
 
 module _ (lead : Instr → Instr) where
-  -- The instruction at an index is marked, or is the next unmarked one.
+  -- The instruction i at this index is an MFENCE, and no unmarked instruction is counted there; or it is, retargeted, the
+  -- unmarked instruction whose number is the count before the index, and is counted there.
   abbrev IsEither : List Bool → List Instr → ℕ → Instr → Type 0
   IsEither marks code index i =
       ((i ≡ Mfence) × (unmarked_count_before marks (index + 1) ≡ unmarked_count_before marks index))
       ⊎ ((slice_get (map lead (unmarked_instructions marks code)) (unmarked_count_before marks index) ≡ Some (lead i))
       × (unmarked_count_before marks (index + 1) ≡ unmarked_count_before marks index + 1))
 
-  -- If the claim holds of a code at an index, it holds at the next one after a marked instruction is put before the code.
+  -- If the claim holds of a code at an index, it holds at the next index after a marked instruction is put before the code.
   IsEither-cons_marked : (marks : List Bool) (code : List Instr) (j i : Instr) (index : ℕ)
       → IsEither marks code index i
       → IsEither (true ∷ marks) (j ∷ code) (suc index) i
   IsEither-cons_marked marks code j i index = go
     where
+      -- The number of unmarked instructions before the index after the next is that before the next one in the shorter code.
       count_after_next : unmarked_count_before (true ∷ marks) (suc index + 1) ≡ unmarked_count_before marks (index + 1)
       count_after_next =
           let further : suc index + 1 ≡ suc (index + 1) = omega arith in
           ap (unmarked_count_before (true ∷ marks)) further ∙ unmarked_count_before-cons true marks (index + 1) ∙ omega arith
 
+      -- The number of unmarked instructions before the next index is that before the index in the shorter code.
       count_here : unmarked_count_before (true ∷ marks) (suc index) ≡ unmarked_count_before marks index
       count_here = unmarked_count_before-cons true marks index ∙ omega arith
 
+      -- By whether the instruction at the index is marked.
       go : IsEither marks code index i → IsEither (true ∷ marks) (j ∷ code) (suc index) i
       go (inl out) = inl (out.0, count_after_next ∙ out.1 ∙ sym count_here)
       go (inr stays) = inr (
@@ -70,20 +74,24 @@ module _ (lead : Instr → Instr) where
         omega (arith, count_after_next, count_here, stays.1),
       )
 
-  -- If the claim holds of a code at an index, it holds at the next one after an unmarked instruction is put before the code.
+  -- If the claim holds of a code at an index, it holds at the next index after an unmarked instruction is put before the code.
   IsEither-cons_kept : (marks : List Bool) (code : List Instr) (j i : Instr) (index : ℕ)
       → IsEither marks code index i
       → IsEither (false ∷ marks) (j ∷ code) (suc index) i
   IsEither-cons_kept marks code j i index = go
     where
+      -- The number of unmarked instructions before the index after the next is one more than that before the next one in the
+      -- shorter code.
       count_after_next : unmarked_count_before (false ∷ marks) (suc index + 1) ≡ suc (unmarked_count_before marks (index + 1))
       count_after_next =
           let further : suc index + 1 ≡ suc (index + 1) = omega arith in
           ap (unmarked_count_before (false ∷ marks)) further ∙ unmarked_count_before-cons false marks (index + 1) ∙ omega arith
 
+      -- The number of unmarked instructions before the next index is one more than that before the index in the shorter code.
       count_here : unmarked_count_before (false ∷ marks) (suc index) ≡ suc (unmarked_count_before marks index)
       count_here = unmarked_count_before-cons false marks index ∙ omega arith
 
+      -- By whether the instruction at the index is marked.
       go : IsEither marks code index i → IsEither (false ∷ marks) (j ∷ code) (suc index) i
       go (inl out) = inl (out.0, count_after_next ∙ ap suc out.1 ∙ sym count_here)
       go (inr stays) = inr (
@@ -112,7 +120,8 @@ module _ (lead : Instr → Instr) where
       IsEither-cons_kept marks code j i index (IsEither-at_each marks code fences index i at)
   IsEither-at_each _ _ fences index i at = absurd fences
 
-  -- Past the end of the code, the number of unmarked instructions is the length of their list.
+  -- If only MFENCEs are marked, and an index is past the end of the code, the number of unmarked instructions before it is that
+  -- of all.
   unmarked_count_before-end : (marks : List Bool) (code : List Instr)
       → MarksAreFences marks code
       → (index : ℕ)
@@ -134,7 +143,7 @@ module _ (lead : Instr → Instr) where
   )
   unmarked_count_before-end _ _ fences index past = absurd fences
 
--- A code is what is left of it, with the marked MFENCEs inserted.
+-- If only MFENCEs of a code are marked, the code is what is left without them, with these MFENCEs inserted.
 pub HasInsertedFencesInCode-code_without : (marks : List Bool) (code : List Instr)
     → MarksAreFences marks code
     → HasInsertedFencesInCode (code_without marks code) code

@@ -14,15 +14,16 @@ use Rattle.lw_tso.proofs.Common.{load_effect, if_buffer_empty, MachineState, Mac
 use Rattle.lw_tso.proofs.Common.{IsMachineOutcome, initial_machine_state, has_terminated, is_final}
 use Rattle.lw_tso.proofs.Common.{set_zero_flag, enqueue_store, retarget_to_blocks, IsInserted, EndsBlock}
 use Rattle.lw_tso.proofs.Common.{HasInsertedFencesInCode, HasInsertedFences, slice_get-in_range}
-use Rattle.lw_tso.proofs.Common.{OfFellows-set_both, get-map, maps_equal-at_each_index, list_all_zip-of_each}
-use Rattle.lw_tso.proofs.Common.{list_all_zip-at_index, Je, Jne, Jmp, Stop, FenceWaits, leb-true, nat_le}
-use Rattle.lw_tso.proofs.Common.{and_from, and_parts}
+use Rattle.lw_tso.proofs.Common.{OfFellows-set_both, slice_get-map_inv, maps_equal-at_each_index}
+use Rattle.lw_tso.proofs.Common.{list_all_zip-of_each, list_all_zip-at_index, Je, Jne, Jmp, Stop, FenceWaits}
+use Rattle.lw_tso.proofs.Common.{leb-true, nat_le, and_from, and_parts}
 use Rattle.lw_tso.proofs.api.Effects.{EventOccurrence, EffectLeadsTo, MachineTransition-of_effect}
 use Rattle.lw_tso.proofs.api.Effects.{EventOccurrence-of_event, not-EffectLeadsTo-evict_event, state}
 
 -- ---- one processor
 
--- A fence with an empty buffer only advances its processor.
+-- If an effect that waits for an empty buffer and then only makes p the processor leads to q and n, then q is p, and the words
+-- are unchanged.
 EffectLeadsTo-fence : (buffer : List (ℕ × ℕ)) (p q : Processor) (m n : List ℕ)
     → EffectLeadsTo m (if_buffer_empty buffer FenceWaits (LocalStep p)) q n
     → (q ≡ p) × (n ≡ m)
@@ -50,7 +51,8 @@ module _ (block : ℕ → ℕ) where
   instruction_without (Jmp to) = refl
   instruction_without i = refl
 
-  -- A load has the same effect there, if the processors after it correspond for each word read.
+  -- If the processors after a load correspond for each word read, then a load that leads to q leads in the code without fences
+  -- to the processor that corresponds to q.
   EffectLeadsTo-load_without : (found : Option ℕ) (x : ℕ) (before after : ℕ → Processor) (q : Processor) (m n : List ℕ)
       → ((w : ℕ) → without (before w) ≡ after w)
       → EffectLeadsTo m (load_effect found x before) q n
@@ -59,17 +61,18 @@ module _ (block : ℕ → ℕ) where
   EffectLeadsTo-load_without None x before after q m n same does = (ap without does.0 ∙ same (slice_index m x), does.1)
 
   module _ (p q : Processor) (m n : List ℕ) (next : block (p.position + 1) ≡ block p.position + 1) where
-    -- Advancing to the next instruction is advancing to the next one without fences.
+    -- Advancing a processor that ends its block corresponds to advancing its corresponding one.
     without-next : (r : Processor) → without (at r (p.position + 1)) ≡ at r (block p.position + 1)
     without-next r = ap (at r) next
 
-    -- The block after a branch is that of its target if it jumps, and otherwise the next one.
+    -- The block of the index after a branch is that of its target if it jumps, and otherwise the next one.
     block-jump : (jumps : Bool) (to : ℕ)
         → block (if jumps then to else (p.position + 1)) ≡ (if jumps then block to else (block p.position + 1))
     block-jump true to = refl
     block-jump false to = next
 
-    -- An effect that waits for an empty buffer is the same there.
+    -- If the effect a, over an empty buffer, corresponds to b, then a that waits for an empty buffer corresponds to b that
+    -- waits.
     EffectLeadsTo-if_buffer_empty_without : (buffer : List (ℕ × ℕ)) (stop : Stop) (a b : EventEffect)
         → (EffectLeadsTo m a q n → EffectLeadsTo m b (without q) n)
         → EffectLeadsTo m (if_buffer_empty buffer stop a) q n
@@ -77,7 +80,8 @@ module _ (block : ℕ → ℕ) where
     EffectLeadsTo-if_buffer_empty_without [] stop a b same does = same does
     EffectLeadsTo-if_buffer_empty_without (entry ∷ newer) stop a b same does = does
 
-    -- An operation that ends its block has the same effect there.
+    -- If the operation that ends its block leads from p to q, the operation with its target's block leads from the processor
+    -- that corresponds to p to the one that corresponds to q.
     EffectLeadsTo-operation_without : (o : Operation)
         → EffectLeadsTo m (operation_effect o p) q n
         → EffectLeadsTo m (operation_effect (operation_without o) (without p)) (without q) n
@@ -99,7 +103,7 @@ module _ (block : ℕ → ℕ) where
     EffectLeadsTo-operation_without o does =
         EffectLeadsTo-if_buffer_empty_without p.buffer _ _ _ (λ asks. (ap without asks.0 ∙ rw next refl, asks.1)) does
 
-  -- A drain has the same effect there.
+  -- If a drain leads from p to q, it leads from the processor that corresponds to p to the one that corresponds to q.
   EffectLeadsTo-drain_without : (buffer : List (ℕ × ℕ)) (p q : Processor) (m n : List ℕ)
       → EffectLeadsTo m (drain_effect buffer p) q n
       → EffectLeadsTo m (drain_effect buffer (without p)) (without q) n
@@ -107,13 +111,15 @@ module _ (block : ℕ → ℕ) where
   EffectLeadsTo-drain_without (entry ∷ newer) p q m n does = (ap without does.0, does.1)
 
 module _ (code fenced : List Instr) (f : HasInsertedFencesInCode code fenced) where
-  -- The step is one of the code without fences, or is at an inserted MFENCE and changes nothing there.
+  -- A step of the fenced code from p and m to q and n changes neither the corresponding processor nor the words; or it is the
+  -- step of the code without fences between the corresponding processors.
   abbrev pub IsStep : Processor → Processor → List ℕ → List ℕ → Type 0
   IsStep p q m n =
       ((without f.block q ≡ without f.block p) × (n ≡ m))
       ⊎ EffectLeadsTo m (step_effect (slice_get code (f.block p.position)) (without f.block p)) (without f.block q) n
 
-  -- A step of the fenced code is at an inserted MFENCE, and changes nothing there, or is the step of the instruction that ends its block.
+  -- If the instruction i of p was inserted or ends its block, its step changes nothing in the code without fences, or is a step
+  -- of it.
   IsStep-of_instruction : (p q : Processor) (m n : List ℕ) (i : Instr)
       → IsInserted f.block p.position i ⊎ EndsBlock f.block code p.position i
       → EffectLeadsTo m (step_effect (Some i) p) q n
@@ -130,17 +136,18 @@ module _ (code fenced : List Instr) (f : HasInsertedFencesInCode code fenced) wh
       subst (λ (o : Operation). EffectLeadsTo m (operation_effect o from) to n) (sym (instruction_without f.block i)) same in
       inr (subst (λ (o : Option Instr). EffectLeadsTo m (step_effect o from) to n) (sym ends.0) here)
 
-  -- A step of the fenced program is a step of the program, or is at an inserted MFENCE.
+  -- A step of p in the fenced code changes nothing in the code without fences, or is a step of it.
   pub IsStep-of_effect : (p q : Processor) (m n : List ℕ)
       → EffectLeadsTo m (step_effect (slice_get fenced p.position) p) q n
       → IsStep p q m n
   IsStep-of_effect p q m n = go (slice_get fenced p.position) refl
     where
+      -- By the instruction at the position of p: there is one, since the step is enabled.
       go : (o : Option Instr) → slice_get fenced p.position ≡ o → EffectLeadsTo m (step_effect o p) q n → IsStep p q m n
       go None there does = absurd does
       go (Some i) there does = IsStep-of_instruction p q m n i (f.each p.position i there) does
 
-  -- A processor that has terminated in the fenced code has terminated in the code without the fences.
+  -- If a processor has terminated in the fenced code, the corresponding one has terminated in the code without the fences.
   pub has_terminated-without : (p : Processor) → has_terminated fenced p ≡ true → has_terminated code (without f.block p) ≡ true
   has_terminated-without p done =
       let both = and_parts (nat_le (length fenced) p.position) (length p.buffer == 0) done in
@@ -150,7 +157,7 @@ module _ (code fenced : List Instr) (f : HasInsertedFencesInCode code fenced) wh
 
 -- ---- whole states
 
--- No instructions with MFENCEs inserted are no instructions.
+-- The empty code is the empty code with no MFENCEs inserted.
 HasInsertedFencesInCode-empty : HasInsertedFencesInCode [] []
 HasInsertedFencesInCode-empty =
     record { block = λ index. 0; first = refl; each = λ index i there. absurd cc; last = λ index past. refl }
@@ -160,6 +167,7 @@ module _ (test fenced : X86Test) (f : HasInsertedFences test fenced) where
   HasInsertedFencesInCode-thread : (t : ℕ) → HasInsertedFencesInCode (thread_code test.threads t) (thread_code fenced.threads t)
   HasInsertedFencesInCode-thread t = ⊎_elim (f.threads t) HasInsertedFencesInCode-past_threads (cases_lt t (length test.threads))
     where
+      -- Past the last thread both codes are empty, so the fenced one is the other with no MFENCEs inserted.
       HasInsertedFencesInCode-past_threads : length test.threads ≤ t
           → HasInsertedFencesInCode (thread_code test.threads t) (thread_code fenced.threads t)
       HasInsertedFencesInCode-past_threads beyond =
@@ -182,7 +190,7 @@ module _ (test fenced : X86Test) (f : HasInsertedFences test fenced) where
         → p ≡ thread_processor_without t q
     words : s.memory ≡ r.memory
 
-  -- The test's state has the processor that corresponds to one of the fenced test's state.
+  -- If the states s and r correspond, and r has the processor p at t, then s has the corresponding processor at t.
   AreAlike-processor : (s r : MachineState (List ℕ)) (t : ℕ) (p : Processor)
       → AreAlike s r
       → slice_get r.processors t ≡ Some p
@@ -191,7 +199,8 @@ module _ (test fenced : X86Test) (f : HasInsertedFences test fenced) where
       let q = slice_get-in_range s.processors t (omega (arith, slice_get_within r.processors t p was, alike.as_many)) in
       q.1 ∙ ap Some (alike.each t q.0 p q.1 was)
 
-  -- Changing corresponding processors and the words preserves that states correspond.
+  -- If the states s and r correspond, and r has a processor at t, they correspond after q is set at t in r, the processor that
+  -- corresponds to q is set in s, and both have these words.
   AreAlike-set : (s r : MachineState (List ℕ)) (t : ℕ) (p q : Processor) (words : List ℕ)
       → AreAlike s r
       → slice_get r.processors t ≡ Some p
@@ -213,7 +222,8 @@ module _ (test fenced : X86Test) (f : HasInsertedFences test fenced) where
     alike : AreAlike end after
 
   module _ (s r after : MachineState (List ℕ)) (alike : AreAlike s r) where
-    -- The same event is enabled in the test.
+    -- If the effect of an event leads from a processor and the words to others, and so between the corresponding ones, then the
+    -- same event leads from s to a state that corresponds to `after`.
     Follows-same_event : (e : Event) (d : EventOccurrence fenced.threads e r after)
         → EffectLeadsTo r.memory (event_effect test.threads (length s.memory) e (thread_processor_without (cpu_of e) d.from))
         (thread_processor_without (cpu_of e) d.to) d.words
@@ -236,7 +246,8 @@ module _ (test fenced : X86Test) (f : HasInsertedFences test fenced) where
           alike = subst (AreAlike end) (sym d.state_is) (AreAlike-set s r t d.from d.to d.words alike d.was);
         }
 
-    -- At an inserted fence no event is needed.
+    -- If an event of the fenced test changes neither the corresponding processor nor the words, s corresponds to `after`
+    -- without an event.
     Follows-no_event : (e : Event) (d : EventOccurrence fenced.threads e r after)
         → thread_processor_without (cpu_of e) d.to ≡ thread_processor_without (cpu_of e) d.from
         → d.words ≡ r.memory
@@ -266,7 +277,8 @@ module _ (test fenced : X86Test) (f : HasInsertedFences test fenced) where
     Follows-event (Evict t x) d =
         absurd (not-EffectLeadsTo-evict_event fenced.threads (length r.memory) t x d.from d.to r.memory d.words d.does)
 
-  -- The test follows each run of the fenced test, to a state that corresponds to its end.
+  -- If s corresponds to r, and events lead the fenced test from r to `end`, some events lead the test from s to a state that
+  -- corresponds to `end`.
   Follows-run : (events : List Event) (s r end : MachineState (List ℕ))
       → AreAlike s r
       → MachineRunsTo flat_memory fenced.threads events r end
@@ -297,12 +309,13 @@ module _ (test fenced : X86Test) (f : HasInsertedFences test fenced) where
     words = ap (λ h. h.init_words) (sym f.head);
   }
     where
+      -- Each processor of the test's state has terminated.
       initial_processors_alike : (t : ℕ) (p q : Processor)
           → slice_get (map initial_processor test.head.init_regs) t ≡ Some p
           → slice_get (map initial_processor fenced.head.init_regs) t ≡ Some q
           → p ≡ thread_processor_without t q
       initial_processors_alike t p q one other =
-          let first = get-map initial_processor test.head.init_regs t p one in
+          let first = slice_get-map_inv initial_processor test.head.init_regs t p one in
           let one_start = ap (λ (rows : List (List ℕ)). slice_get (map initial_processor rows) t) regs_same in
           let same : q ≡ p = same_Some q p (sym other ∙ one_start ∙ one) in
           let block = HasInsertedFencesInCode-thread t in
@@ -334,7 +347,7 @@ module _ (test fenced : X86Test) (f : HasInsertedFences test fenced) where
           subst (λ (c : List Instr). has_terminated c p ≡ true) (get_or_from_slice_get test.threads t code [] one)
           (subst (λ (x : Processor). has_terminated own_code x ≡ true) (sym (alike.each t p q.0 was q.1)) without)
 
-  -- An outcome of the test with the fences is one of the test.
+  -- Each outcome of the test with MFENCEs inserted is an outcome of the test, over flat memory.
   pub IsMachineOutcome-without_fences : (o : FinalState)
       → IsMachineOutcome flat_memory fenced fenced.head.init_words o
       → IsMachineOutcome flat_memory test test.head.init_words o

@@ -12,28 +12,29 @@ use Rattle.lw_tso.proofs.Common.{HasInsertedFences, slice_get-in_range, TestHead
 use Rattle.lw_tso.proofs.Common.{IsWellFormedHead, branch_target, Je, Jne, Jmp}
 
 module _ (code fenced : List Instr) (f : HasInsertedFencesInCode code fenced) where
-  -- From index to index the block is the same or the next.
+  -- From each index of the fenced code to the next one the block is the same, or the next block.
   block-advance : (index : ℕ)
       → index < length fenced
       → (f.block index ≤ f.block (index + 1)) × (f.block (index + 1) ≤ f.block index + 1)
   block-advance index within = let i = slice_get-in_range fenced index within in go (f.each index i.0 i.1)
     where
+      -- By whether the instruction at the index was inserted.
       go : {i : Instr}
           → IsInserted f.block index i ⊎ EndsBlock f.block code index i
           → (f.block index ≤ f.block (index + 1)) × (f.block (index + 1) ≤ f.block index + 1)
       go (inl inserted) = (omega (arith, inserted.1), omega (arith, inserted.1))
       go (inr ends) = (omega (arith, ends.1), omega (arith, ends.1))
 
-  -- So blocks are in the order of indices, and no block has a higher number than its indices.
-  block-monotone : (index n : ℕ) → index ≤ n → n ≤ length fenced → f.block index ≤ f.block n
-  block-monotone index zero before within = let same : index ≡ 0 = omega arith in omega (arith, ap f.block same)
-  block-monotone index (suc n) before within =
+  -- Of two indices the later one is in the same block or in a later one.
+  block-mono : (index n : ℕ) → index ≤ n → n ≤ length fenced → f.block index ≤ f.block n
+  block-mono index zero before within = let same : index ≡ 0 = omega arith in omega (arith, ap f.block same)
+  block-mono index (suc n) before within =
       let next : n + 1 ≡ suc n = omega arith in
       ⊎_elim (λ lt.
-      omega (arith, block-monotone index n (omega (arith, lt)) (omega arith), (block-advance n (omega arith)).0, ap f.block next))
+      omega (arith, block-mono index n (omega (arith, lt)) (omega arith), (block-advance n (omega arith)).0, ap f.block next))
       (λ le. let same : index ≡ suc n = omega (arith, before, le) in omega (arith, ap f.block same)) (cases_lt index (suc n))
 
-  -- No block has a higher number than an index in it.
+  -- The block of an index is at most the index.
   block-le : (n : ℕ) → n ≤ length fenced → f.block n ≤ n
   block-le zero within = omega (arith, f.first)
   block-le (suc n) within =
@@ -55,9 +56,11 @@ module _ (code fenced : List Instr) (f : HasInsertedFencesInCode code fenced) wh
       let i = slice_get-in_range fenced n (omega arith) in
       go (λ lower. IsAt-below k n (omega arith) lower) i.0 i.1 (f.each n i.0 i.1)
     where
+      -- The index n + 1 is the one after n.
       next : f.block (n + 1) ≡ f.block (suc n)
       next = let same : n + 1 ≡ suc n = omega arith in ap f.block same
 
+      -- By whether the instruction at n was inserted.
       go : (k < f.block n → IsAt k)
           → (i : Instr)
           → slice_get fenced n ≡ Some i
@@ -68,6 +71,7 @@ module _ (code fenced : List Instr) (f : HasInsertedFencesInCode code fenced) wh
           ⊎_elim earlier (λ le. let same : f.block n ≡ k = omega (arith, below, next, ends.1, le) in found same)
           (cases_lt k (f.block n))
         where
+          -- If n is in block k, the instruction at n is the one that ends it.
           found : f.block n ≡ k → IsAt k
           found same = record { index = n; i = i; instr_at = there; ends = ends; block = same }
 
@@ -80,7 +84,7 @@ module _ (code fenced : List Instr) (f : HasInsertedFencesInCode code fenced) wh
   length_le-fenced = omega (arith, block-le (length fenced) (omega arith), f.last (length fenced) (omega arith))
 
   module _ (locs : ℕ) (ok : IsWellScopedThread x86_language locs fenced) where
-    -- A well-formed instruction is well-formed with its jump retargeted to blocks.
+    -- If an instruction is well-formed, it is so with its jump retargeted to blocks.
     IsWellFormedStatement-retarget : (i : Instr)
         → IsWellFormedStatement x86_language locs i
         → IsWellFormedStatement x86_language locs (retarget_to_blocks f.block i)
@@ -95,12 +99,11 @@ module _ (code fenced : List Instr) (f : HasInsertedFencesInCode code fenced) wh
         → (k < f.block to) × (f.block to ≤ length code)
     block-of_target k here to there =
         let last = f.last (length fenced) (omega arith) in
-        let before = block-monotone (here.index + 1) to (omega (arith, there.0)) there.1 in (
-          omega (arith, before, here.ends.1, here.block),
-          omega (arith, block-monotone to (length fenced) there.1 (omega arith), last),
-        )
+        let before = block-mono (here.index + 1) to (omega (arith, there.0)) there.1 in
+        (omega (arith, before, here.ends.1, here.block), omega (arith, block-mono to (length fenced) there.1 (omega arith), last))
 
-    -- The same holds of the target of a jump that is retargeted to this block.
+    -- If a target in the fenced code is later than the index at which instruction k is, and a jump is retargeted to its block
+    -- u, then u is later than k, and within the code.
     block-of_jump : (k : ℕ) (here : IsAt k) (to u : ℕ)
         → (here.index < to) × (to ≤ length fenced)
         → Some (f.block to) ≡ Some u
@@ -117,13 +120,15 @@ module _ (code fenced : List Instr) (f : HasInsertedFencesInCode code fenced) wh
     branch_target-retarget k here (Jmp to) goes u e = block-of_jump k here to u (goes to refl) e
     branch_target-retarget k here i goes u e = absurd cc
 
-    -- A thread is well-scoped if it is so with MFENCEs inserted.
+    -- The code is well-scoped, since the fenced code is.
     IsWellScopedThread-without_fences : IsWellScopedThread x86_language locs code
     IsWellScopedThread-without_fences = record { statements_formed = statements_well_formed; forward = branch_target-forward }
       where
+        -- The code has at k the instruction that ends block k, with its jump retargeted.
         code_has : (k : ℕ) (here : IsAt k) → slice_get code k ≡ Some (retarget_to_blocks f.block here.i)
         code_has k here = ap (slice_get code) (sym here.block) ∙ here.ends.0
 
+        -- Each instruction of the code is well-formed.
         statements_well_formed : All (IsWellFormedStatement x86_language locs) code
         statements_well_formed k d within =
             let here = IsAt-every k within in
@@ -134,6 +139,7 @@ module _ (code fenced : List Instr) (f : HasInsertedFencesInCode code fenced) wh
             (IsWellFormedStatement-retarget here.i
             (subst (IsWellFormedStatement x86_language locs) it (ok.statements_formed here.index d lt)))
 
+        -- Each branch of the code leads forward, at most to the end.
         branch_target-forward : (k : ℕ) (s : Instr)
             → slice_get code k ≡ Some s
             → ForSome (branch_target (x86_operation s)) (λ to. (k < to) × (to ≤ length code))
@@ -157,8 +163,8 @@ IsWellFormedThread-without_fences code fenced f locs ok =
       forward = scoped.forward;
     }
 
--- If what holds of a code with MFENCEs inserted holds of the code, what holds of each code of a test with MFENCEs inserted holds of each
--- of the test's.
+-- If P of a code with MFENCEs inserted implies P of the code, and P holds of each thread of a test with MFENCEs inserted, then
+-- P holds of each thread of the test.
 All-without_fences : (P : ℕ → List Instr → Type 0)
     → ((code fenced : List Instr) → HasInsertedFencesInCode code fenced → (locs : ℕ) → P locs fenced → P locs code)
     → (test fenced : X86Test)
@@ -189,7 +195,7 @@ IsWellScopedProgram-without_fences test fenced ok f = record {
       (λ code longer g locs. IsWellScopedThread-without_fences code longer g locs) test fenced f ok.code;
 }
 
--- A head is well-formed if it is so with another name, and its own is one that a test may have.
+-- If a head is well-formed with another name, and its own is a test's name, it is well-formed.
 IsWellFormedHead-other_name : (h : TestHead) (name : List ℕ)
     → IsTestName h.name
     → IsWellFormedHead (record h { name = name })
@@ -210,7 +216,7 @@ IsWellFormedHead-other_name h name named ok = record {
   condition = ok.condition;
 }
 
--- A test is well-formed if it is so with MFENCEs inserted, and if it has a name that a test may have.
+-- A test is well-formed, if it is so with MFENCEs inserted, and if its name is a test's name.
 pub IsWellFormedProgram-without_fences : (test fenced : X86Test)
     → IsTestName test.head.name
     → IsWellFormedProgram fenced

@@ -19,7 +19,7 @@ use Rattle.lw_tso.proofs.api.Operations.{EffectSatisfies}
 use Rattle.lw_tso.proofs.EventActs.{IsNoEviction, MayAccess, IsEventEffect-of_event, ProcessorChange-event}
 use Rattle.lw_tso.proofs.Flatten.{MachineTransition-flat, ReplaysTo-flat}
 
--- What is enabled over flat memory is no eviction.
+-- If an event is enabled over flat memory, it is no eviction.
 IsNoEviction-flat_transition : (program : List (List Instr)) (e : Event) (s mid : MachineState (List ℕ))
     → MachineTransition flat_memory program e s (Ok tt) mid
     → IsNoEviction e
@@ -29,7 +29,8 @@ IsNoEviction-flat_transition program (Evict t x) s mid done =
 IsNoEviction-flat_transition program _ s mid done = refl
 
 module _ {M : Type 0} (mem : Memory M) (inv : Invariant M) (laws : IsLawful mem inv) where
-  -- A request that is served over the content is served over the memory.
+  -- If the memory's invariant holds, and an enabled request in range has this result and these words over the content, then the
+  -- lawful memory serves it with this result, and has these words as its content then.
   serves-same_content : {r : Request} {a : Option ℕ} (m : M) {words : List ℕ}
       → inv.sound m
       → IsInRange (inv.cpus m) (length (mem.content m)) r
@@ -44,8 +45,9 @@ module _ {M : Type 0} (mem : Memory M) (inv : Invariant M) (laws : IsLawful mem 
         (laws.served m r (request_result (mem.content m) r) g.0 sound g.1).content ∙ sym after,
       )
 
-  -- An effect that is executed over the content is executed over the memory, which then has the resulting content. The locations that the
-  -- effect may access have to exist.
+  -- If the memory's invariant holds, processor t exists, and an effect that accesses only existing locations (`MayAsk`) is
+  -- executed over the content, then it is executed over the memory with the same answer, and the memory then has the resulting
+  -- content.
   EffectTransition-lift : (Reason : Type 0) (MayAsk : ℕ → Bool → Type 0) (Makes : Processor → Type 0) (t : ℕ) (act : EventEffect)
       (p q : Processor) (m : M) (words : List ℕ) (answer : EventResult)
       → inv.sound m
@@ -61,11 +63,13 @@ module _ {M : Type 0} (mem : Memory M) (inv : Invariant M) (laws : IsLawful mem 
   EffectTransition-lift R A K t _ p q m words answer sound cpu within comes done = (m, (done.0, done.1, refl), sym done.2)
 
   module _ (program : List (List Instr)) (locs : ℕ) (threads : All (IsWellScopedThread x86_language locs) program) where
-    -- The room that a processor's buffer never exceeds.
+    -- A buffer with a place for each store of thread t's code has room for the entries of its processor p and all stores that
+    -- are ahead of it.
     abbrev HasRoomAt : ℕ → Processor → Type 0
     HasRoomAt t p = HasRoom locs (thread_code program t) p (stores_from 0 (thread_code program t))
 
-    -- What every run of the program preserves.
+    -- What every run of the program preserves: the memory's invariant and locations, a processor for each thread, and the room
+    -- of each buffer.
     pub record IsWithin (s : MachineState M) : Type 0 where
       pub sound : inv.sound s.memory
       pub locations : length (mem.content s.memory) ≡ locs
@@ -73,14 +77,15 @@ module _ {M : Type 0} (mem : Memory M) (inv : Invariant M) (laws : IsLawful mem 
       pub as_many : length s.processors ≡ length program
       pub rooms : (t : ℕ) (p : Processor) → slice_get s.processors t ≡ Some p → HasRoomAt t p
 
-    -- The code of a processor is that of a thread of the test.
+    -- If a state satisfies the invariant and has the processor t, the code of t is well-scoped.
     pub IsWellScopedThread-of_cpu : (s : MachineState M) (t : ℕ) (p : Processor)
         → IsWithin s
         → slice_get s.processors t ≡ Some p
         → IsWellScopedThread x86_language locs (thread_code program t)
     IsWellScopedThread-of_cpu s t p within at = threads t _ (omega (arith, slice_get_within s.processors t p at, within.as_many))
 
-    -- An event preserves what holds in all reachable states.
+    -- If a state satisfies the invariant, and an event's effect leads its processor from p to q and the memory to n, then the
+    -- state after it satisfies the invariant.
     pub IsWithin-effect : (e : Event) (s : MachineState M) (p q : Processor) (n : M) (answer : EventResult)
         → IsWithin s
         → slice_get s.processors (cpu_of e) ≡ Some p
@@ -103,7 +108,7 @@ module _ {M : Type 0} (mem : Memory M) (inv : Invariant M) (laws : IsLawful mem 
               AtEach-set HasRoomAt s.processors (cpu_of e) q (slice_get_within s.processors (cpu_of e) p at) within.rooms room;
         }
 
-    -- What an event requests exists.
+    -- If a state satisfies the invariant, and an event of its processor t may access x, then x exists.
     pub location_in_range-if_asked : (t : ℕ) (p : Processor) (s : MachineState M)
         → IsWithin s
         → slice_get s.processors t ≡ Some p
@@ -120,13 +125,14 @@ module _ {M : Type 0} (mem : Memory M) (inv : Invariant M) (laws : IsLawful mem 
         let there = subst (All (λ (e : ℕ × ℕ). e.0 < locs)) drain.2 (within.rooms t p at).entries_in_range in
         omega (arith, within.locations, there 0 drain.0 (omega arith), drain.3)
 
-    -- A transition of the machine preserves what holds in all reachable states.
+    -- If a state satisfies the invariant, so does the state after an event, carried out or refused.
     IsWithin-event : (e : Event) (s after : MachineState M) (answer : EventResult)
         → IsWithin s
         → MachineTransition mem program e s answer after
         → IsWithin after
     IsWithin-event e s after answer within = go (slice_get s.processors (cpu_of e)) refl
       where
+        -- By the processor, if it exists.
         go : (o : Option Processor)
             → slice_get s.processors (cpu_of e) ≡ o
             → ProcessorTransition mem o program e s answer after
@@ -134,7 +140,7 @@ module _ {M : Type 0} (mem : Memory M) (inv : Invariant M) (laws : IsLawful mem 
         go None at done = subst IsWithin (sym done.1) within
         go (Some p) at done = subst IsWithin (sym done.3) (IsWithin-effect e s p _ _ answer within at done.2)
 
-    -- A run preserves what holds in all reachable states.
+    -- If a state satisfies the invariant, so does each state to which events lead from it.
     IsWithin-run : (es : List Event) (s end : MachineState M) → IsWithin s → MachineRunsTo mem program es s end → IsWithin end
     IsWithin-run [] s end within ran = subst IsWithin (sym ran) within
     IsWithin-run (e ∷ es) s end within ran = IsWithin-run es _ end (IsWithin-event e s _ (Ok tt) within ran.1) ran.2
@@ -144,7 +150,8 @@ module _ {M : Type 0} (mem : Memory M) (inv : Invariant M) (laws : IsLawful mem 
     LiftedEvent e s answer mid =
         (after : MachineState M) × MachineTransition mem program e s answer after × (over_flat_memory mem after ≡ mid)
 
-    -- What an optional processor does over the content by an event that is no eviction, it does over the memory.
+    -- If a state satisfies the invariant, and an event that is no eviction leads its processor o, if it exists, over the
+    -- content to `mid`, then the event leads over the memory to a state whose content is that of `mid`.
     LiftedEvent-by_processor : (o : Option Processor) (e : Event) (s : MachineState M) (answer : EventResult)
         (mid : MachineState (List ℕ))
         → IsWithin s
@@ -169,7 +176,8 @@ module _ {M : Type 0} (mem : Memory M) (inv : Invariant M) (laws : IsLawful mem 
               ∙ sym done.3,
         )
 
-    -- Each event of the flat machine that is no eviction is one of the machine over the memory.
+    -- If a state satisfies the invariant, and an event that is no eviction leads over the content to `mid`, then it leads over
+    -- the memory to a state whose content is that of `mid`.
     LiftedEvent-of_event : (e : Event) (s : MachineState M) (answer : EventResult) (mid : MachineState (List ℕ))
         → IsWithin s
         → IsNoEviction e
@@ -178,13 +186,14 @@ module _ {M : Type 0} (mem : Memory M) (inv : Invariant M) (laws : IsLawful mem 
     LiftedEvent-of_event e s answer mid within none done =
         LiftedEvent-by_processor (slice_get s.processors (cpu_of e)) e s answer mid within none refl done
 
-    -- A run over the memory system whose image is the flat machine's run.
+    -- Events lead over the memory system from s to a state whose image over flat memory is `last`.
     pub record LiftedRun (es : List Event) (s : MachineState M) (last : MachineState (List ℕ)) : Type 0 where
       pub end : MachineState M
       pub ran : MachineRunsTo mem program es s end
       pub end_is : over_flat_memory mem end ≡ last
 
-    -- Forward simulation: each run of the flat machine is the image of one over the memory system.
+    -- Forward simulation: if s satisfies the invariant, and events lead its image over flat memory to `last`, then the same
+    -- events lead over the memory system from s to a state whose image is `last`.
     pub LiftedRun-of_run : (es : List Event) (s : MachineState M) (last : MachineState (List ℕ))
         → IsWithin s
         → MachineRunsTo flat_memory program es (over_flat_memory mem s) last
@@ -202,14 +211,14 @@ module _ {M : Type 0} (mem : Memory M) (inv : Invariant M) (laws : IsLawful mem 
     abbrev locs : ℕ
     locs = length test.head.locs
 
-    -- A processor that exists at the start is the initial one of some registers.
+    -- If p is the initial processor of optional registers, there are registers of which it is the initial processor.
     started : (p : Processor) (o : Option (List ℕ))
         → Some p ≡ option_map initial_processor o
         → (r : List ℕ) × (p ≡ initial_processor r)
     started p None e = absurd cc
     started p (Some r) e = (r, same_Some p (initial_processor r) e)
 
-    -- What holds in all reachable states holds at the start.
+    -- The initial state over an initial memory satisfies the invariant.
     pub IsWithin-start : {m : M}
         → IsInitialMemory mem inv test m
         → IsWithin test.threads locs ok.code (initial_machine_state test m)
@@ -226,14 +235,15 @@ module _ {M : Type 0} (mem : Memory M) (inv : Invariant M) (laws : IsLawful mem 
               (record { fits = omega arith; entries_in_range = All-nil _ });
         }
 
-    -- It holds in each state that a run reaches.
+    -- Each state that a run from the initial state reaches satisfies the invariant.
     pub IsWithin-reached : (m : M) (es : List Event) (s : MachineState M)
         → IsInitialMemory mem inv test m
         → MachineRunsTo mem test.threads es (initial_machine_state test m) s
         → IsWithin test.threads locs ok.code s
     IsWithin-reached m es s start ran = IsWithin-run _ locs _ es (initial_machine_state test m) s (IsWithin-start start) ran
 
-    -- In a reachable state, an event that is no eviction is one over flat memory.
+    -- In a state that a run reaches, a transition by an event that is no eviction is one over flat memory with the same
+    -- content.
     pub MachineTransition-reached_flat : (m : M) (es : List Event) (s after : MachineState M) (e : Event) (answer : EventResult)
         → IsInitialMemory mem inv test m
         → MachineRunsTo mem test.threads es (initial_machine_state test m) s
@@ -243,7 +253,8 @@ module _ {M : Type 0} (mem : Memory M) (inv : Invariant M) (laws : IsLawful mem 
     MachineTransition-reached_flat m es s after e answer start ran none done =
         MachineTransition-flat mem inv laws test.threads e s after answer (IsWithin-reached m es s start ran).sound none done
 
-    -- The reverse.
+    -- In a state that a run reaches, a transition over flat memory by an event that is no eviction is the image of one over the
+    -- memory system.
     pub LiftedEvent-reached : (m : M) (es : List Event) (s : MachineState M) (e : Event) (answer : EventResult)
         (mid : MachineState (List ℕ))
         → IsInitialMemory mem inv test m
@@ -254,7 +265,7 @@ module _ {M : Type 0} (mem : Memory M) (inv : Invariant M) (laws : IsLawful mem 
     LiftedEvent-reached m es s e answer mid start ran none done =
         LiftedEvent-of_event test.threads locs ok.code e s answer mid (IsWithin-reached m es s start ran) none done
 
-    -- A list that replays over flat memory replays over this memory.
+    -- If a list of events replays to an outcome over flat memory, it replays to it over each initial memory.
     pub ReplaysTo-of_flat : (m : M) (es : List Event) (o : FinalState)
         → IsInitialMemory mem inv test m
         → ReplaysTo flat_memory test test.head.init_words es o
@@ -269,7 +280,7 @@ module _ {M : Type 0} (mem : Memory M) (inv : Invariant M) (laws : IsLawful mem 
           outcome_is = r.outcome_is ∙ ap (λ (s : MachineState (List ℕ)). machine_outcome flat_memory s) (sym a.end_is);
         }
 
-    -- The outcomes are those over flat memory.
+    -- For each initial memory, an outcome over it is one over flat memory, and the reverse.
     pub IsMachineOutcome-flat_iff : (m : M) (o : FinalState)
         → IsInitialMemory mem inv test m
         → IsMachineOutcome mem test m o ↔ IsMachineOutcome flat_memory test test.head.init_words o
@@ -282,7 +293,7 @@ module _ {M : Type 0} (mem : Memory M) (inv : Invariant M) (laws : IsLawful mem 
       (λ a. (a.0, ReplaysTo-of_flat m a.0 o start a.1)),
     )
 
-    -- A list without evictions replays over one memory if it does over the other.
+    -- For each initial memory, a list without evictions replays to an outcome over it if and only if it does over flat memory.
     pub ReplaysTo-same_content : (m : M) (es : List Event) (o : FinalState)
         → IsInitialMemory mem inv test m
         → without_evictions es ≡ es

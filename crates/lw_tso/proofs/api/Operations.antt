@@ -13,7 +13,8 @@ use Rattle.lw_tso.proofs.Common.{event_writes, EventResult, EffectTransition, Ch
 use Rattle.lw_tso.proofs.api.Effects.{EffectLeadsTo, EffectTransition-if_enabled}
 use Rattle.lw_memory.specs.declared.request.Access.TheVariants as to
 
--- A store appends an entry for its location to the buffer p; no other operation changes the buffer.
+-- The buffer q results from p by the operation o: o is no store, and the buffers are equal; or o is a store, and q is p with an
+-- entry for its location appended.
 abbrev pub Buffers : Operation → List (ℕ × ℕ) → List (ℕ × ℕ) → Type 0
 Buffers o p q =
     ((is_store o ≡ false) × (q ≡ p))
@@ -26,11 +27,12 @@ pub record OperationTransition (o : Operation) (p q : Processor) : Type 0 where
   pub regs : length q.regs ≡ length p.regs
   pub waited : needs_empty_buffer o ≡ true → p.buffer ≡ []
 
--- A test that fails does not pass.
+-- False is not true: so anything follows.
 false-ne_true : {X : Type 0} → false ≡ true → X
 false-ne_true e = absurd (true≢false (sym e))
 
--- An operation that is no store leads from p to q, if q is at the next position and has the same buffer and number of registers.
+-- If an operation falls through, is no store, and has an empty buffer if it waits, it leads from p to each q at the next
+-- position with the same buffer and number of registers.
 OperationTransition-no_store : (o : Operation) (p q : Processor)
     → falls_through o ≡ true
     → is_store o ≡ false
@@ -42,17 +44,19 @@ OperationTransition-no_store : (o : Operation) (p q : Processor)
 OperationTransition-no_store o p q on none waited position buffer regs =
     record { leads = inl (on, position); buffers = inl (none, buffer); regs = regs; waited = waited }
 
--- A branch leads to its target if its guard holds, and otherwise to the next statement.
+-- The target of a branch is a successor of it if its guard holds, and the next position otherwise.
 pub IsSuccessor-branch : (c : Guard) (to k : ℕ) (regs : List ℕ) (flag : Bool)
     → IsSuccessor (Branch c to) k (if guard_holds c regs flag then to else (k + 1))
 IsSuccessor-branch c to k regs flag = go c
   where
+    -- By whether the branch jumps, for a guard that may fall through.
     IsSuccessor-either_branch : (c : Guard) (jumps : Bool)
         → falls_through (Branch c to) ≡ true
         → IsSuccessor (Branch c to) k (if jumps then to else (k + 1))
     IsSuccessor-either_branch c true on = inr refl
     IsSuccessor-either_branch c false on = inl (on, refl)
 
+    -- By the guard: one that always holds does not fall through.
     go : (c : Guard) → IsSuccessor (Branch c to) k (if guard_holds c regs flag then to else (k + 1))
     go Always = inr refl
     go (Equal a n) = IsSuccessor-either_branch (Equal a n) _ refl
@@ -70,7 +74,7 @@ module _ (Reason : Type 0) (MayAsk : ℕ → Bool → Type 0) (Makes : Processor
   EffectSatisfies (MemoryAccess x access next) = MayAsk x (is_write access) × ((w : ℕ) → Makes (next w))
   EffectSatisfies (Eviction x) = ⊥
 
-  -- If the claim holds of an effect, the location that it accesses satisfies `MayAsk`.
+  -- If the claim holds of an effect that accesses x, then `MayAsk` holds of x, with whether the effect writes it.
   pub EffectSatisfies-accessed : (act : EventEffect) (x : ℕ)
       → EffectSatisfies act
       → accessed_location act ≡ Some x
@@ -80,8 +84,8 @@ module _ (Reason : Type 0) (MayAsk : ℕ → Bool → Type 0) (Makes : Processor
   EffectSatisfies-accessed (Eviction y) x comes at = absurd comes
   EffectSatisfies-accessed _ x comes at = absurd cc
 
-  -- If the claim holds of an effect that was executed, it was refused and left the processor unchanged, or the new processor satisfies
-  -- `Makes`.
+  -- If the claim holds of an effect, its transition is a refusal that leaves the processor unchanged, or leads to a processor
+  -- that satisfies `Makes`.
   pub EffectSatisfies-result : {M : Type 0} (mem : Memory M) (t : ℕ) (act : EventEffect) (p q : Processor) (m n : M)
       (answer : EventResult)
       → EffectSatisfies act
@@ -100,8 +104,8 @@ module _ (Reason : Type 0) (MayAsk : ℕ → Bool → Type 0) (Makes : Processor
   EffectSatisfies-load (Some w) x next asks makes = makes w
   EffectSatisfies-load None x next asks makes = (asks, makes)
 
-  -- The claim holds of an effect that waits for an empty buffer, if it holds of the effect then, and a nonempty buffer is a reason to
-  -- refuse it.
+  -- If the claim holds of an effect when the buffer is empty, and a nonempty buffer is a `Reason`, then it holds of the effect
+  -- that waits for an empty buffer.
   EffectSatisfies-if_buffer_empty : (buffer : List (ℕ × ℕ)) (stop : Stop) (act : EventEffect)
       → (buffer ≢ [] → Reason)
       → (buffer ≡ [] → EffectSatisfies act)
@@ -151,14 +155,14 @@ module _ (Reason : Type 0) (MayAsk : ℕ → Bool → Type 0) (Makes : Processor
   EffectSatisfies-operation o p reason asks makes = EffectSatisfies-if_buffer_empty p.buffer SwapWaits _ (reason refl) (λ empty.
       (asks _ refl, λ w. makes _ (OperationTransition-no_store o p _ refl refl (λ e. empty) refl refl (length-set p.regs _ w))))
 
--- The access of a locked operation when the buffer is empty: an update of its location.
+-- The effect of a locked operation on p: an update of its location, if the buffer is empty.
 pub record LockedUpdate (o : Operation) (p : Processor) : Type 0 where
   pub location : ℕ
   pub change : Change
   pub next : ℕ → Processor
   pub act : operation_effect o p ≡ if_buffer_empty p.buffer SwapWaits (MemoryAccess location (to.Update change) next)
 
--- A locked operation's effect is an update by its change.
+-- The effect of a locked operation is an update of its location.
 pub LockedUpdate-of_operation : (o : Operation) (p : Processor) → is_locked o ≡ true → LockedUpdate o p
 LockedUpdate-of_operation (Set d v) p e = false-ne_true e
 LockedUpdate-of_operation (Sum d a v) p e = false-ne_true e
@@ -169,7 +173,7 @@ LockedUpdate-of_operation Fence p e = false-ne_true e
 LockedUpdate-of_operation (Branch c to) p e = false-ne_true e
 LockedUpdate-of_operation _ p e = record { location = _; change = _; next = _; act = refl }
 
--- An operation accesses only its location, and writes it at once only if it is locked.
+-- If the effect of an operation accesses x, then x is its location, and it writes x at once if and only if it is locked.
 pub accessed_location-of_operation : (o : Operation) (p : Processor) (x : ℕ)
     → accessed_location (operation_effect o p) ≡ Some x
     → (location_of o ≡ Some x) × (is_locked o ≡ event_writes (operation_effect o p))
@@ -178,7 +182,7 @@ accessed_location-of_operation o p x =
     EffectSatisfies-accessed (Unit {0}) asks (λ q. Unit {0}) (operation_effect o p) x
     (EffectSatisfies-operation (Unit {0}) asks (λ q. Unit {0}) o p (λ waits full. tt) (λ y e. (e, refl)) (λ q went. tt))
 
--- An operation that succeeds satisfies `OperationTransition`.
+-- If the effect of an operation leads from p to q, then q satisfies `OperationTransition`.
 pub OperationTransition-of_effect : (o : Operation) (p q : Processor) (m n : List ℕ)
     → EffectLeadsTo m (operation_effect o p) q n
     → OperationTransition o p q
@@ -191,7 +195,7 @@ OperationTransition-of_effect o p q m n d =
     (EffectSatisfies-result (Unit {0}) (λ x w. Unit {0}) (OperationTransition o p) flat_memory 0 (operation_effect o p) p q m n
     (Ok tt) comes done)
 
--- An effect that waits for an empty buffer succeeds only with one.
+-- If an effect that waits for an empty buffer leads to a state, the buffer is empty, and the effect leads to that state.
 pub EffectLeadsTo-if_buffer_empty : (buffer : List (ℕ × ℕ)) (stop : Stop) (act : EventEffect) (m n : List ℕ) (q : Processor)
     → EffectLeadsTo m (if_buffer_empty buffer stop act) q n
     → (buffer ≡ []) × EffectLeadsTo m act q n
@@ -202,7 +206,7 @@ EffectLeadsTo-if_buffer_empty (entry ∷ newer) stop act m n q d = absurd d
 abbrev pub IsEnabledEffect : List ℕ → EventEffect → Type 0
 IsEnabledEffect m act = (q : Processor) × (n : List ℕ) × EffectLeadsTo m act q n
 
--- An operation is enabled if it does not wait, or the buffer is empty.
+-- If an operation does not wait, or the buffer is empty, its effect is enabled.
 pub IsEnabledEffect-operation : (o : Operation) (p : Processor) (m : List ℕ)
     → (needs_empty_buffer o ≡ true → p.buffer ≡ [])
     → IsEnabledEffect m (operation_effect o p)
@@ -210,6 +214,7 @@ IsEnabledEffect-operation o p m waited =
     go (operation_effect o p)
     (EffectSatisfies-operation ⊥ (λ x w. Unit {0}) (λ q. Unit {0}) o p (λ w full. full (waited w)) (λ x e. tt) (λ q went. tt))
   where
+    -- By the effect, which cannot be refused.
     go : (act : EventEffect) → EffectSatisfies ⊥ (λ x w. Unit {0}) (λ q. Unit {0}) act → IsEnabledEffect m act
     go (LocalStep next) comes = (next, m, (refl, refl))
     go (MemoryAccess x access next) comes = (_, _, (refl, refl))

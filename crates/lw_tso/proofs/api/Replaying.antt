@@ -15,7 +15,7 @@ use Rattle.lw_tso.proofs.EventActs.{ProcessorChange, Stays, Steps, Drains, Proce
 
 -- ---- lists
 
--- What holds of all items holds of the one at an index.
+-- If P holds of all items of a list, it holds of the item at each index.
 AllByRecursion-at : {X : Type 0} (P : X → Type 0) (xs : List X) (i : ℕ) (x : X)
     → AllByRecursion P xs
     → slice_get xs i ≡ Some x
@@ -24,7 +24,7 @@ AllByRecursion-at P (y ∷ ys) zero x all at = let e : y ≡ x = cc in subst P e
 AllByRecursion-at P (y ∷ ys) (suc i) x all at = AllByRecursion-at P ys i x all.1 at
 AllByRecursion-at P [] _ x all at = absurd cc
 
--- What holds of all items, and of x, holds of all after x replaces one.
+-- If P holds of all items of a list, and of x, it holds of all after x is set at i.
 AllByRecursion-set : {X : Type 0} (P : X → Type 0) (xs : List X) (i : ℕ) (x : X)
     → AllByRecursion P xs
     → P x
@@ -35,18 +35,18 @@ AllByRecursion-set P [] _ x all is = tt
 
 -- ---- events
 
--- A processor has all registers.
+-- The processor has six registers.
 abbrev pub HasRegisters : Processor → Type 0
 HasRegisters p = length p.regs ≡ registers
 
--- An event leaves its processor the registers.
+-- If a processor has six registers, it has them after an event.
 HasRegisters-preserved : {code : List Instr} {p q : Processor} → HasRegisters p → ProcessorChange code p q → HasRegisters q
 HasRegisters-preserved has (Stays is) = ap (λ (r : Processor). length r.regs) is ∙ has
 HasRegisters-preserved has (Steps i at went) = went.regs ∙ has
 HasRegisters-preserved has (Drains entry newer was is) = ap (λ (r : Processor). length r.regs) is ∙ has
 
 module _ {M : Type 0} (mem : Memory M) (inv : Invariant M) where
-  -- An eviction that is carried out is of an existing location.
+  -- If an eviction is carried out, its location exists.
   eviction-in_range : (there : Bool) (t x locs : ℕ) (p q : Processor) (m n : M)
       → nat_lt x locs ≡ there
       → EffectTransition mem t (if there then Eviction x else Refused NoLocation) p m (Ok tt) q n
@@ -54,7 +54,8 @@ module _ {M : Type 0} (mem : Memory M) (inv : Invariant M) where
   eviction-in_range true t x locs p q m n lt done = ltb-true x locs lt
   eviction-in_range false t x locs p q m n lt done = absurd (let e = done.0 in cc)
 
-  -- An event that is carried out, of an existing processor.
+  -- If an event of an existing processor is carried out, its processor is below `threads`, and its location, of an eviction,
+  -- below `locs`.
   IsEventInRange-of_effect : (program : List (List Instr)) (threads locs : ℕ) (e : Event) (p q : Processor) (m n : M)
       → cpu_of e < threads
       → length (mem.content m) ≡ locs
@@ -74,16 +75,18 @@ module _ {M : Type 0} (mem : Memory M) (inv : Invariant M) where
     sound : inv.sound s.memory
 
   module _ (laws : IsLawful mem inv) (program : List (List Instr)) (threads locs : ℕ) where
-    -- An event of such a machine is of its processors and locations, and leads to such a machine.
+    -- If an event is carried out by such a machine, it is of its processors and locations, and leads to such a machine.
     IsEventInRange-event : (e : Event) (s after : MachineState M)
         → IsMachineOf threads locs s
         → MachineTransition mem program e s (Ok tt) after
         → IsEventInRange threads locs e × IsMachineOf threads locs after
     IsEventInRange-event e s after is done = go (slice_get s.processors (cpu_of e)) refl done
       where
+        -- The event preserves the numbers of processors and locations.
         same_size : IsSameSize mem inv s after
         same_size = IsSameSize-event mem inv laws program e s after (Ok tt) is.sound done
 
+        -- By the processor, which exists, since the event is carried out.
         go : (o : Option Processor)
             → slice_get s.processors (cpu_of e) ≡ o
             → ProcessorTransition mem o program e s (Ok tt) after
@@ -104,7 +107,7 @@ module _ {M : Type 0} (mem : Memory M) (inv : Invariant M) where
               },
             )
 
-    -- The events of a run of such a machine are of its processors and locations, and the run leads to such a machine.
+    -- If events lead from such a machine to `end`, they are of its processors and locations, and `end` is such a machine.
     IsEventInRange-run : (es : List Event) {s : MachineState M} (end : MachineState M)
         → IsMachineOf threads locs s
         → MachineRunsTo mem program es s end
@@ -115,21 +118,22 @@ module _ {M : Type 0} (mem : Memory M) (inv : Invariant M) where
         let rest = IsEventInRange-run es end first.1 ran.2 in
         ((first.0, rest.0), rest.1)
 
--- If all processors have all registers, the rows of their words do.
+-- If each processor has six registers, each row of their words has six.
 AllByRecursion-register_rows : (ps : List Processor)
     → AllByRecursion HasRegisters ps
     → AllByRecursion (λ row. length row ≡ registers) (map (λ p. p.regs) ps)
 AllByRecursion-register_rows [] all = tt
 AllByRecursion-register_rows (p ∷ ps) all = (all.0, AllByRecursion-register_rows ps all.1)
 
--- If all rows of first words are of all registers, processors start with all registers.
+-- If each row of initial words has six, each initial processor has six registers.
 HasRegisters-all_initial : (rows : List (List ℕ))
     → AllByRecursion (λ row. length row ≡ registers) rows
     → AllByRecursion HasRegisters (map initial_processor rows)
 HasRegisters-all_initial [] all = tt
 HasRegisters-all_initial (row ∷ rows) all = (all.0, HasRegisters-all_initial rows all.1)
 
--- A run of a test to its end has an outcome of the test's threads and locations, and events of these.
+-- If events of a well-scoped test replay to an outcome over an initial memory, the outcome has the test's numbers of threads
+-- and locations, and the events are of these.
 pub HasOutcomeShape-replay : {M : Type 0} {mem : Memory M} {inv : Invariant M} (laws : IsLawful mem inv) (test : X86Test) (m : M)
     (events : List Event) (o : FinalState)
     → IsWellScopedProgram test
@@ -154,7 +158,7 @@ HasOutcomeShape-replay {mem = mem} {inv = inv} laws test m events o ok start r =
       ran.0,
     )
 
--- Over flat memory such a run has an outcome of the test's threads and locations.
+-- An outcome of a well-scoped test over flat memory has the test's numbers of threads and locations.
 pub HasOutcomeShape-flat_outcome : (test : X86Test) (o : FinalState)
     → IsWellScopedProgram test
     → IsMachineOutcome flat_memory test test.head.init_words o
@@ -165,7 +169,7 @@ HasOutcomeShape-flat_outcome test o ok (events, r) =
     record { sound = tt; cpus = omega arith; words = refl } in
     (HasOutcomeShape-replay (words_lawful n) test test.head.init_words events o ok start r).0
 
--- Events of at most as many processors as a schedule can name, and of the locations of a table, can be named in a schedule.
+-- If events are of at most `most_threads` processors, and of the locations of a table, they can be named in a schedule.
 pub IsEvent-in_range : (threads : ℕ) (names : NameTable) (events : List Event)
     → threads ≤ most_threads
     → AllByRecursion (IsEventInRange threads (length names)) events

@@ -9,7 +9,7 @@ use Rattle.lw_outcome_map.specs.Listings.{OutcomeEntries}
 use Rattle.lw_litmus.specs.Tests.{SourceTest}
 use Rattle.lw_tso_caches.specs.CompleteLists.{ListsMachine, IsComplete}
 
--- A run over flat memory has no evictions.
+-- If events lead from one state to another over flat memory, none of them is an eviction.
 pub without_evictions-flat_run : (program : List (List Instr)) (es : List Event) (s end : MachineState (List ℕ))
     → MachineRunsTo flat_memory program es s end
     → without_evictions es ≡ es
@@ -22,7 +22,7 @@ without_evictions-flat_run program (Evict t x ∷ es) s end (mid, done, ran) =
     let d : EventOccurrence program (Evict t x) s mid = EventOccurrence-of_event program (Evict t x) s mid done in
     absurd (not-EffectLeadsTo-evict_event program (length s.memory) t x d.from d.to s.memory d.words d.does)
 
--- Outcomes with the threads and locations of a compiled program have those of its source test.
+-- If outcomes have the numbers of threads and locations of a compiled program, they have those of its source test.
 pub HasOutcomeShape-of_compiled : (s : SourceTest) (program : X86Test) (starts : List (List ℕ))
     → IsCompiled s program starts
     → (outcomes : List FinalState)
@@ -33,7 +33,7 @@ HasOutcomeShape-of_compiled s program starts compiled outcomes =
 
 module _ (s : SourceTest) (program : X86Test) (starts : List (List ℕ)) (compiled : IsCompiled s program starts)
     (Has : FinalState → Type 0) (entries : OutcomeEntries) (c : IsComplete Has program entries) where
-  -- A complete list of the compiled program lists its outcomes on the whole machine, with schedules.
+  -- If a list of the compiled program is complete, it has the program's outcomes on the whole machine, with schedules.
   pub ListsMachine-of_complete : ListsMachine s entries
   ListsMachine-of_complete = record {
     program = program;

@@ -5,6 +5,7 @@ use Rattle.lw_tso.proofs.FromPhases.{MachineRunsTo-of_phases}
 use Rattle.lw_tso.proofs.IntoPhases.{InPhases-run}
 use Rattle.lw_tso.proofs.lock_laws.lock_phases_change_no_outcome.Goals as goal
 
+-- Both directions: a run in phases gives one of single steps, and a run of single steps one in phases, with the same end.
 pub returns : goal.returns
 returns c test o ok = (
   (λ a.

@@ -5,6 +5,7 @@ use Rattle.lw_tso.proofs.Common.{common_steps}
 use Rattle.lw_tso.proofs.Refilled.{all_locations-at, take-set_next}
 use Rattle.lw_tso.proofs.machine.copy_content.Goals as goal
 
+-- One more word is that of its location.
 pub loop-loc-preserved : goal.loop-loc-preserved
 loop-loc-preserved g c =
     let content = g.M.MemorySystem.content c.args.memory.now in

@@ -5,6 +5,7 @@ use Rattle.lw_tso.proofs.Common.{take_all, map_more, take_more_set}
 use Rattle.lw_tso.specs.declared.processor.Processor.{Processor as ProcessorInMemory}
 use Rattle.lw_tso.proofs.machine.copy_registers.Goals as goal
 
+-- One more row has the registers of its processor.
 pub loop-thread-preserved : goal.loop-thread-preserved
 loop-thread-preserved g c =
     let regs_in = λ (p : ProcessorInMemory g.row.A.Denot). p.regs in

@@ -13,6 +13,6 @@ offset_bounds-as_slice-index g c = omega (arith, bounds-as_slice-index g c)
 pub returns : goal.returns
 returns g c =
     let at =
-    slice_get-of_read c.args.program.now.threads _ _ c.args.cpu _ c.as_slice.ensures c.index.ensures.value c.requires
+    slice_get-of_read {xs = c.args.program.now.threads} {t = c.args.cpu} c.as_slice.ensures c.index.ensures.value c.requires
     c.index-as_slice-index.is in
     rw (get_or_from_slice_get _ c.args.cpu _ [] at) (c.copied.ensures ∙ c.get.ensures)

@@ -7,6 +7,7 @@ use Rattle.lw_tso.proofs.api.Replaying.{HasOutcomeShape-replay, IsEvent-in_range
 use Rattle.lw_tso_caches.proofs.api.Starts.{IsInitialMemory-empty_caches}
 use Rattle.lw_tso_caches.proofs.laws.replays_over_caches_are_flat.Goals as goal
 
+-- Caches of each protocol are a lawful memory, and empty ones an initial memory, so the laws for each lawful memory apply.
 pub returns : goal.returns
 returns c =
     let start =

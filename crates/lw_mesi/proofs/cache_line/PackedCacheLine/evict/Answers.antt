@@ -7,7 +7,7 @@ use Rattle.lw_mesi.proofs.PackedWrites.{unpacked-sharer_evicted, unpacked-dirty_
 use Rattle.lw_mesi.proofs.PackedWrites.{unpacked-clean_owner_evicted}
 use Rattle.lw_mesi.proofs.cache_line.PackedCacheLine.evict.Goals as goal
 
--- The state found is that of the processor's copy in the packed cache line.
+-- If the unpacked line is `line`, a state that was found for t's copy in `line` is that of t's copy in the unpacked line.
 copy_state-unpacked : (p : Inside) {line : CacheLine} (t : ℕ) {found : LineState}
     → unpacked p ≡ line
     → found ≡ copy_state (copy_of line t)

@@ -29,7 +29,8 @@ invariant_of-self-in_default c =
     (rw (c.insert-in_default-2.ensures, c.insert-in_default.ensures)
     (length-set _ _ _ ∙ (length-set _ _ _ ∙ c.self.invariant.as_many)))
 
--- The packed cache line is the line read, so the processor has no copy of it.
+-- If a well-formed packed line is `line`, unpacked, and processor t has no copy of `line`, then t is a reader of the packed
+-- line.
 IsReader-of_line : (p : Inside) {line : CacheLine} {t : ℕ}
     → unpacked p ≡ line
     → IsPacked p
@@ -39,7 +40,8 @@ IsReader-of_line : (p : Inside) {line : CacheLine} {t : ℕ}
 IsReader-of_line p {t = t} is packed cpu without =
     record { packed = packed; cpu = cpu; without = subst (λ l. copy_of l t ≡ Invalid) (sym is) without }
 
--- Whichever processor owns the cache line, the reader gets its word.
+-- If a well-formed packed line is `line`, unpacked, and processor t has no copy of `line`, then after a load by protocol q the
+-- copy of t has the packed line's word.
 copy_word-after_get_s : (p : Inside) {line : CacheLine} {t : ℕ} (q : Protocol)
     → unpacked p ≡ line
     → IsPacked p

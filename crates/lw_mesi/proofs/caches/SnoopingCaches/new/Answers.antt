@@ -7,7 +7,8 @@ use Rattle.lw_mesi.proofs.Common.{SatisfiesProtocol, common_steps}
 use Rattle.lw_mesi.proofs.Start.{SatisfiesProtocol-empty_caches}
 use Rattle.lw_mesi.proofs.caches.SnoopingCaches.new.Goals as goal
 
--- After the loop, the lines made and those of the remaining words are the lines of all words, of which none remain.
+-- If the lines made and empty lines for the words from k on are the empty lines of all words, and k is at least the number of
+-- words, then the lines made are the empty lines of all words.
 cache_lines-after_loop : (cache_lines : List CacheLine) (words : List ℕ) (k : ℕ)
     → cache_lines ++ map unheld_cache_line (drop k words) ≡ map unheld_cache_line words
     → length words ≤ k

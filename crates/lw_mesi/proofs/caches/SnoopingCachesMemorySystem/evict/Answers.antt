@@ -15,9 +15,10 @@ returns-clause-held g c =
     ∙ cache_line_value-same _ _ c.self.inside.cache_lines c.args.loc _ c.self.view_is c.index.ensures.value c.requires.loc
     (λ line. is_held (copy_state (copy_of line c.args.cpu))) _ c.index_mut-line.ensures.value
 
+-- The line after the eviction, carried out or not, satisfies the protocol, and so do the caches with it.
 pub invariant_of-self : goal.invariant_of-self
 invariant_of-self g c =
-    SatisfiesProtocol-set_line g.P.ProtocolType.protocol _ _ c.args.cpu c.args.loc c.index.result _ (record {
+    SatisfiesProtocol-set_line {x = c.args.loc} {i = c.index.result} (record {
       same = c.self.view_is;
       kept = c.self.invariant.1;
       within_line_limit = c.self.invariant.0;

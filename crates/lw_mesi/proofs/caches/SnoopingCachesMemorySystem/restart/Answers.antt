@@ -7,8 +7,9 @@ use Rattle.lw_mesi.proofs.Common.{coherent_words, SatisfiesProtocol}
 use Rattle.lw_mesi.proofs.Start.{coherent_words-empty_caches, SatisfiesProtocol-empty_caches}
 use Rattle.lw_mesi.proofs.caches.SnoopingCachesMemorySystem.restart.Goals as goal
 
--- After the last cache line is emptied, the caches are the empty caches over the words.
-caches_empty-after_loop : (before : Caches) (cache_lines old : List CacheLine) (cpus was k : ℕ) (words : List ℕ)
+-- If the first k lines are empty lines for the first k words, k is at least the number of words, and there are as many words as
+-- lines, then the caches are the empty caches over the words.
+caches_empty-after_loop : {cache_lines old : List CacheLine} {cpus was k : ℕ} (before : Caches) (words : List ℕ)
     → (let m : Caches = record { cpus = was; cache_lines = old } in m) ≡ before
     → cpus ≡ was
     → length cache_lines ≡ length old
@@ -16,12 +17,13 @@ caches_empty-after_loop : (before : Caches) (cache_lines old : List CacheLine) (
     → length words ≤ k
     → length words ≡ length (coherent_words before)
     → (let m : Caches = record { cpus = cpus; cache_lines = cache_lines } in m) ≡ empty_caches before.cpus words
-caches_empty-after_loop before cache_lines old cpus was k words is same many each past as_many =
+caches_empty-after_loop {cache_lines = cache_lines} {old = old} {k = k} before words is same many each past as_many =
     let olds = sym (length-map old coherent_word) ∙ ap (λ m. length (coherent_words m)) is ∙ sym as_many in
     let all : cache_lines ≡ map unheld_cache_line words =
     sym (take_all k cache_lines (omega (arith, many, olds))) ∙ each ∙ ap (map unheld_cache_line) (take_all k words past) in
     rw (all, same ∙ ap (λ (m : Caches). m.cpus) is) refl
 
+-- One more line is emptied, and has its initial word.
 pub loop-index-preserved : goal.loop-index-preserved
 loop-index-preserved g c =
     let cache_lines = c.loop-index.self-inside.cache_lines.items in
@@ -43,7 +45,7 @@ loop-index-preserved g c =
 
 pub returns-clause-start : goal.returns-clause-start
 returns-clause-start g c =
-    caches_empty-after_loop c.args.self.now _ _ _ _ _ c.args.words.now c.self.view_is c.loop-index.invariant.cpus
+    caches_empty-after_loop c.args.self.now c.args.words.now c.self.view_is c.loop-index.invariant.cpus
     c.loop-index.invariant.many c.loop-index.invariant.cache_lines c.loop-index-test.false c.requires
 
 pub returns-clause-words : goal.returns-clause-words

@@ -8,11 +8,12 @@ use Rattle.lw_mesi.proofs.caches.SnoopingCachesMemorySystem.update.Given.{Over}
 use Rattle.lw_mesi.proofs.caches.SnoopingCachesMemorySystem.update.Goals.{After-index_mut-line}
 use Rattle.lw_mesi.proofs.caches.SnoopingCachesMemorySystem.update.Goals as goal
 
--- The cache line, before the update.
-IsBorrowedLine-before : (g : Over) (c : After-index_mut-line g)
+-- At the call of `index_mut` the caches m, made of the fields of `self` before the call, satisfy the protocol, and the borrowed line is that
+-- of the location.
+IsBorrowedLine-at_index_mut : (g : Over) (c : After-index_mut-line g)
     → (let m : Caches = record { cpus = c.self.inside.cpus; cache_lines = c.self.inside.cache_lines.items } in
     IsBorrowedLine g.P.ProtocolType.protocol m c.args.self.now c.args.cpu c.args.loc c.index.result c.index_mut-line.result.now)
-IsBorrowedLine-before g c = record {
+IsBorrowedLine-at_index_mut g c = record {
   same = c.self.view_is;
   kept = c.self.invariant.1;
   within_line_limit = c.self.invariant.0;
@@ -27,13 +28,12 @@ index_mut-line-requires g c = index_in_range _ _ c.self.inside.cache_lines _ _ c
 
 pub invariant_of-self : goal.invariant_of-self
 invariant_of-self g c =
-    SatisfiesProtocol-set_line g.P.ProtocolType.protocol _ _ c.args.cpu _ _ _
-    (IsBorrowedLine-before g (goal.at.invariant_of-self g c).After-index_mut-line) _ (λ lt s.
+    let borrowed = IsBorrowedLine-at_index_mut g (goal.at.invariant_of-self g c).After-index_mut-line in
+    SatisfiesProtocol-set_line borrowed _ (λ lt s.
     subst (LineSatisfiesProtocol g.P.ProtocolType.protocol) (sym c.write.ensures.line)
     (LineSatisfiesProtocol-after_write _ c.args.cpu _ lt s _))
 
 pub returns-clause-served : goal.returns-clause-served
 returns-clause-served g c =
-    ProtocolTransition-borrowed g.P.ProtocolType.protocol _ _ c.args.cpu _ _ _
-    (IsBorrowedLine-before g (goal.at.returns-clause-served g c).After-index_mut-line) (table_of g.P.ProtocolType.protocol)
-    (Update c.args.change) _ _ c.write.ensures.word (cc)
+    let borrowed = IsBorrowedLine-at_index_mut g (goal.at.returns-clause-served g c).After-index_mut-line in
+    ProtocolTransition-borrowed borrowed (table_of g.P.ProtocolType.protocol) (Update c.args.change) _ _ c.write.ensures.word (cc)

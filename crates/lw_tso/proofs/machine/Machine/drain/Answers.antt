@@ -18,16 +18,17 @@ pub drain-requires-clause-locs : goal.drain-requires-clause-locs
 drain-requires-clause-locs g c =
     let mem = memory_of g.M.MemorySystem.content g.M.MemorySystem.state g.M.MemorySystem.serves in
     let within : c.args.cpu < length c.self.inside.processors.items = omega (arith, c.len.ensures, c.index.ensures.value) in
-    let at = slice_get-of_read _ _ _ _ _ refl c.index-2.ensures.value within c.index_mut-processor.ensures.value in
+    let at = slice_get-of_read refl c.index-2.ensures.value within c.index_mut-processor.ensures.value in
     entries_in_range mem _ _ _ c.self.inside.program.now.well_formed.code c.args.cpu _ c.self.invariant at
 
+-- The drain makes an event of the processor, so the machine is still a reachable one.
 pub invariant_of-self : goal.invariant_of-self
 invariant_of-self g c =
     let mem = memory_of g.M.MemorySystem.content g.M.MemorySystem.state g.M.MemorySystem.serves in
     let within : c.args.cpu < length c.self.inside.processors.items = omega (arith, c.len.ensures, c.index.ensures.value) in
     let at =
-    slice_get-of_read c.self.inside.processors.items _ _ c.args.cpu c.index_mut-processor.result.now refl c.index-2.ensures.value
-    within c.index_mut-processor.ensures.value in
+    slice_get-of_read {xs = c.self.inside.processors.items} {t = c.args.cpu} refl c.index-2.ensures.value within
+    c.index_mut-processor.ensures.value in
     rw c.index-2.ensures.value
     (IsReachableMachine-event mem _ c.self.inside.program.now.threads _ c.self.inside.program.now.well_formed.code
     g.met.M.MemorySystem.lawful (of.Drain c.args.cpu) c.index_mut-processor.result.now c.drain.new.self
@@ -38,7 +39,7 @@ pub returns-clause-done : goal.returns-clause-done
 returns-clause-done g c =
     let mem = memory_of g.M.MemorySystem.content g.M.MemorySystem.state g.M.MemorySystem.serves in
     let within : c.args.cpu < length c.self.inside.processors.items = omega (arith, c.len.ensures, c.index.ensures.value) in
-    let at = slice_get-of_read _ _ _ _ _ refl c.index-2.ensures.value within c.index_mut-processor.ensures.value in
+    let at = slice_get-of_read refl c.index-2.ensures.value within c.index_mut-processor.ensures.value in
     rw c.index-2.ensures.value
     (MachineTransition-by_effect mem _ (of.Drain c.args.cpu) c.args.self.now _ _ c.drain.new.self _ c.self.inside.memory
     c.drain.new.memory c.drain.result c.self.view_is at c.drain.ensures.done)

@@ -27,6 +27,7 @@ returns-clause-entry g c =
     c.index-2.ensures in
     rw (get_or_from_slice_get _ c.args.cpu _ [] at) c.entry.ensures
 
+-- The processor exists, since its buffer has the entry, so the entry's location is one of the memory's.
 pub returns-clause-location : goal.returns-clause-location
 returns-clause-location g c =
     let mem = memory_of g.M.MemorySystem.content g.M.MemorySystem.state g.M.MemorySystem.serves in
@@ -34,7 +35,7 @@ returns-clause-location g c =
     let many = ap length (ap (λ r. r.state.processors) c.self.view_is) in
     let within : c.args.cpu < length c.self.inside.processors.items =
     omega (arith, there, many, length-map c.self.inside.processors.items processor_of) in
-    let at = slice_get-of_read _ _ _ c.args.cpu c.index-2.result.now refl c.index.ensures.value within c.index-2.ensures in
+    let at = slice_get-of_read {t = c.args.cpu} {x = c.index-2.result.now} refl c.index.ensures.value within c.index-2.ensures in
     let all = entries_in_range _ _ _ _ c.self.inside.program.now.well_formed.code _ _ c.self.invariant at in
     let entries = c.index-2.result.now.buffer.entries in
     let got = get_or_from_slice_get entries c.args.index c.entry.result c.entry.result c.entry.ensures in

@@ -15,7 +15,8 @@ use Rattle.lw_tso.proofs.machine.Machine.evict.Goals as goal
 abbrev memory : (g : Over) → Memory g.row.M.Denot
 memory g = memory_of g.M.MemorySystem.content g.M.MemorySystem.state g.M.MemorySystem.serves
 
--- The processor exists, so the machine evicts as its memory does.
+-- If the processor exists, and its eviction leads from the memory to n with this answer, the machine makes the transition of
+-- the eviction.
 MachineTransition-evict : (g : Over) (c : After-location_count g) (n : g.row.M.Denot) (answer : EventResult)
     → EvictionLeadsTo (memory g) c.self.inside.program.now.threads c.args.cpu c.args.loc c.self.inside.memory answer n
     → MachineTransition (memory g) c.args.self.now.program (of.Evict c.args.cpu c.args.loc) c.args.self.now.state answer
@@ -30,6 +31,7 @@ returns-then-len-index-clause-done g c =
     MachineTransition-no_cpu (memory g) _ (of.Evict c.args.cpu c.args.loc) _ c.self.inside.processors _ _ c.self.view_is
     c.len.ensures c.index.ensures.value c.if-len-index.true
 
+-- The location does not exist, so the eviction is refused.
 pub returns-then-location_count-index-clause-done : goal.returns-then-location_count-index-clause-done
 returns-then-location_count-index-clause-done g c =
     let past : length (g.M.MemorySystem.content c.self.inside.memory) ≤ c.args.loc =

@@ -7,7 +7,7 @@ use Rattle.lw_tso.proofs.Common.{initial_processor, MachineState, IsReachableMac
 use Rattle.lw_tso.proofs.Starts.{IsReachableMachine-start, stores_fit-same_rooms}
 use Rattle.lw_tso.proofs.machine.Machine.restart.Goals as goal
 
--- Overwriting a whole list gives the new items.
+-- If xs is as long as ys, and n is that length, the first n items of xs followed by those of ys after it are xs.
 take-overwritten : {X : Type 0} (xs ys : List X) {n : ℕ}
     → length xs ≡ length ys
     → n ≡ length ys
@@ -21,6 +21,7 @@ take-overwritten xs ys {n = n} many is =
 abbrev state_of : {M : Type 0} → List Processor → M → MachineState M
 state_of processors memory = record { processors = processors; memory = memory }
 
+-- All processors are initial ones, with the rooms that they had, over a memory that was reset: the machine is a reachable one.
 pub invariant_of-self : goal.invariant_of-self
 invariant_of-self g c =
     let mem = memory_of g.M.MemorySystem.content g.M.MemorySystem.state g.M.MemorySystem.serves in
@@ -42,6 +43,7 @@ invariant_of-self g c =
     let many = c.restart_all.auto.processors ∙ ap length c.deref_mut.ensures.value in
     subst (IsReachableMachine mem inv program locs m) (sym (take-overwritten now _ many c.self.inside.processors.ok.0)) made
 
+-- There are as many processors as rows of initial registers.
 pub restart_all-requires : goal.restart_all-requires
 restart_all-requires g c =
     let known = c.self.inside.program.now.well_formed in

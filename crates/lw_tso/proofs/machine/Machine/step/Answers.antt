@@ -6,6 +6,7 @@ use Rattle.lw_tso.proofs.Common.{memory_of}
 use Rattle.lw_tso.proofs.Acts.{IsAfterEvent-of_transition}
 use Rattle.lw_tso.proofs.machine.Machine.step.Goals as goal
 
+-- A step is carried out by `step_thread`.
 pub returns-in-Step : goal.returns-in-Step
 returns-in-Step g c =
     let mem = memory_of g.M.MemorySystem.content g.M.MemorySystem.state g.M.MemorySystem.serves in
@@ -21,6 +22,7 @@ returns-in-Step g c =
       words = it.words;
     }
 
+-- A drain is carried out by `drain`.
 pub returns-in-Drain : goal.returns-in-Drain
 returns-in-Drain g c =
     let mem = memory_of g.M.MemorySystem.content g.M.MemorySystem.state g.M.MemorySystem.serves in
@@ -36,6 +38,7 @@ returns-in-Drain g c =
       words = it.words;
     }
 
+-- An eviction is carried out by `evict`.
 pub returns-in-Evict : goal.returns-in-Evict
 returns-in-Evict g c =
     let mem = memory_of g.M.MemorySystem.content g.M.MemorySystem.state g.M.MemorySystem.serves in
