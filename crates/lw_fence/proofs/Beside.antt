@@ -5,9 +5,9 @@ use Rattle.lw_fence.proofs.Common.{registers, IsWellScopedSource, ◌≡◌, ℕ
 use Rattle.lw_fence.proofs.Common.{sym, ap, ap₂, ◌∙◌, subst₂, arith, length-set, slice_get, slice_set}
 use Rattle.lw_fence.proofs.Common.{length-map, All-from_recursion, same_Some, slice_get_within}
 use Rattle.lw_fence.proofs.Common.{get_or_from_slice_get, TestHead, FinalState, X86, OfFellows-set_both}
-use Rattle.lw_fence.proofs.Common.{slice_get-in_range, get-map, maps_equal-at_each_index, flat_memory}
-use Rattle.lw_fence.proofs.Common.{SourceTest, X86Test, Thread, State, initial_state, source_outcome}
-use Rattle.lw_fence.proofs.Common.{state_of, MachineState, Processor, initial_processor}
+use Rattle.lw_fence.proofs.Common.{slice_get-in_range, slice_get-map_inv, maps_equal-at_each_index}
+use Rattle.lw_fence.proofs.Common.{flat_memory, SourceTest, X86Test, Thread, State, initial_state}
+use Rattle.lw_fence.proofs.Common.{source_outcome, state_of, MachineState, Processor, initial_processor}
 use Rattle.lw_fence.proofs.Common.{initial_machine_state, machine_outcome, state}
 use Rattle.lw_interleaving.specs.Runs.{initial_thread as thread_starting}
 
@@ -78,7 +78,8 @@ module _ (source : SourceTest) (At : ℕ → Thread → Processor → Type 0) wh
     as_many = length-map source.head.init_regs _ ∙ row_per_thread;
     as_many_processors = length-map source.head.init_regs _ ∙ row_per_thread;
     at = λ t th c e f.
-        At-of_rows t th c (get-map thread_starting _ t th e) (get-map initial_processor source.head.init_regs t c f);
+        At-of_rows t th c (slice_get-map_inv thread_starting _ t th e)
+        (slice_get-map_inv initial_processor source.head.init_regs t c f);
   }
     where
       -- Each thread has a row of registers.

@@ -188,7 +188,8 @@ module _ (starts : List ℕ) (v : Thread) where
     abbrev ExecutesFrom : Stmt → Lowered → Type 0
     ExecutesFrom s r = slice_index starts (v.position + 1) ≡ p.position + length (instrs_of r) → ExecutesLowering starts v s p r
 
-    -- An instruction before the last only advances.
+    -- If an instruction leads p only to r, one position later with the same buffer, and i on r executes the statement s, then
+    -- each state q to which it leads is r: it advances to the last instruction i, and the words are unchanged.
     AdvancesToLast-of_step : (s : Stmt) (r q : Processor) (i : Instr) (m n : List ℕ)
         → r.position ≡ p.position + 1
         → r.buffer ≡ p.buffer
@@ -205,7 +206,8 @@ module _ (starts : List ℕ) (v : Thread) where
         AdvancesToLast-of_step (Load d x) _ q (x86.Load d x) m n refl refl
         (EffectExecutesStatement-load _ (omega arith) d x regs once.0) once.1
 
-    -- A lowering that moves a register first.
+    -- If the last instruction executes the statement s once register a has been moved to d, then the lowering that moves a to d
+    -- first, if they differ, executes s.
     ExecutesLowering-moved : (s : Stmt) (d a : ℕ) (last : Instr)
         → ((q : Processor)
         → slice_index starts (v.position + 1) ≡ q.position + 1
@@ -227,7 +229,8 @@ module _ (starts : List ℕ) (v : Thread) where
     start-of_jump true to next = refl
     start-of_jump false to next = sym next
 
-    -- A jump after a comparison, by the flag that the comparison sets.
+    -- If a statement without a location jumps by whether register a has the word k, a comparison of a with k and a jump by the
+    -- flag that it sets execute the statement.
     ExecutesLowering-jump : {s : Stmt} (a k to : ℕ) {i : Instr} (guard_of_flag : Bool → Bool)
         → IsLocal s
         → ((q : Processor)
@@ -246,7 +249,8 @@ module _ (starts : List ℕ) (v : Thread) where
         ∙ jump
         ∙ ap (λ t. slice_index starts t.position) (sym after)) (regs ∙ ap (λ t. t.regs) (sym after))) done
 
-    -- The lowering of a statement, with or without a fence, executes the statement.
+    -- If the thread has six registers, the statement's registers exist, and a load without a fence finds an empty buffer, then
+    -- the lowering of the statement s, with or without a fence, executes s.
     pub ExecutesLowering-lowered : (s : Stmt) {fence : Bool}
         → length v.regs ≡ registers
         → All IsRegisterIndex (registers_of (source_operation s))

@@ -9,7 +9,7 @@ use Rattle.lw_fence.proofs.Common.{X86, at_index, Stmt, IfEq, SourceTest, X86Tes
 use Rattle.lw_fence.proofs.Common.{NeedsFence, lowered, instrs_of, lowered_code, starts_from}
 use Rattle.lw_fence.proofs.Common.{IsCompiledThread, IsCompiled, IsThreadWith, IsCompiledWith}
 
--- What holds of both of two lowerings holds of the one that a test selects.
+-- If P holds of r when b is true, and of s when b is false, then it holds of the one that b selects.
 pub both_cases-selected : (P : Lowered → Type 0) (b : Bool) (r s : Lowered)
     → (b ≡ true → P r)
     → (b ≡ false → P s)
@@ -31,7 +31,7 @@ ContainsAt-middle (i ∷ is) pre post =
     let next : length (pre ++ i ∷ []) ≡ length pre + 1 = omega (arith, length-append pre (i ∷ [])) in
     (here, subst₂ (λ l k. ContainsAt l k is) (append_assoc pre (i ∷ []) (is ++ post)) next (ContainsAt-middle is _ post))
 
--- The length of a lowering does not depend on its jumps' targets.
+-- The length of a lowering, with or without a fence (f), does not depend on its jumps' targets.
 pub length-lowered_any_starts : (starts : List ℕ) (f : Bool) (x : Stmt)
     → length (instrs_of (lowered [] f x)) ≡ length (instrs_of (lowered starts f x))
 length-lowered_any_starts starts f (IfEq r n to) = refl
@@ -70,12 +70,12 @@ length-lowered_code-cons starts n fences x code = omega (
   length-append (instrs_of (lowered starts (get_or fences 0 false) x)) (lowered_code starts (drop 1 fences) code),
 )
 
--- The first start is where the thread begins.
+-- The first of the starts from n on is n.
 pub starts_from-first : (n : ℕ) (fences : List Bool) (code : List Stmt) → slice_index (starts_from n fences code) 0 ≡ n
 starts_from-first n fences [] = refl
 starts_from-first n fences (x ∷ code) = ap (λ l. slice_index l 0) (starts_from-cons n fences x code)
 
--- The last start is after all instructions.
+-- The last of the starts from n on is n and the number of all instructions.
 starts_from-last : (starts : List ℕ) (n : ℕ) (fences : List Bool) (code : List Stmt)
     → slice_index (starts_from n fences code) (length code) ≡ n + length (lowered_code starts fences code)
 starts_from-last starts n fences [] = omega arith
@@ -84,7 +84,8 @@ starts_from-last starts n fences (x ∷ code) =
     ∙ starts_from-last starts (start_after_first n fences x) (drop 1 fences) code
     ∙ sym (length-lowered_code-cons starts n fences x code)
 
--- The lowerings, split at the lowering of statement j, and the starts of that and of the next one.
+-- The lowerings, split at that of statement j, which is x and has a fence if f is `true`; and the starts of that and of the
+-- next one.
 record LoweredCodeSplit (starts : List ℕ) (n : ℕ) (fences : List Bool) (code : List Stmt) (j : ℕ) (f : Bool)
     (x : Stmt) : Type 0 where
   before : List Instr
@@ -268,7 +269,8 @@ module _ (fences : List Bool) (code : List Stmt) (i : ℕ) (x : Stmt) (within : 
   drop_fences_cons : drop i fences ≡ fence ∷ drop (suc i) fences
   drop_fences_cons = drop-cons fences i false (omega (arith, within, as_many))
 
-  -- One more statement: all instructions are those emitted so far, this statement's, and those of the rest.
+  -- If all instructions are those emitted so far and those of the statements from i on, then after those of statement i are
+  -- emitted they are those emitted so far and those of the statements from i + 1 on.
   pub lowered_code-push : (starts : List ℕ) (out : List Instr) {new : List Instr}
       → lowered_code starts fences code ≡ out ++ lowered_code starts (drop i fences) (drop i code)
       → new ≡ out ++ instrs_of (lowered starts (get_or fences i false) x)
@@ -280,7 +282,8 @@ module _ (fences : List Bool) (code : List Stmt) (i : ℕ) (x : Stmt) (within : 
       ∙ sym (append_assoc out (instrs_of (lowered starts fence x)) rest)
       ∙ rw (more, add-one) refl
 
-  -- One more statement: all starts are those listed so far, this statement's start n, and those of the rest.
+  -- If all starts are those listed so far and those of the statements from i on, the first of which starts at n, then after n
+  -- is listed they are those listed so far and those of the statements from i + 1 on.
   pub starts_from-push : (k n : ℕ) (out new : List ℕ)
       → starts_from 0 fences code ≡ out ++ starts_from n (drop i fences) (drop i code)
       → k ≡ length (instrs_of (lowered [] (get_or fences i false) x))

@@ -21,11 +21,11 @@ pub use Rattle.std.specs.List.{AllByRecursion}
 pub use Rattle.std.specs.Option.{ForSome, option_map_or}
 pub use Rattle.lw_base.proofs.Common.{FinalState, IsRegisterIndex, IsWellFormedHead, IsWordNumber, TestHead}
 pub use Rattle.lw_base.proofs.Common.{operand_value, registers, thread_code, wrapping_sum}
-pub use Rattle.lw_base.proofs.api.Lists.{OfFellows-set_both, at_index, get-set_same, length-set_word_if_some}
-pub use Rattle.lw_base.proofs.api.Lists.{set-get_same, slice_get-append_cases, slice_get-in_range}
+pub use Rattle.lw_base.proofs.api.Lists.{OfFellows-set_both, at_index, length-set_word_if_some, set-get_same}
+pub use Rattle.lw_base.proofs.api.Lists.{slice_get-append_cases, slice_get-in_range, slice_get-slice_set_same}
 pub use Rattle.lw_base.proofs.api.Replays.{RunsTo-append}
-pub use Rattle.lw_base.proofs.api.Zips.{get-map, list_all_zip-at_index, list_all_zip-of_each}
-pub use Rattle.lw_base.proofs.api.Zips.{maps_equal-at_each_index}
+pub use Rattle.lw_base.proofs.api.Zips.{list_all_zip-at_index, list_all_zip-of_each, maps_equal-at_each_index}
+pub use Rattle.lw_base.proofs.api.Zips.{slice_get-map_inv}
 pub use Rattle.lw_base.specs.declared.event.Event.{Event}
 pub use Rattle.lw_base.specs.declared.event.Event.TheVariants.{Drain, Evict, Step}
 pub use Rattle.lw_base.specs.declared.head.Arch.TheVariants.{X86}

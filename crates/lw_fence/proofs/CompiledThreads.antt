@@ -14,7 +14,7 @@ pub record AreCompiled (codes : List (List Stmt)) (n : ℕ) (threads : List (Lis
       → IsCompiledThread code instrs begins
 
 module _ (codes : List (List Stmt)) where
-  -- Before the first thread, none is compiled.
+  -- No instructions and no starts are those of the first 0 threads, compiled.
   pub AreCompiled-none : (threads : List (List Instr)) {starts : List (List ℕ)}
       → threads ≡ []
       → starts ≡ []
@@ -26,7 +26,7 @@ module _ (codes : List (List Stmt)) where
         absurd (omega (arith, slice_get_within threads t instrs there, ap length no_threads));
   }
 
-  -- Appending the compiled next thread extends the first n compiled threads to `n + 1`.
+  -- If the first n threads are compiled to these lists, appending the compiled thread n gives those of the first n + 1.
   pub AreCompiled-push : {n : ℕ} {threads next : List (List Instr)} {starts more : List (List ℕ)} {code : List Stmt}
       {instrs : List Instr} {begins : List ℕ}
       → AreCompiled codes n threads starts

@@ -6,7 +6,7 @@ use Rattle.lw_fence.proofs.Common.{MachineRunsTo, initial_machine_state, CanTerm
 use Rattle.lw_fence.proofs.Common.{words_invariant, words_lawful}
 use Rattle.lw_fence.proofs.Programs.{IsWellScopedProgram-compiled}
 
--- Each run of a well-scoped program can be brought to its end.
+-- From each state that a run of a well-scoped program over flat memory reaches, further events lead to a final state.
 pub CanTerminate-well_scoped : (p : X86Test)
     → IsWellScopedProgram p
     → (events : List Event) (s : MachineState (List ℕ))
@@ -16,7 +16,8 @@ CanTerminate-well_scoped p well_scoped events s ran =
     CanTerminate-reached flat_memory (words_invariant (length p.threads)) (words_lawful (length p.threads)) p well_scoped
     p.head.init_words events s (record { sound = tt; cpus = omega arith; words = refl }) ran
 
--- Whatever the machine has done of a compiled program, it can continue to an end.
+-- From each state that a run of a program compiled from a well-scoped source reaches over flat memory, further events lead to a
+-- final state.
 pub CanTerminate-compiled : (s : SourceTest) (p : X86Test) (starts : List (List ℕ))
     → IsWellScopedSource s
     → IsCompiled s p starts

@@ -11,7 +11,7 @@ use Rattle.lw_fence.proofs.Common.{source_operation, HasOperation, IsReachableFr
 abbrev is_some_load : Option Stmt → Bool
 is_some_load o = option_map_or (λ s. is_load (source_operation s)) o false
 
--- The position of a load is within the code.
+-- If the code has a load at position j, then j is within the code.
 position_in_range-of_load : (code : List Stmt) (j : ℕ) → HasOperation is_load code j → j < length code
 position_in_range-of_load code j h =
     ⊎_elim (λ lt. lt) (λ past. absurd (false≢true (subst (λ o. is_some_load o ≡ true) (slice_get_past code j past) h)))
@@ -27,14 +27,15 @@ module _ (code : List Stmt) (marks : List Bool) where
     pub as_many : length fences ≡ index
     pub each : (j : ℕ) (b : Bool) → slice_get fences j ≡ Some b → b ≡ is_needed j
 
-  -- Before the first statement no fence is found.
+  -- The empty list of flags is that of the first 0 statements.
   pub AreFencesOfFirst-none : (fences : List Bool) → fences ≡ [] → AreFencesOfFirst 0 fences
   AreFencesOfFirst-none fences is_nil = record {
     as_many = ap length is_nil;
     each = λ j b at. absurd (omega (arith, slice_get_within fences j b at, ap length is_nil));
   }
 
-  -- One more statement: its flag is set if it is a marked load.
+  -- If `fences` has the flags of the first statements, and b says whether the next one is a marked load, appending b gives the
+  -- flags of one statement more.
   pub AreFencesOfFirst-push : (index : ℕ) (fences : List Bool) {new : List Bool} (b : Bool) {s : Stmt}
       → AreFencesOfFirst index fences
       → slice_get code index ≡ Some s
@@ -48,7 +49,7 @@ module _ (code : List Stmt) (marks : List Bool) where
         (slice_get-append_cases fences b d j (subst (λ (l : List Bool). slice_get l j ≡ Some d) e got));
   }
     where
-      -- The flag that is appended is the one that the statement at this index needs.
+      -- The flag d at the index of the statement that was read is b, and is the one that this statement needs.
       newest_flag_eq : (j : ℕ) (d : Bool) → (j ≡ length fences) × (b ≡ d) → d ≡ is_needed j
       newest_flag_eq j d last =
           let here = is ∙ ap (λ (o : Option Stmt). is_some_load o && slice_index_or marks index false) (sym found_at) in

@@ -21,7 +21,7 @@ use Rattle.lw_fence.proofs.ThreadSimulation.{Stage, whole, midway}
 use Rattle.lw_fence.proofs.PendingStores.{HasPendingStores, nothing, ThreadMoves-pending_statements}
 use Rattle.lw_fence.proofs.CodeLayout.{IsFencedAsNeeded, ContainsAt, IsFencedAsNeeded-at}
 
--- A lowering is not empty, so the code is longer than its position.
+-- If the code has a lowering, which is not empty, at k, then k is within the code.
 position_in_range-of_lowering : (instrs : List Instr) (k : ℕ) (r : Lowered)
     → ContainsAt instrs k (instrs_of r)
     → k < length instrs
@@ -32,7 +32,8 @@ position_in_range-of_lowering instrs k (Two i j) has = slice_get_within instrs k
 abbrev pub HasEnded : List Stmt → Thread → Processor → Type 0
 HasEnded code th c = (length code ≤ th.position) × (th.regs ≡ c.regs)
 
--- If the processor is at its end, so is a thread without pending statements.
+-- If the processor is past its end, and at the stage of the thread v of a code fenced as needed, then v is at its end, with the
+-- processor's registers.
 HasEnded-of_stage : {code : List Stmt} (instrs : List Instr) (starts : List ℕ) (v : Thread) (c : Processor)
     → IsFencedAsNeeded code instrs starts
     → Stage code instrs starts v c
@@ -41,7 +42,7 @@ HasEnded-of_stage : {code : List Stmt} (instrs : List Instr) (starts : List ℕ)
 HasEnded-of_stage {code = code} instrs starts v c placed (whole position regs) past =
     (⊎_elim past_end-if_ended (λ ge. ge) (cases_lt v.position (length code)), sym regs)
   where
-    -- In its code the thread has a lowering ahead, which its processor has not passed.
+    -- If v were before its end, a lowering that its processor has not passed would be ahead: so v is at its end.
     past_end-if_ended : v.position < length code → length code ≤ v.position
     past_end-if_ended in_range =
         let s = slice_get-in_range code v.position in_range in
@@ -56,7 +57,7 @@ HasEnded-of_stage {code = code} instrs starts v c placed (whole position regs) p
 HasEnded-of_stage instrs starts v c placed (midway s i at stands ends) past =
     absurd (omega (arith, slice_get_within instrs c.position i stands, past))
 
--- A processor that is done is at its end, with an empty store buffer.
+-- If a processor has terminated, it is at the end of its code, with an empty store buffer.
 has_terminated-inv : (code : List Instr) (c : Processor)
     → has_terminated code c ≡ true
     → (length code ≤ c.position) × (c.buffer ≡ [])
@@ -81,7 +82,8 @@ module _ (source : SourceTest) (program : X86Test) (starts : List (List ℕ)) (c
     pub simulated_to_end : SimulatedToEnd source program starts ss end ms
     pub first_ended : AreFirstOver end n
 
-  -- Thread n catches up.
+  -- If the source lags behind the machine, which has ended, and its first n threads are at their ends, then after some steps
+  -- its first n + 1 are.
   CaughtUp-one_thread : (n : ℕ) (ss : State) (th : Thread) (c : Processor)
       → SimulationRelation source program starts ss ms
       → AreFirstOver ss n
@@ -121,7 +123,7 @@ module _ (source : SourceTest) (program : X86Test) (starts : List (List ℕ)) (c
           (list_all_zip-at_index (λ x. has_terminated x.0 x.1) program.threads ms.processors n (thread_code program.threads n) c
           final (at_index program.threads n [] (omega (arith, in_range, compiled.as_many))) processor_at)
 
-      -- When it has caught up, it lags by nothing.
+      -- The thread that has caught up lags by nothing.
       lag_of_caught_up : LagAt source program starts n lag_of_thread.ahead c
       lag_of_caught_up = record {
         ahead = lag_of_thread.ahead;
@@ -132,13 +134,13 @@ module _ (source : SourceTest) (program : X86Test) (starts : List (List ℕ)) (c
         in_bounds = lag_of_thread.in_bounds;
       }
 
-      -- Then the thread has ended too.
+      -- The thread that has caught up has ended.
       thread_has_ended : HasEnded (thread_code source.threads n) lag_of_thread.ahead c
       thread_has_ended =
           HasEnded-of_stage (thread_code program.threads n) (thread_code starts n) lag_of_thread.ahead c
           (IsFencedAsNeeded-at source program starts compiled n in_range) lag_of_thread.stage processor_has_ended.0
 
-  -- The first n threads catch up, one after another.
+  -- If the source lags behind the machine, which has ended, then after some steps its first n threads are at their ends.
   pub CaughtUp-first_threads : (n : ℕ) (ss : State)
       → n ≤ length source.threads
       → SimulationRelation source program starts ss ms
@@ -148,11 +150,11 @@ module _ (source : SourceTest) (program : X86Test) (starts : List (List ℕ)) (c
     simulated_to_end = SimulatedToEnd-refl source program starts b;
     first_ended = λ t th c e f lt. absurd (omega arith);
   }
-  CaughtUp-first_threads (suc n) ss le b = CaughtUp-suc (CaughtUp-first_threads n ss (omega arith) b)
+  CaughtUp-first_threads (suc n) ss le b = CaughtUp-next (CaughtUp-first_threads n ss (omega arith) b)
     where
-      -- One thread more catches up.
-      CaughtUp-suc : CaughtUp ss n → CaughtUp ss (suc n)
-      CaughtUp-suc d =
+      -- If the first n threads can catch up, so can the first n + 1.
+      CaughtUp-next : CaughtUp ss n → CaughtUp ss (suc n)
+      CaughtUp-next d =
           let th = ThreadsCorrespond-thread source (LagAt source program starts) d.end ms d.simulated_to_end.related n le in
           let c = ThreadsCorrespond-processor source (LagAt source program starts) d.end ms d.simulated_to_end.related n le in
           let a = CaughtUp-one_thread n d.end th.0 c.0 d.simulated_to_end.related d.first_ended le th.1 c.1 in
@@ -173,7 +175,7 @@ module _ (source : SourceTest) (program : X86Test) (starts : List (List ℕ)) (w
     in_bounds = record { register_count = six; position_in_range = omega arith };
   })
 
-  -- Where all threads are at their ends, the source has ended.
+  -- If the source lags behind the machine, which has ended, and all its threads are at their ends, then the source has ended.
   is_over-all_threads : (ss : State) (ms : MachineState (List ℕ)) (final : IsTrue (is_final program.threads ms))
       → SimulationRelation source program starts ss ms
       → AreFirstOver source program starts compiled ms final ss (length source.threads)
@@ -191,7 +193,7 @@ module _ (source : SourceTest) (program : X86Test) (starts : List (List ℕ)) (w
           let own : thread_code source.threads t ≡ code = get_or_from_slice_get source.threads t code [] thread_at in
           le-leb (length code) th.position (omega (arith, (first_ended t th c.0 f c.1 within).0, ap length own))
 
--- An outcome of the compiled program is one of the source.
+-- Each outcome over flat memory of a program compiled from a well-scoped source is an outcome of the source.
 pub SourceOutcome-of_machine : (s : SourceTest) (p : X86Test) (starts : List (List ℕ)) (o : FinalState)
     → IsWellScopedSource s
     → IsCompiled s p starts

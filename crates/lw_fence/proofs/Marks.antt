@@ -16,7 +16,7 @@ use Rattle.lw_fence.proofs.Common.{IsReachableFromStore}
 abbrev pub MayWait : List Stmt → Option Stmt → ℕ → Type 0
 MayWait code o i = HasKind is_store o ⊎ (HasKind preserves_pending_stores o × IsReachableFromStore code i)
 
--- A flow path can be extended by one step.
+-- If a flow path ends at i, and j is a flow successor of i, then the path with j appended is a flow path.
 IsFlowPath-push : (code : List Stmt) (s : ℕ) (between : List ℕ) (i j : ℕ)
     → IsFlowPath code (s ∷ (between ++ i ∷ []))
     → IsFlowSuccessor source_language (slice_get code i) i j
@@ -32,7 +32,7 @@ HasOperation-push : (code : List Stmt) (between : List ℕ) (i : ℕ)
 HasOperation-push code [] i a p = (p, tt)
 HasOperation-push code (k ∷ between) i a p = (a.0, HasOperation-push code between i a.1 p)
 
--- A step from a position after which a store may be buffered leads to one that is reachable from a store.
+-- If a store may be in the buffer after the statement at i, each flow successor of i is reachable from a store.
 IsReachableFromStore-successor : (code : List Stmt) (i j : ℕ)
     → IsFlowSuccessor source_language (slice_get code i) i j
     → MayWait code (slice_get code i) i
@@ -114,8 +114,8 @@ length-with_mark (Some a) marks = length-set marks a true
 abbrev next_position : Operation → ℕ → Option ℕ
 next_position o i = if falls_through o then Some (i + 1) else None
 
--- There is a next position only if the operation falls through.
-next_position-sound : (b : Bool) (i j : ℕ) → (if b then Some (i + 1) else None) ≡ Some j → (b ≡ true) × (j ≡ i + 1)
+-- If there is a next position j, the operation falls through, and j is i + 1.
+next_position-sound : (falls : Bool) (i j : ℕ) → (if falls then Some (i + 1) else None) ≡ Some j → (falls ≡ true) × (j ≡ i + 1)
 next_position-sound true i j e = (refl, same_Some j (i + 1) (sym e))
 next_position-sound false i j e = absurd cc
 
@@ -134,7 +134,7 @@ is_marked-kept_by_successors : (o : Operation) (i : ℕ) (marks : List Bool) (j 
 is_marked-kept_by_successors o i marks j h =
     is_marked-kept_by_mark (next_position o i) _ j (is_marked-kept_by_mark (branch_target o) marks j h)
 
--- Each successor of the operation is marked then.
+-- After an operation's successors are marked, each successor within the marks is marked.
 is_marked-successor : (o : Operation) (i : ℕ) (marks : List Bool) (j : ℕ)
     → IsSuccessor o i j
     → j < length marks
@@ -150,37 +150,40 @@ is_marked-successor o i marks j (inr target) in_range =
 length-mark_successors : (o : Operation) (i : ℕ) (marks : List Bool) → length (mark_successors o i marks) ≡ length marks
 length-mark_successors o i marks = length-with_mark (next_position o i) _ ∙ length-with_mark (branch_target o) marks
 
--- If the test by a mark says that a store may be buffered after a statement, one may be.
-MayWait-if_may_wait : (code : List Stmt) (i : ℕ) (x : Stmt) (b : Bool)
-    → may_wait (source_operation x) b ≡ true
-    → (b ≡ true → IsReachableFromStore code i)
+-- If the test says that a store may be in the buffer after the statement at i, and its argument `mark` is set only if position i is
+-- reachable from a store, then one may be.
+may_wait-sound : (code : List Stmt) (i : ℕ) (x : Stmt) (mark : Bool)
+    → may_wait (source_operation x) mark ≡ true
+    → (mark ≡ true → IsReachableFromStore code i)
     → MayWait code (Some x) i
-MayWait-if_may_wait code i x b h d =
-    MayWait-by_kind (is_store (source_operation x)) (preserves_pending_stores (source_operation x)) b h d
+may_wait-sound code i x mark test if_marked =
+    MayWait-by_kind (is_store (source_operation x)) (preserves_pending_stores (source_operation x)) mark test if_marked
   where
     -- By whether the statement is a store, and whether it preserves pending stores.
-    MayWait-by_kind : (s w b : Bool)
-        → (s || (w && b)) ≡ true
-        → (b ≡ true → IsReachableFromStore code i)
-        → (s ≡ true) ⊎ ((w ≡ true) × IsReachableFromStore code i)
-    MayWait-by_kind true w b h d = inl refl
-    MayWait-by_kind false true b h d = inr (refl, d h)
-    MayWait-by_kind false false b h d = absurd (false≢true h)
+    MayWait-by_kind : (stores preserves mark : Bool)
+        → (stores || (preserves && mark)) ≡ true
+        → (mark ≡ true → IsReachableFromStore code i)
+        → (stores ≡ true) ⊎ ((preserves ≡ true) × IsReachableFromStore code i)
+    MayWait-by_kind true preserves mark test if_marked = inl refl
+    MayWait-by_kind false true mark test if_marked = inr (refl, if_marked test)
+    MayWait-by_kind false false mark test if_marked = absurd (false≢true test)
 
--- If a store may be buffered after a statement, the test by its mark says so.
-may_wait-complete : {code : List Stmt} {i : ℕ} (x : Stmt) (b : Bool)
+-- If a store may be in the buffer after the statement at i, and the test's argument `mark` is set if position i is reachable from a store,
+-- then the test says so.
+may_wait-complete : {code : List Stmt} {i : ℕ} (x : Stmt) (mark : Bool)
     → MayWait code (Some x) i
-    → (IsReachableFromStore code i → b ≡ true)
-    → may_wait (source_operation x) b ≡ true
-may_wait-complete x b (inl store) d = ap (λ s. s || (preserves_pending_stores (source_operation x) && b)) store
-may_wait-complete x b (inr waits) d = may_wait-by_kind (is_store (source_operation x)) _ b waits.0 (d waits.1)
+    → (IsReachableFromStore code i → mark ≡ true)
+    → may_wait (source_operation x) mark ≡ true
+may_wait-complete x mark (inl store) is_marked_if = ap (λ s. s || (preserves_pending_stores (source_operation x) && mark)) store
+may_wait-complete x mark (inr waits) is_marked_if =
+    may_wait-by_kind (is_store (source_operation x)) _ mark waits.0 (is_marked_if waits.1)
   where
-    -- By whether the statement is a store.
-    may_wait-by_kind : (s w b : Bool) → w ≡ true → b ≡ true → (s || (w && b)) ≡ true
-    may_wait-by_kind true w b e f = refl
-    may_wait-by_kind false w b e f = ap₂ (λ (p q : Bool). p && q) e f
+    -- By whether the statement is a store: one that preserves pending stores passes the test if the mark is set.
+    may_wait-by_kind : (stores preserves mark : Bool) → preserves ≡ true → mark ≡ true → (stores || (preserves && mark)) ≡ true
+    may_wait-by_kind true preserves mark is_preserved is_set = refl
+    may_wait-by_kind false preserves mark is_preserved is_set = ap₂ (λ (p q : Bool). p && q) is_preserved is_set
 
--- A successor of the operation at i is after i, and at most the end n.
+-- If the operation at i < n jumps only forward, at most to the end n, each successor of it is after i, and at most n.
 pub IsSuccessor-forward : (n i j : ℕ) (o : Operation)
     → ForSome (branch_target o) (λ to. (i < to) × (to ≤ n))
     → i < n
@@ -226,7 +229,7 @@ module _ (code : List Stmt)
       let l = IsReachableFromStore-last_step code j b.store b.between (inl b.stores) b.path b.preserved in
       m.complete l.0 j (omega (arith, le, some_forward l.0 j (slice_get code l.0) refl l.1)) l.1 l.2
 
-  -- What holds at an index, which is i.
+  -- If P holds of the statement at k, and k is i, at which the statement x is, then P holds of x at i.
   at_same_index : (P : Option Stmt → ℕ → Type 0) (k i : ℕ) (x : Stmt)
       → slice_get code i ≡ Some x
       → k ≡ i
@@ -234,19 +237,19 @@ module _ (code : List Stmt)
       → P (Some x) i
   at_same_index P k i x found_at same h = subst (λ o. P o i) found_at (subst (λ n. P (slice_get code n) n) same h)
 
-  -- The next statement: if a store may be buffered after it, its successors are marked too.
-  pub AreMarksAfter-suc : (i : ℕ) (x : Stmt) (marks : List Bool) (b : Bool)
+  -- If the marks are those after i statements, then, with the successors of the statement at i marked too if a store may be in
+  -- the buffer after it (b), they are those after i + 1.
+  pub AreMarksAfter-next : (i : ℕ) (x : Stmt) (marks : List Bool) (b : Bool)
       → slice_get code i ≡ Some x
       → may_wait (source_operation x) (is_marked marks i) ≡ b
       → AreMarksAfter code i marks
       → AreMarksAfter code (i + 1) (if b then mark_successors (source_operation x) i marks else marks)
-  AreMarksAfter-suc i x marks true found_at c m = record {
+  AreMarksAfter-next i x marks true found_at c m = record {
     as_many = length-mark_successors (source_operation x) i marks ∙ m.as_many;
     sound = λ j h.
         ⊎_elim (λ old. m.sound j old)
         (λ f.
-        IsReachableFromStore-of_statement code j found_at f
-        (MayWait-if_may_wait code i x (is_marked marks i) c (λ h. m.sound i h)))
+        IsReachableFromStore-of_statement code j found_at f (may_wait-sound code i x (is_marked marks i) c (λ h. m.sound i h)))
         (is_marked-successors_inv (source_operation x) i marks j h);
     complete = λ k j lt f g.
         ⊎_elim
@@ -255,7 +258,7 @@ module _ (code : List Stmt)
         (omega (arith, m.as_many, some_forward k j (slice_get code k) refl f)))
         (λ ne. is_marked-kept_by_successors (source_operation x) i marks j (m.complete k j (omega arith) f g)) (cases_eq k i);
   }
-  AreMarksAfter-suc i x marks false found_at c m = record {
+  AreMarksAfter-next i x marks false found_at c m = record {
     as_many = m.as_many;
     sound = m.sound;
     complete = λ k j lt f g.
@@ -267,9 +270,9 @@ module _ (code : List Stmt)
       no_wait_at_index : MayWait code (Some x) i → ⊥
       no_wait_at_index g = false≢true (sym c ∙ may_wait-complete x _ g (λ d. AreMarksAfter-complete m i (omega arith) d))
 
-  -- Before the first statement no position is marked.
-  pub AreMarksAfter-zero : AreMarksAfter code 0 (replicate (suc (length code)) false)
-  AreMarksAfter-zero = record {
+  -- If no position is marked, the marks are those after 0 statements.
+  pub AreMarksAfter-at_start : AreMarksAfter code 0 (replicate (suc (length code)) false)
+  AreMarksAfter-at_start = record {
     as_many = length-replicate (suc (length code)) false;
     sound = λ j h. absurd (false≢true (sym (is_marked-replicate (suc (length code)) j) ∙ h));
     complete = λ k j lt f g. absurd (omega arith);
@@ -280,7 +283,7 @@ module _ (code : List Stmt)
       is_marked-replicate (suc n) (suc j) = is_marked-replicate n j
       is_marked-replicate _ _ = refl
 
-  -- When all statements have been passed, exactly the positions reachable from stores are marked.
+  -- If the marks are those after all statements, exactly the positions that are reachable from stores are marked.
   pub AreMarksAfter-end : (marks : List Bool)
       → AreMarksAfter code (length code) marks
       → (j : ℕ)
@@ -288,7 +291,7 @@ module _ (code : List Stmt)
       → (is_marked marks j ≡ true) ↔ IsReachableFromStore code j
   AreMarksAfter-end marks right j le = ((λ h. right.sound j h), (λ b. AreMarksAfter-complete right j le b))
 
--- If a list's first n items were borrowed and replaced by the same number, the new ones are the first n of the whole list.
+-- If n is the length of xs, and `new` is as long as xs, the first n items of `new` followed by ys are `new`.
 pub take-replaced_front : {X : Type 0} (xs new ys : List X) (n : ℕ)
     → n ≡ length xs
     → length new ≡ length xs

@@ -38,7 +38,7 @@ AreFlagsAmong-tail fs gs among j set = get_or-drop_one gs j ∙ among (suc j) (s
 
 -- ---- a lowering
 
--- If no instruction is marked, only fences are.
+-- If no instruction is marked, each marked one is an MFENCE.
 MarksAreFences-none_marked : (is : List Instr) → MarksAreFences (replicate (length is) false) is
 MarksAreFences-none_marked [] = tt
 MarksAreFences-none_marked (i ∷ is) = MarksAreFences-none_marked is
@@ -54,12 +54,12 @@ count_by_not-replicate zero = refl
 count_by_not-replicate (suc n) =
     sum_by-cons (λ (m : Bool). cond (not m) 1 0) false (replicate n false) ∙ omega (arith, count_by_not-replicate n)
 
--- A lowering's marks have as many unset as the lowering by the first flag has instructions.
+-- A lowering's marks, by a flag f for fewer fences and g for more, have as many unset as the lowering by f has instructions.
 count_by_not-lowered_marks : (x : Stmt) (f g : Bool) → count_by not (lowered_marks x f g) ≡ length (instrs_of (lowered [] f x))
 count_by_not-lowered_marks (Load d x) false true = refl
 count_by_not-lowered_marks x f g = count_by_not-replicate (length (instrs_of (lowered [] f x)))
 
--- A lowering by the second flag has a mark for each instruction.
+-- If the flag f implies g, there is a mark for each instruction of the lowering by g.
 length-lowered_marks : (x : Stmt) (f g : Bool)
     → (f ≡ true → g ≡ true)
     → length (lowered_marks x f g) ≡ length (instrs_of (lowered [] g x))
@@ -88,7 +88,8 @@ module _ (starts begins : List ℕ) (block : ℕ → ℕ) (leads : (to : ℕ) �
       both_cases-selected (λ r. retargeted (instrs_of r) ≡ instrs_of r) (d == a) (One last) (Two (instr.Set d (Register a)) last)
       (λ is. ap (λ (i : Instr). i ∷ []) same) (λ is. ap (λ (i : Instr). instr.Set d (Register a) ∷ i ∷ []) same)
 
-  -- The lowering with more fences, without the marked ones, is that with fewer.
+  -- If f implies g, and `block` takes the starts with more fences to those with fewer, then the lowering by g, without its
+  -- marked instructions and retargeted, is the lowering by f.
   retargeted-lowered : (x : Stmt) (f g : Bool)
       → (f ≡ true → g ≡ true)
       → retargeted (unmarked_instructions (lowered_marks x f g) (instrs_of (lowered begins g x))) ≡ instrs_of (lowered starts f x)
@@ -113,7 +114,7 @@ module _ (starts begins : List ℕ) (block : ℕ → ℕ) (leads : (to : ℕ) �
   retargeted-lowered (IfNe a n to) f g among = ap (λ (index : ℕ). instr.Cmp a (Number n) ∷ instr.Jne index ∷ []) (leads to)
   retargeted-lowered (Goto to) f g among = ap (λ (index : ℕ). instr.Jmp index ∷ []) (leads to)
 
--- Only fences are marked in a lowering.
+-- If f implies g, each marked instruction of the lowering by g is an MFENCE.
 MarksAreFences-lowered : (begins : List ℕ) (x : Stmt) (f g : Bool)
     → (f ≡ true → g ≡ true)
     → MarksAreFences (lowered_marks x f g) (instrs_of (lowered begins g x))
@@ -130,7 +131,7 @@ MarksAreFences-lowered begins x f g among = MarksAreFences-none_marked (instrs_o
 
 -- ---- a thread
 
--- Only fences are marked in a thread.
+-- If each flag that is set in fs is set in gs, each marked instruction of a thread lowered by gs is an MFENCE.
 MarksAreFences-thread : (fs gs : List Bool) (code : List Stmt) (begins : List ℕ)
     → AreFlagsAmong fs gs
     → MarksAreFences (fence_marks fs gs code) (lowered_code begins gs code)
@@ -176,7 +177,8 @@ unmarked_count_before-prefix (mark ∷ pre) rest =
     ∙ ap (λ (n : ℕ). cond (not mark) 1 0 + n) (unmarked_count_before-prefix pre rest)
     ∙ sym (sum_by-cons (λ (m : Bool). cond (not m) 1 0) mark pre)
 
--- Before the start of a statement, after any instructions, the number of unmarked instructions is the statement's start with fewer fences.
+-- If each flag that is set in fs is set in gs, then before the start of a statement with the fences gs, after instructions with
+-- the marks `pre`, the number of unmarked instructions is the statement's start with the fences fs.
 unmarked_count_before-start : (fs gs : List Bool) (code : List Stmt) (pre : List Bool)
     → AreFlagsAmong fs gs
     → (to : ℕ)
@@ -207,7 +209,8 @@ unmarked_count_before-start fs gs (x ∷ code) pre among (suc to) =
     ∙ ap (λ (n : ℕ). slice_index (starts_from n (drop 1 fs) code) to) out
     ∙ ap (λ (starts : List ℕ). slice_index starts (suc to)) (sym (starts_from-cons (count_by not pre) fs x code))
 
--- A thread with more fences is the one with fewer, with MFENCEs inserted.
+-- If each flag that is set in fs is set in gs, the thread with the fences gs is the one with the fences fs, with MFENCEs
+-- inserted.
 HasInsertedFencesInCode-more_fences : (fs gs : List Bool) {code : List Stmt} {instrs others : List Instr} {starts begins : List ℕ}
     → AreFlagsAmong fs gs
     → IsThreadWith fs code instrs starts
@@ -243,7 +246,7 @@ AreFlagsAmong-of_set fs gs each j set = ⊎_elim set_in_range set_past_end (case
     set_past_end beyond = absurd (false≢true (sym (get_or_past fs j false beyond) ∙ set))
 
 module _ (fences others : List (List Bool)) (s : SourceTest) (p q : X86Test) (starts begins : List (List ℕ)) where
-  -- A test with more fences is the one with fewer, with MFENCEs inserted.
+  -- If each fence of `fences` is one of `others`, the program with `others` is the one with `fences`, with MFENCEs inserted.
   pub HasInsertedFences-more_fences : AreSubset fences others
       → IsCompiledWith fences s p starts
       → IsCompiledWith others s q begins
@@ -262,6 +265,6 @@ module _ (fences others : List (List Bool)) (s : SourceTest) (p q : X86Test) (st
         other;
   }
 
--- No fences are a subset of any fences.
+-- Each fence of no fences is one of any fences.
 pub AreSubset-nil : (fences : List (List Bool)) → AreSubset [] fences
 AreSubset-nil fences t j set = absurd cc

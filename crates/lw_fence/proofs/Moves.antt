@@ -2,14 +2,15 @@
 -- So the proofs about a single thread do not mention the list of threads.
 use Rattle.lw_fence.proofs.Common.{◌≡◌, ℕ, List, [], ◌∷◌, ◌++◌, map, Some, refl, sym, ap, ◌∙◌, subst}
 use Rattle.lw_fence.proofs.Common.{slice_get, slice_set, set-set, map-append, RunsTo-append, thread_code}
-use Rattle.lw_fence.proofs.Common.{Event, Step, Drain, flat_memory, Memory, get-set_same, set-get_same, Stmt}
-use Rattle.lw_fence.proofs.Common.{source_operation, Thread, thread_after, words_after, State, SourceRunsTo}
-use Rattle.lw_fence.proofs.Common.{state_after_step, thread_step, state_of, state_after, Instr, Processor}
-use Rattle.lw_fence.proofs.Common.{step_effect, drain_effect, MachineState, MachineTransition, MachineRunsTo}
-use Rattle.lw_fence.proofs.Common.{EffectLeadsTo, state, MachineTransition-of_effect}
+use Rattle.lw_fence.proofs.Common.{Event, Step, Drain, flat_memory, Memory, slice_get-slice_set_same}
+use Rattle.lw_fence.proofs.Common.{set-get_same, Stmt, source_operation, Thread, thread_after, words_after}
+use Rattle.lw_fence.proofs.Common.{State, SourceRunsTo, state_after_step, thread_step, state_of, state_after}
+use Rattle.lw_fence.proofs.Common.{Instr, Processor, step_effect, drain_effect, MachineState}
+use Rattle.lw_fence.proofs.Common.{MachineTransition, MachineRunsTo, EffectLeadsTo, state}
+use Rattle.lw_fence.proofs.Common.{MachineTransition-of_effect}
 use Rattle.lw_interleaving.specs.Runs.{SourceTransition as SourceDone}
 
--- A run of the machine followed by another is a run by both lists of events.
+-- If es lead the machine from s to mid, and fs from mid to `end`, then es and then fs lead from s to `end`.
 pub MachineRunsTo-append : {M : Type 0} (mem : Memory M) (program : List (List Instr)) (es fs : List Event)
     (s mid end : MachineState M)
     → MachineRunsTo mem program es s mid
@@ -17,7 +18,8 @@ pub MachineRunsTo-append : {M : Type 0} (mem : Memory M) (program : List (List I
     → MachineRunsTo mem program (es ++ fs) s end
 MachineRunsTo-append mem program es fs s mid end r q = RunsTo-append (MachineTransition mem program) es fs s mid end r q
 
--- A run of the source followed by another is a run by both lists of steps.
+-- If steps of the threads ts lead the source from s to mid, and of us from mid to `end`, then those of ts and then us lead from
+-- s to `end`.
 pub SourceRunsTo-append : (program : List (List Stmt)) (ts us : List ℕ) (s mid end : State)
     → SourceRunsTo program (map Step ts) s mid
     → SourceRunsTo program (map Step us) mid end
@@ -41,18 +43,18 @@ pub record ThreadMoves (program : List (List Stmt)) (t : ℕ) (th : Thread) (m :
       → SourceRunsTo program (map Step order) (state_of threads m) (state_of (slice_set threads t end) n)
 
 module _ (program : List (List Instr)) (t : ℕ) where
-  -- A processor's moves compose.
+  -- If es lead processor t from p to q, and fs from q to r, then es and then fs lead it from p to r.
   pub ProcessorMoves-append : (p : Processor) {q : Processor} (r : Processor) {m n k : List ℕ} (es : List Event) {fs : List Event}
       → ProcessorMoves program t p m es q n
       → ProcessorMoves program t q n fs r k
       → ProcessorMoves program t p m (es ++ fs) r k
   ProcessorMoves-append p {q = q} r es {fs = fs} a b = record {
     on = λ processors was.
-        let second = b.on (slice_set processors t q) (get-set_same processors t q p was) in
+        let second = b.on (slice_set processors t q) (slice_get-slice_set_same processors t q p was) in
         MachineRunsTo-append flat_memory program es fs _ _ _ (a.on processors was) (rw (set-set processors t q r) at second);
   }
 
-  -- The effect of a processor's next instruction is its step in the whole machine.
+  -- If the effect of the next instruction of p leads to q, the step of t leads it from p to q, whatever the other processors.
   pub ProcessorMoves-step : (p q : Processor) (m n : List ℕ) {i : Instr}
       → slice_get (thread_code program t) p.position ≡ Some i
       → EffectLeadsTo m (step_effect (Some i) p) q n
@@ -66,7 +68,8 @@ module _ (program : List (List Instr)) (t : ℕ) where
     );
   }
 
-  -- The effect of draining a processor's oldest entry is its drain in the whole machine.
+  -- If the effect of draining the oldest entry of p leads to q, the drain of t leads it from p to q, whatever the other
+  -- processors.
   pub ProcessorMoves-drain : {p : Processor} (q : Processor) (m n : List ℕ)
       → EffectLeadsTo m (drain_effect p.buffer p) q n
       → ProcessorMoves program t p m (Drain t ∷ []) q n
@@ -76,11 +79,11 @@ module _ (program : List (List Instr)) (t : ℕ) where
   }
 
 module _ (program : List (List Stmt)) (t : ℕ) where
-  -- A thread is unchanged by no steps.
+  -- No steps lead a thread from its state, over any memory, to the same.
   pub ThreadMoves-refl : (th : Thread) (m : List ℕ) → ThreadMoves program t th m th m
   ThreadMoves-refl th m = record { order = []; on = λ threads was. ap (λ l. state_of l m) (set-get_same _ t th was) }
 
-  -- A thread's moves compose.
+  -- If some steps lead a thread from th to mid, and some from mid to `end`, some steps lead it from th to `end`.
   pub ThreadMoves-trans : (th : Thread) {mid : Thread} (end : Thread) (m n : List ℕ) {k : List ℕ}
       → ThreadMoves program t th m mid n
       → ThreadMoves program t mid n end k
@@ -89,13 +92,13 @@ module _ (program : List (List Stmt)) (t : ℕ) where
     order = a.order ++ b.order;
     on = λ threads was.
         let after = slice_set threads t mid in
-        let second = b.on after (get-set_same threads t mid th was) in
+        let second = b.on after (slice_get-slice_set_same threads t mid th was) in
         SourceRunsTo-append program a.order b.order (state_of threads m) (state_of after n) _ (a.on threads was)
         (subst (λ c. SourceRunsTo program (map Step b.order) (state_of after n) (state_of c k)) (set-set threads t mid end)
         second);
   }
 
-  -- One step of a thread, by its next statement.
+  -- If a thread has a next statement, one step leads the thread and memory to what they are after this statement.
   pub ThreadMoves-statement : (th : Thread) (m : List ℕ) (x : Stmt)
       → slice_get (thread_code program t) th.position ≡ Some x
       → ThreadMoves program t th m (thread_after (source_operation x) th m) (words_after (source_operation x) th m)

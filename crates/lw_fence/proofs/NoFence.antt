@@ -10,7 +10,7 @@ use Rattle.lw_fence.proofs.Common.{IsThreadWith, NeedsFence, IsCompiledWithoutFe
 abbrev AreAllUnset : List Bool → Type 0
 AreAllUnset fences = (j : ℕ) → slice_get fences j ≡ Some true → ⊥
 
--- A list of unset flags has none set.
+-- In the list of n unset flags no flag is set.
 AreAllUnset-replicate : (n : ℕ) → AreAllUnset (replicate n false)
 AreAllUnset-replicate zero j at = absurd cc
 AreAllUnset-replicate (suc n) zero at = absurd cc

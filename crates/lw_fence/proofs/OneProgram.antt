@@ -17,7 +17,7 @@ lists_equal-at_each_index {X} (x ∷ xs) (y ∷ ys) as_many same =
     ap₂ (λ (z : X) (zs : List X). z ∷ zs) (same 0 x y refl refl)
     (lists_equal-at_each_index xs ys (omega arith) (λ k a b at and. same (suc k) a b at and))
 
--- Two lists of flags of the same length, set at the same indices, are equal.
+-- If two lists of flags have the same length, and are set at the same indices, they are equal.
 flags_equal-same_set : (fs gs : List Bool)
     → length fs ≡ length gs
     → ((k : ℕ) → slice_get fs k ≡ Some true → slice_get gs k ≡ Some true)
@@ -25,7 +25,7 @@ flags_equal-same_set : (fs gs : List Bool)
     → fs ≡ gs
 flags_equal-same_set fs gs as_many to from = lists_equal-at_each_index fs gs as_many flags_same_at
   where
-    -- The flags at an index are equal.
+    -- The flags a and b at an index are equal.
     flags_same_at : (k : ℕ) (a b : Bool) → slice_get fs k ≡ Some a → slice_get gs k ≡ Some b → a ≡ b
     flags_same_at k true true found_at f = refl
     flags_same_at k false false found_at f = refl

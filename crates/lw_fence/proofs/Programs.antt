@@ -120,7 +120,7 @@ module _ (locs l n : ℕ) (starts : List ℕ) where
       let there = reaches to (forward to refl).0 (forward to refl).1 in
       (well_formed, λ u e. subst (λ u. (k < u) × (u ≤ l)) (same_Some _ u (sym is ∙ e)) (omega arith, there.1))
 
-  -- The lowering of the statement at index j, which starts at k, is well-formed.
+  -- The lowering, with or without a fence (f), of the statement x at index j, which starts at k, is well-formed.
   AllAt-lowered : (f : Bool) (x : Stmt) (j k : ℕ)
       → IsWellFormedStatement source_language locs x
       → ForSome (branch_target (source_operation x)) (λ to. (j < to) × (to ≤ n))
@@ -191,20 +191,20 @@ module _ (locs : ℕ) (code : List Stmt) (instrs : List Instr) (starts : List �
   start k = slice_index starts k
 
   -- Starts increase with statements.
-  start-monotone : (a d : ℕ) → a + d ≤ length code → start a ≤ start (a + d)
-  start-monotone a zero le = let e : a + 0 ≡ a = omega arith in omega (arith, ap start e)
-  start-monotone a (suc d) le =
+  start-mono : (a d : ℕ) → a + d ≤ length code → start a ≤ start (a + d)
+  start-mono a zero le = let e : a + 0 ≡ a = omega arith in omega (arith, ap start e)
+  start-mono a (suc d) le =
       let x = slice_get-in_range code (a + d) (omega arith) in
       let e : a + d + 1 ≡ a + suc d = omega arith in
-      omega (arith, (laid_out.at (a + d) x.0 x.1).next, ap start e, start-monotone a d (omega arith))
+      omega (arith, (laid_out.at (a + d) x.0 x.1).next, ap start e, start-mono a d (omega arith))
 
   -- Each statement after the one at index j starts at or after the next start, and within the code.
   Reaches-next_start : (j : ℕ) → Reaches locs (length instrs) (length code) starts j (start (j + 1))
   Reaches-next_start j to after within =
       let e : j + 1 + (to - (j + 1)) ≡ to = omega arith in
       let f : to + (length code - to) ≡ length code = omega arith in (
-        subst (λ k. start (j + 1) ≤ start k) e (start-monotone (j + 1) (to - (j + 1)) (omega arith)),
-        subst (λ m. start to ≤ m) (ap start f ∙ laid_out.last) (start-monotone to (length code - to) (omega arith)),
+        subst (λ k. start (j + 1) ≤ start k) e (start-mono (j + 1) (to - (j + 1)) (omega arith)),
+        subst (λ m. start to ≤ m) (ap start f ∙ laid_out.last) (start-mono to (length code - to) (omega arith)),
       )
 
   -- The instruction at index j of this thread is well-formed.
@@ -253,7 +253,7 @@ module _ (locs : ℕ) (code : List Stmt) (instrs : List Instr) (starts : List �
     forward = λ j i e. (IsWellFormedHere-every_instr j i e).1;
   }
 
--- What is made of a well-formed code is a well-formed code.
+-- What is laid out of a well-formed code is a well-formed code.
 IsWellFormedThread-laid_out : (locs : ℕ) (code : List Stmt) (instrs : List Instr) (starts : List ℕ)
     → IsWellFormedThread source_language locs code
     → IsLaidOut code instrs starts
@@ -267,7 +267,8 @@ IsWellFormedThread-laid_out locs code instrs starts well_formed laid_out =
       forward = scoped.forward;
     }
 
--- If what holds of each code of a source holds of the codes that are made of it, on as many locations, it holds of the program's codes.
+-- If P of a code implies Q of each code that is laid out of it, on as many locations, and P holds of each thread of a source,
+-- then Q holds of each thread of a program that is laid out of the source.
 All-laid_out_threads : (P : ℕ → List Stmt → Type 0) (Q : ℕ → List Instr → Type 0)
     → ((locs : ℕ) (code : List Stmt) (instrs : List Instr) (starts : List ℕ)
     → P locs code
@@ -308,7 +309,7 @@ IsWellFormedHead-in_x86 well_formed = record {
   condition = well_formed.condition;
 }
 
--- As many threads as the source has, of which its head says how many there are.
+-- If a source has as many threads as its head says, a program that is laid out of it has as many as its head says.
 thread_count-laid_out : (s : SourceTest) (p : X86Test) (starts : List (List ℕ))
     → length s.threads ≡ s.head.threads
     → LaidOut s p starts
@@ -362,7 +363,7 @@ pub IsWellFormedProgram-compiled : (s : SourceTest) (p : X86Test) (starts : List
 IsWellFormedProgram-compiled s p starts well_formed compiled =
     IsWellFormedProgram-laid_out s p starts well_formed (LaidOut-compiled s p starts compiled)
 
--- The program of a source's head, in x86, and of its compiled threads is what the source is compiled to.
+-- The program of a source's head, in x86, and of its compiled threads is the one to which the source is compiled.
 pub IsCompiled-of_threads : {s : SourceTest} {head : TestHead} {threads : List (List Instr)} {starts : List (List ℕ)}
     → head ≡ s.head
     → length threads ≡ length s.threads

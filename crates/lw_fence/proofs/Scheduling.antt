@@ -8,10 +8,11 @@ use Rattle.lw_fence.proofs.Common.{get_or_read, get_or_past, slice_get_within, s
 use Rattle.lw_fence.proofs.Common.{Step, Drain, Stop, slice_get-in_range, at_index, Stmt, Thread, SourceTest}
 use Rattle.lw_fence.proofs.Common.{X86Test, State, SourceRunsTo, SourceRunState, IsStepResult, source_step}
 use Rattle.lw_fence.proofs.Common.{StepEffect-of_step, is_store, source_operation, IsCompiled}
-use Rattle.lw_fence.proofs.Common.{statement_events, thread_events, after_step, compiled_schedule, get-map}
+use Rattle.lw_fence.proofs.Common.{statement_events, thread_events, after_step, compiled_schedule}
+use Rattle.lw_fence.proofs.Common.{slice_get-map_inv}
 use Rattle.lw_fence.proofs.CodeLayout.{IsFencedAsNeeded-at, length-starts_from}
 
--- If a call that has appended `more` to the old events fails, the old ones are still the first.
+-- If a call has appended `more` to the old events, then, if it failed, the old events are still the first.
 pub OnErr-old_events_first : {T E : Type 0} (r : Result T E) (old more : List Event) {new : List Event}
     → new ≡ old ++ more
     → OnErr r (take (length old) new ≡ old)
@@ -100,7 +101,7 @@ pub IsOk-if_enabled : (step : Result State Stop) (answer : Result (Unit {0}) Sto
 IsOk-if_enabled (Ok s) answer before after mid done e = ap is_ok done.0
 IsOk-if_enabled (Err stop) answer before after mid done e = absurd (let bad : Err stop ≡ Ok mid = e in cc)
 
--- A step of the order's next thread that is enabled, followed by the rest of the order.
+-- The next thread of the order, t, which has the turn at i, can step from s to mid, and the rest of the order can follow.
 pub record NextThreadStep (program : List (List Stmt)) (order : List ℕ) (i t : ℕ) (s : State) : Type 0 where
   pub mid : State
   pub step : source_step program t s ≡ Ok mid
@@ -124,7 +125,8 @@ statement_events_at program t starts index =
 -- At the turn of thread t, at index i of the order.
 module _ {program : List (List Stmt)} {order : List ℕ} {i t : ℕ} (within : i < length order)
     (is : t ≡ slice_index_or order i t) where
-  -- The next step of a run is its thread's turn, and the steps after it are those of the rest of the order.
+  -- If the order from i on leads from s to some state, and thread t has the turn at i, then t can step from s, and the rest of
+  -- the order can follow.
   pub NextThreadStep-of_run : {s : State}
       → (end : State) × SourceRunsTo program (map Step (drop i order)) s end
       → NextThreadStep program order i t s
@@ -141,24 +143,25 @@ module _ {program : List (List Stmt)} {order : List ℕ} {i t : ℕ} (within : i
         position_in_range = slice_get_within (thread_code program t) d.thread.position d.stmt d.at;
       }
 
-  -- The position read for a thread is the thread's.
+  -- If `index` was read as the position of thread t, it is that of the thread that has the turn.
   pub read_position-eq : {s : State} (turn : NextThreadStep program order i t s) {index : ℕ}
       → slice_get (map (λ (th : Thread). th.position) s.threads) t ≡ Some index
       → index ≡ turn.thread.position
   read_position-eq {s} turn {index} found_at =
-      let a = get-map (λ (th : Thread). th.position) s.threads t index found_at in
+      let a = slice_get-map_inv (λ (th : Thread). th.position) s.threads t index found_at in
       a.2 ∙ ap (λ (th : Thread). th.position) (same_Some a.0 turn.thread (sym a.1 ∙ turn.was))
 
 module _ (program : List (List Stmt)) (order : List ℕ) (i t : ℕ) (within : i < length order)
     (is : t ≡ slice_index_or order i t) where
-  -- The schedule from here on starts with this step's events.
+  -- If thread t, which has the turn at i, is at statement `index`, and its step leads to mid, the schedule from i on is the
+  -- events of that statement and the schedule from i + 1 on.
   compiled_schedule-step : (starts : List (List ℕ)) (s : State) {mid : State} (index : ℕ)
       → slice_get (map (λ (th : Thread). th.position) s.threads) t ≡ Some index
       → source_step program t s ≡ Ok mid
       → compiled_schedule program starts (drop i order) s
       ≡ statement_events_at program t starts index ++ compiled_schedule program starts (drop (i + 1) order) mid
   compiled_schedule-step starts s index found_at step =
-      let a = get-map (λ (th : Thread). th.position) s.threads t index found_at in
+      let a = slice_get-map_inv (λ (th : Thread). th.position) s.threads t index found_at in
       let events = ap (thread_events program starts t) a.1 ∙ ap (statement_events_at program t starts) (sym a.2) in
       ap (λ (ts : List ℕ). compiled_schedule program starts ts s) (drop_order-cons order i t within is)
       ∙ ap₂

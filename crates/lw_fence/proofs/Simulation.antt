@@ -62,7 +62,8 @@ module _ (source : SourceTest) (program : X86Test) (starts : List (List ℕ)) wh
 
 module _ (source : SourceTest) (program : X86Test) (starts : List (List ℕ)) (well_scoped : IsWellScopedSource source)
     (compiled : IsCompiled source program starts) where
-  -- The source follows an event of processor t that leads from c to q and the memory n.
+  -- If thread t of the source lags behind its processor c, the source follows an event of t that leads from c to q and the
+  -- memory n.
   SourceFollows-event : (e : Event) (ss : State) (ms : MachineState (List ℕ)) (th : Thread) (c q : Processor) (n : List ℕ)
       → cpu_of e < length source.threads
       → LagAt source program starts (cpu_of e) th c
@@ -77,7 +78,8 @@ module _ (source : SourceTest) (program : X86Test) (starts : List (List ℕ)) (w
   SourceFollows-event (Evict t x) ss ms th c q n lt simulated d =
       absurd (not-EffectLeadsTo-evict_event program.threads (length ms.memory) t x c q ms.memory n d)
 
-  -- Whatever event the machine executes, the source follows by some steps.
+  -- If the source lags behind the machine, then after each event of the machine some steps lead it to a state that lags behind
+  -- the machine.
   SimulatedToEnd-event : (e : Event) (ss : State) (ms mid : MachineState (List ℕ))
       → SimulationRelation source program starts ss ms
       → EventOccurrence program.threads e ms mid
@@ -90,7 +92,8 @@ module _ (source : SourceTest) (program : X86Test) (starts : List (List ℕ)) (w
       let f = SourceFollows-event e ss ms _ did.from did.to did.words in_range (b.at t th.0 did.from th.1 did.was) did.does in
       (_, SimulatedToEnd-followed source program starts t ss ms mid th.0 did.from did.to did.words b th.1 did.was f did.state_is)
 
-  -- Through a whole run of the machine the source follows, and lags behind it at the end.
+  -- If the source lags behind the machine, then after each run of the machine some steps lead it to a state that lags behind
+  -- the machine.
   pub SimulatedToEnd-run : (es : List Event) (ss : State) {ms : MachineState (List ℕ)} (last : MachineState (List ℕ))
       → SimulationRelation source program starts ss ms
       → MachineRunsTo flat_memory program.threads es ms last

@@ -9,31 +9,31 @@ use Rattle.lw_fence.proofs.Common.{IsCompiled, may_wait, mark_successors}
 use Rattle.lw_fence.proofs.CompiledThreads.{AreCompiled, AreCompiled-none, AreCompiled-push}
 use Rattle.lw_fence.proofs.FencesFound.{AreFencesOfFirst, AreFencesOfFirst-none, AreFencesOfFirst-push}
 use Rattle.lw_fence.proofs.FencesFound.{NeedsFence-found}
-use Rattle.lw_fence.proofs.Marks.{AreMarksAfter, is_marked, AreMarksAfter-suc, AreMarksAfter-end}
-use Rattle.lw_fence.proofs.Marks.{AreMarksAfter-zero}
+use Rattle.lw_fence.proofs.Marks.{AreMarksAfter, is_marked, AreMarksAfter-next, AreMarksAfter-end}
+use Rattle.lw_fence.proofs.Marks.{AreMarksAfter-at_start}
 use Rattle.lw_fence.proofs.Programs.{IsCompiled-of_threads}
 
 module _ (code : List Stmt)
     (ok : (j : ℕ) (x : Stmt)
     → slice_get code j ≡ Some x
     → ForSome (branch_target (source_operation x)) (λ to. (j < to) × (to ≤ length code))) where
-  -- The marks after the first statements.
+  -- For each i up to the number of statements there are marks after the first i statements.
   AreMarksAfter-exist : (i : ℕ) → i ≤ length code → (marks : List Bool) × AreMarksAfter code i marks
-  AreMarksAfter-exist zero le = (replicate (suc (length code)) false, AreMarksAfter-zero code ok)
+  AreMarksAfter-exist zero le = (replicate (suc (length code)) false, AreMarksAfter-at_start code ok)
   AreMarksAfter-exist (suc i) le =
       let m = AreMarksAfter-exist i (omega arith) in
       let x = slice_get-in_range code i (omega arith) in
       let b : Bool = may_wait (source_operation x.0) (is_marked m.0 i) in (
         _,
         subst (λ k. AreMarksAfter code k (if b then mark_successors (source_operation x.0) i m.0 else m.0)) (omega arith)
-            (AreMarksAfter-suc code ok i x.0 m.0 b x.1 refl m.1),
+            (AreMarksAfter-next code ok i x.0 m.0 b x.1 refl m.1),
       )
 
-  -- The marks after all statements.
+  -- There are marks after all statements.
   marks : (v : List Bool) × AreMarksAfter code (length code) v
   marks = AreMarksAfter-exist (length code) (omega arith)
 
-  -- The fences of the first statements, by these marks.
+  -- For each i up to the number of statements there are flags of the first i statements, by these marks.
   AreFencesOfFirst-exist : (i : ℕ) → i ≤ length code → (fences : List Bool) × AreFencesOfFirst code marks.0 i fences
   AreFencesOfFirst-exist zero le = ([], AreFencesOfFirst-none code marks.0 [] refl)
   AreFencesOfFirst-exist (suc i) le =
@@ -45,7 +45,7 @@ module _ (code : List Stmt)
             (AreFencesOfFirst-push code marks.0 i f.0 b f.1 x.1 refl refl),
       )
 
-  -- Each thread can be compiled: to its instructions and its starts.
+  -- There are instructions and starts to which the thread is compiled.
   IsCompiledThread-exists : (instrs : List Instr) × (starts : List ℕ) × IsCompiledThread code instrs starts
   IsCompiledThread-exists =
       let f = AreFencesOfFirst-exist (length code) (omega arith) in (
@@ -61,14 +61,14 @@ module _ (code : List Stmt)
       )
 
 module _ (source : SourceTest) (well_scoped : IsWellScopedSource source) where
-  -- Each thread of a well-scoped source can be compiled.
+  -- For each thread of a well-scoped source there are instructions and starts to which it is compiled.
   IsCompiledThread-exists_at : (t : ℕ)
       → t < length source.threads
       → (instrs : List Instr) × (starts : List ℕ) × IsCompiledThread (thread_code source.threads t) instrs starts
   IsCompiledThread-exists_at t in_range =
       IsCompiledThread-exists (thread_code source.threads t) (well_scoped.code t [] in_range).forward
 
-  -- The first n threads of a well-scoped source can be compiled.
+  -- For each n up to the number of threads there are lists to which the first n threads of a well-scoped source are compiled.
   AreCompiled-exist : (n : ℕ)
       → n ≤ length source.threads
       → (threads : List (List Instr)) × (starts : List (List ℕ)) × AreCompiled source.threads n threads starts

@@ -54,7 +54,7 @@ module _ (source : SourceTest) (program : X86Test) (starts : List (List ℕ)) (w
       ∙ ap (statement_events t begins th.position) found_at
       ∙ ap (λ k. events_for t k x) n
 
-  -- The machine follows a step of the source by the events of the thread's turn.
+  -- If the two states are in step, the machine follows a step of thread t by the events of its turn.
   MachineFollowsBy-step : (t : ℕ) (ss mid : State) (ms : MachineState (List ℕ))
       → InStep ss ms
       → StepEffect source.threads t ss mid
@@ -83,7 +83,7 @@ module _ (source : SourceTest) (program : X86Test) (starts : List (List ℕ)) (w
             (turned.flag, (IsThreadInBounds-step st.thread ss.words st.stmt allowed st.at z.1), refl));
       }
 
-  -- The machine follows a run of the source by the compiled schedule.
+  -- If the two states are in step, the machine follows a run of the source by the compiled schedule.
   MachineFollowsBy-run : (order : List ℕ) {ss : State} (after : State) (ms : MachineState (List ℕ))
       → InStep ss ms
       → SourceRunsTo source.threads (map Step order) ss after
@@ -102,7 +102,7 @@ module _ (source : SourceTest) (program : X86Test) (starts : List (List ℕ)) (w
         in_step = b.in_step;
       }
 
-  -- The source and the machine start in step.
+  -- The initial states of the source and of the machine are in step.
   InStep-start : InStep (initial_state source) (compiled_start source)
   InStep-start = ThreadsCorrespond-start source IsAtStartOfStatement well_scoped (λ t regs lt six.
       let begin = (laid.at t lt).first in (

@@ -34,7 +34,7 @@ drain_if_store t store = if store then Drain t ∷ [] else []
 abbrev pub events_for : ℕ → ℕ → Stmt → List Event
 events_for t n x = replicate n (Step t) ++ drain_if_store t (is_store (source_operation x))
 
--- Processor t executes a statement, from the statement's start to the next one's.
+-- Processor t, whose zero flag is z, executes the statement x by the events es, from the statement's start to the next one's.
 pub record StatementTurn (program : List (List Instr)) (t : ℕ) (starts : List ℕ) (th : Thread) (z : Bool) (m : List ℕ) (x : Stmt)
     (es : List Event) : Type 0 where
   pub flag : Bool
@@ -47,7 +47,8 @@ module _ (program : List (List Instr)) (t : ℕ) (starts : List ℕ) (th : Threa
   abbrev begin : Processor
   begin = processor_at_statement (slice_index starts th.position) th z
 
-  -- After the steps of the lowering, only the drain of a store remains.
+  -- If events lead the processor from the start of the statement to a q that has executed it, then these events and, after a
+  -- store, a drain are the statement's turn.
   StatementTurn-drain_remains : {es : List Event} (q : Processor) (n : List ℕ)
       → ProcessorMoves program t begin m es q n
       → ExecutesStatement starts x th [] m q n
@@ -67,7 +68,7 @@ module _ (program : List (List Instr)) (t : ℕ) (starts : List ℕ) (th : Threa
         buffer = b;
       }
 
-      -- It gets there with the buffer that the statement leaves.
+      -- The events lead the processor to the next statement, with the buffer b that the statement leaves.
       moves_with_buffer : (b : List (ℕ × ℕ)) → q.buffer ≡ b → ProcessorMoves program t begin m es (processor_with_buffer b) n
       moves_with_buffer b same =
           subst (λ r. ProcessorMoves program t begin m es r n) (Processor-eq q thread_after_statement.regs c.position c.regs same)

@@ -44,7 +44,7 @@ pub record IsThreadInBounds (code : List Stmt) (th : Thread) : Type 0 where
   pub register_count : length th.regs ≡ registers
   pub position_in_range : th.position ≤ length code
 
--- A step changes registers' words, and not their number.
+-- An operation preserves the number of a thread's registers.
 length-regs_thread_after : (o : Operation) (th : Thread) (m : List ℕ) → length (thread_after o th m).regs ≡ length th.regs
 length-regs_thread_after (Compare a v) th m = refl
 length-regs_thread_after (Store x v) th m = refl

@@ -43,7 +43,7 @@ pub record SourceFollows (program : List (List Stmt)) (t : ℕ) (instrs : List I
   pub moves : ThreadMoves program t th m now n
   pub simulated : ThreadSimulation (thread_code program t) instrs starts now q
 
--- A drain preserves the processor's stage.
+-- If the buffer of p has an entry, then p with the newer entries is at the same stage.
 Stage-drain : {code : List Stmt} {instrs : List Instr} {starts : List ℕ} {v : Thread} {p : Processor} (newer : List (ℕ × ℕ))
     → p.buffer ≢ []
     → Stage code instrs starts v p
@@ -52,7 +52,8 @@ Stage-drain newer full (whole position regs) = whole position regs
 Stage-drain newer full (midway s i at here ends) =
     midway s i at here (record { empty = λ load. absurd (full (ends.empty load)); carries = ends.carries })
 
--- When the machine drains a store, the thread of the source executes that store.
+-- If a thread lags behind its processor, and a drain of this leads to q and n, then the source follows: the thread executes up
+-- to the store that was drained.
 pub SourceFollows-drain : (program : List (List Stmt)) (t : ℕ) {instrs : List Instr} {starts : List ℕ} {th : Thread}
     {p : Processor} (m : List ℕ) (q : Processor) (n : List ℕ)
     → ThreadSimulation (thread_code program t) instrs starts th p
@@ -96,18 +97,20 @@ module _ (program : List (List Stmt)) (t : ℕ) (instrs : List Instr) (starts : 
   abbrev Goal : Processor → List ℕ → Type 0
   Goal q n = SourceFollows program t instrs starts th m q n
 
-  -- Whatever the effect does, the source follows.
+  -- If the effect leads to some q and n, the source follows.
   abbrev After : EventEffect → Type 0
   After act = (q : Processor) (n : List ℕ) → EffectLeadsTo m act q n → Goal q n
 
-  -- The instruction at the processor's position.
+  -- If i is the instruction at the position of p, and the source follows whatever i does, it follows whatever the next
+  -- instruction of p does.
   SourceFollows-at_instruction : (i : Instr)
       → slice_get instrs p.position ≡ Some i
       → After (step_effect (Some i) p)
       → After (step_effect (slice_get instrs p.position) p)
   SourceFollows-at_instruction i found_at after = subst (λ o. After (step_effect o p)) (sym found_at) after
 
-  -- The last instruction of a statement: either the statement becomes pending too, or the thread catches up and executes it.
+  -- If an instruction executes the statement s, which is at v's position, and leads to q and n, the source follows: the
+  -- statement becomes pending too, or the thread catches up and executes it.
   SourceFollows-last_instruction : (s : Stmt)
       → slice_get code v.position ≡ Some s
       → (q : Processor) (n : List ℕ)
@@ -119,7 +122,7 @@ module _ (program : List (List Stmt)) (t : ℕ) (instrs : List Instr) (starts : 
       thread_after_statement : Thread
       thread_after_statement = thread_after (source_operation s) v m
 
-      -- It is in the bounds of its code.
+      -- The thread after the statement is in the bounds of its code.
       next_in_bounds : IsThreadInBounds code thread_after_statement
       next_in_bounds = IsThreadInBounds-step v m s (allowed v.position s found_at) found_at in_bounds
 
@@ -161,7 +164,8 @@ module _ (program : List (List Stmt)) (t : ℕ) (instrs : List Instr) (starts : 
         };
       }
 
-  -- The first instruction of a lowering.
+  -- If p is at a lowering that executes the statement s, which is at v's position, the source follows the first instruction of
+  -- the lowering.
   SourceFollows-lowering : (s : Stmt)
       → slice_get code v.position ≡ Some s
       → (r : Lowered)
@@ -187,7 +191,7 @@ module _ (program : List (List Stmt)) (t : ℕ) (instrs : List Instr) (starts : 
         };
       }
 
-  -- A load without a fence is not reachable from a store, so no store is pending.
+  -- If v's next statement is a load without a fence, which it would have if it needed one, then the buffer of p is empty.
   buffer_empty-if_unfenced : {s : Stmt}
       → slice_get code v.position ≡ Some s
       → (fence : Bool)
@@ -197,7 +201,7 @@ module _ (program : List (List Stmt)) (t : ℕ) (instrs : List Instr) (starts : 
       → p.buffer ≡ []
   buffer_empty-if_unfenced found_at fence needs load none = empty-by_buffer p.buffer refl
     where
-      -- A buffer with an entry has a store before the load.
+      -- By the buffer: an entry would be of a store from which the load is reachable.
       empty-by_buffer : (b : List (ℕ × ℕ)) → p.buffer ≡ b → b ≡ []
       empty-by_buffer [] empty = refl
       empty-by_buffer (entry ∷ newer) full =
@@ -219,7 +223,7 @@ module _ (program : List (List Stmt)) (t : ℕ) (instrs : List Instr) (starts : 
           ⊎_elim (λ lt. let a = slice_get-in_range code v.position lt in absurd (none-some a.0 (sym e ∙ a.1)))
           (λ ge. omega (arith, ge, in_bounds.position_in_range)) (cases_lt v.position (length code))
 
-      -- So the processor has no further instruction.
+      -- If the thread is at the end of its code, the processor has no next instruction.
       no_instruction_at_end : slice_get instrs p.position ≡ None
       no_instruction_at_end =
           slice_get_past instrs p.position

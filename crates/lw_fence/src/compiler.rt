@@ -51,7 +51,7 @@ pub fn compile<A: Allocator + Copy>(alloc: A, source: &Source<A>) -> Result<Comp
 
 /// The instructions of all threads, and where their statements start.
 #[derive(Drop)]
-struct ThreadCodes<A: Allocator> {
+struct CompiledThreads<A: Allocator> {
     instrs: Sequence<Sequence<Instr, A>, A>,
     starts: Sequence<Sequence<usize, A>, A>,
 }
@@ -60,7 +60,7 @@ struct ThreadCodes<A: Allocator> {
 fn compile_threads<A: Allocator + Copy>(
     alloc: A,
     source: &Source<A>,
-) -> Result<ThreadCodes<A>, AllocError>
+) -> Result<CompiledThreads<A>, AllocError>
     ensures as_many { IfOk result (λ codes. length codes.instrs ≡ length source.now.threads) }
     ensures as_many_starts { IfOk result (λ codes. length codes.starts ≡ length source.now.threads) }
     ensures threads { IfOk result
@@ -75,12 +75,12 @@ fn compile_threads<A: Allocator + Copy>(
         instrs.push(code.instrs)?;
         starts.push(code.starts)?;
     }
-    Ok(ThreadCodes { instrs, starts })
+    Ok(CompiledThreads { instrs, starts })
 }
 
 /// The instructions of a thread, and where its statements start.
 #[derive(Drop)]
-struct ThreadCode<A: Allocator> {
+struct CompiledThread<A: Allocator> {
     instrs: Sequence<Instr, A>,
     starts: Sequence<usize, A>,
 }
@@ -89,7 +89,7 @@ struct ThreadCode<A: Allocator> {
 fn compile_thread<A: Allocator + Copy>(
     alloc: A,
     stmts: &[Stmt],
-) -> Result<ThreadCode<A>, AllocError>
+) -> Result<CompiledThread<A>, AllocError>
     requires short { length stmts.now ≤ most_statements }
     requires forward { (j : ℕ) (s : Statement) → slice_get stmts.now j ≡ Some s
         → ForSome (branch_target (source_operation s)) (λ to. (j < to) × (to ≤ length stmts.now)) }
@@ -98,5 +98,5 @@ fn compile_thread<A: Allocator + Copy>(
     let fences = fences_of(alloc, stmts)?;
     let starts = starts_of(alloc, stmts, fences.as_slice())?;
     let instrs = lower(alloc, stmts, fences.as_slice(), starts.as_slice())?;
-    Ok(ThreadCode { instrs, starts })
+    Ok(CompiledThread { instrs, starts })
 }

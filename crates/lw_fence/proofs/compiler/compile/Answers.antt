@@ -10,6 +10,7 @@ use Rattle.lw_fence.proofs.Programs.{IsCompiled-of_threads, IsWellFormedProgram-
 use Rattle.lw_fence.proofs.SourceToMachine.{schedule_replays}
 use Rattle.lw_fence.proofs.compiler.compile.Goals as goal
 
+-- The compiled program is well-formed, since the source is.
 pub invariant_of-result : goal.invariant_of-result
 invariant_of-result g c =
     let codes_compiled = c.in_ok-codes.ensures in
@@ -21,6 +22,7 @@ invariant_of-result g c =
           IsWellFormedProgram-compiled (source_of c.args.source.now) _ codes.starts c.args.source.now.well_formed compiled;
     }
 
+-- The compiled program has the source's outcomes, by both directions, and each of its runs can be brought to an end.
 pub returns : goal.returns
 returns g c =
     let codes_compiled = c.in_ok-codes.ensures in

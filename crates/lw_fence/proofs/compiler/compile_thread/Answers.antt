@@ -4,6 +4,7 @@
 use Rattle.lw_fence.proofs.Common.{ap, ap₂, ◌∙◌, lowered_code, starts_from}
 use Rattle.lw_fence.proofs.compiler.compile_thread.Goals as goal
 
+-- The fences are the needed ones, the starts follow from them, and the instructions from both.
 pub returns : goal.returns
 returns g c = record {
   fences = c.in_ok-fences.fences.items;

@@ -10,6 +10,7 @@ use Rattle.lw_fence.proofs.fences.fences_of.Goals as goal
 pub loop-index-init : goal.loop-index-init
 loop-index-init g c = AreFencesOfFirst-none c.args.code.now c.in_ok-marks.marks.items _ c.new-fences.ensures.items
 
+-- One more flag says whether its statement is a marked load.
 pub loop-index-preserved : goal.loop-index-preserved
 loop-index-preserved g c =
     let stmt = c.index-code-index.result in

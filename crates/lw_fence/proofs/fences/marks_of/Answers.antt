@@ -1,18 +1,19 @@
 -- Proves `marks_of`, which marks exactly the positions that a flow path reaches from a store that may still
 -- be buffered. Jumps lead forward, so one pass is enough: when a statement is passed, its own mark is final
--- (`AreMarksAfter-suc`).
+-- (`AreMarksAfter-next`).
 use Rattle.lw_fence.proofs.Common.{◌+◌, ℕ, ap, arith, length, refl, sym, ◌∙◌, subst, slice_get_read}
 use Rattle.lw_fence.proofs.Common.{branch_target, common_steps}
-use Rattle.lw_fence.proofs.Marks.{AreMarksAfter, AreMarksAfter-suc, AreMarksAfter-end, take-replaced_front}
+use Rattle.lw_fence.proofs.Marks.{AreMarksAfter, AreMarksAfter-next, AreMarksAfter-end, take-replaced_front}
 use Rattle.lw_fence.proofs.fences.marks_of.Goals as goal
 
+-- The marks after one statement more: its successors are marked, if a store may be buffered after it.
 pub loop-index-preserved : goal.loop-index-preserved
 loop-index-preserved g c =
     let code = c.args.code.now in
     let marks = c.loop-index.marks.items in
     let stmt = c.index-code-index.result in
     let at = slice_get_read _ _ c.loop-index.index stmt refl c.loop-index-test.true c.index-code-index.is in
-    let next = AreMarksAfter-suc code c.requires.forward c.loop-index.index stmt _ _ at refl c.loop-index.invariant in
+    let next = AreMarksAfter-next code c.requires.forward c.loop-index.index stmt _ _ at refl c.loop-index.invariant in
     let new : AreMarksAfter code (c.loop-index.index + 1) c.propagate_marks.new.marks =
     rw (c.propagate_marks.ensures, c.operation.ensures, c.deref_mut.ensures.value) next in
     let back = take-replaced_front marks _ _ _ (omega arith) (new.as_many ∙ sym c.loop-index.invariant.as_many) in
@@ -32,6 +33,7 @@ overflow_add-code g c = omega (arith, c.requires.short)
 pub bounds-code-index : goal.bounds-code-index
 bounds-code-index g c = c.loop-index-test.true
 
+-- The successors of the statement are within the marks, since jumps lead forward, at most to the end.
 pub propagate_marks-requires : goal.propagate_marks-requires
 propagate_marks-requires g c =
     let at = slice_get_read c.args.code.now _ _ _ refl c.loop-index-test.true c.index-code-index.is in

@@ -44,6 +44,7 @@ overflow_sub-starts g c =
     c.index-as_slice-index-2.is c.as_slice-starts.ensures in
     h.grows
 
+-- The events that were appended are those of the statement that was read.
 pub returns-in-Ok-clause-ok : goal.returns-in-Ok-clause-ok
 returns-in-Ok-clause-ok g c =
     let h =

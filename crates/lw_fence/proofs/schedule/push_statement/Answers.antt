@@ -15,6 +15,7 @@ loop-instr-preserved g c =
     ∙ (append_assoc old (replicate c.loop-instr._instr step) (step ∷ [])
     ∙ ap (λ es. old ++ es) (replicate-append-replicate c.loop-instr._instr 1 step)))
 
+-- The statement is a store, so a drain follows its steps.
 pub returns-in_ok-push-2-clause-ok : goal.returns-in_ok-push-2-clause-ok
 returns-in_ok-push-2-clause-ok g c =
     let old = c.args.events.now.items in
@@ -26,6 +27,7 @@ returns-in_ok-push-2-clause-ok g c =
     ∙ (ap (λ es. es ++ drain) (c.loop-instr.invariant ∙ ap (λ n. old ++ replicate n (Step c.args.cpu)) all)
     ∙ (append_assoc old steps drain ∙ ap (λ (b : Bool). old ++ (steps ++ (if b then drain else []))) (sym stores)))
 
+-- The statement is no store, so its steps are all.
 pub returns-else-is_store-clause-ok : goal.returns-else-is_store-clause-ok
 returns-else-is_store-clause-ok g c =
     let old = c.args.events.now.items in

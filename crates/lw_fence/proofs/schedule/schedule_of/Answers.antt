@@ -20,11 +20,12 @@ push_next-requires-clause-in_range g c =
     let turn = NextThreadStep-of_run c.loop-cpu-test.true c.cpu-item.is c.loop-cpu.invariant.possible in
     rw (read_position-eq c.loop-cpu-test.true c.cpu-item.is turn c.position-index.ensures) turn.position_in_range
 
+-- The events of the next thread's statement are appended, and its step is made.
 pub loop-cpu-preserved : goal.loop-cpu-preserved
 loop-cpu-preserved g c =
     let program = c.loop-cpu.invariant.program in
     let turn = NextThreadStep-of_run c.loop-cpu-test.true c.cpu-item.is c.loop-cpu.invariant.possible in
-    let one = ReturnsEventResult-ok _ _ _ _ _ c.step.ensures.done c.unwrap.ensures in
+    let one = ReturnsEventResult-ok _ _ c.step.ensures.done c.unwrap.ensures in
     let step = ap (λ codes. source_step codes c.cpu-item.result c.loop-cpu.run.state) (sym program) ∙ one in
     let same : turn.mid ≡ c.step.new.self.state = cc in
     record {
@@ -37,6 +38,7 @@ loop-cpu-preserved g c =
           c.in_ok-push_next.ensures.ok c.loop-cpu.invariant.so_far;
     }
 
+-- At the start no event is appended, and the whole order can be run.
 pub loop-cpu-init : goal.loop-cpu-init
 loop-cpu-init g c =
     let program = c.args.source.now.threads in
@@ -62,6 +64,7 @@ returns-clause-schedule g c =
     ∙ ap (λ (order : List ℕ). events ++ rest order) (sym (drop_all _ c.args.order.now c.loop-cpu-test.false))
     ∙ c.loop-cpu.invariant.so_far
 
+-- The schedule is that of the whole order, which replays on the compiled program.
 pub returns-clause-replays : goal.returns-clause-replays
 returns-clause-replays g c = λ o runs.
     let events = c.loop-cpu.events.items in
