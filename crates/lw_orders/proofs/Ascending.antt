@@ -7,7 +7,7 @@ use Rattle.lw_orders.proofs.Common.{indices, without, is_minimal, greedy_order, 
 use Rattle.lw_orders.proofs.api.Indices.{index_in-indices_within}
 use Rattle.lw_orders.proofs.LowestOrder.{Ranks, is_minimal-least_rank}
 
--- If every pair is ascending, the greedy choice takes the remaining items from the lowest up.
+-- If every pair is ascending, the greedy order of the n items from k up lists them from k up.
 pub greedy_order-ascending : (pairs : List (ℕ × ℕ))
     → Ranks (λ i. i) pairs
     → (n k : ℕ)
@@ -40,7 +40,7 @@ indices-from_suc k (suc n) =
     ap (λ xs. k ∷ xs)
     (indices-from_suc (suc k) n ∙ ap (λ i. indices (suc k) n ++ i ∷ []) (let e : suc k + n ≡ k + suc n = omega arith in e))
 
--- The numbers from 0 to n are those below n, followed by n.
+-- The numbers below n + 1 are those below n, followed by n.
 pub indices-suc : (n : ℕ) → indices 0 (n + 1) ≡ indices 0 n ++ n ∷ []
 indices-suc n =
     ap (indices 0) (let e : n + 1 ≡ suc n = omega arith in e)

@@ -60,4 +60,4 @@ pub use Rattle.lw_orders.specs.inner.Search.{ReversesLast, SearchState, after_re
 pub use Rattle.lw_orders.specs.inner.Search.{oriented, reverse_if, search_from, search_on}
 pub use Rattle.lw_orders.specs.inner.Sets.{AreNeighbours, ArePredecessors, EdgesAreIn, are_disjoint, has}
 pub use Rattle.lw_orders.specs.inner.Sets.{has_edge, reaches_in}
-pub use Rattle.lw_orders.specs.inner.TriedOrientations.{IsTaken, TriedAs, TriesOrientation, pair_at}
+pub use Rattle.lw_orders.specs.inner.TriedOrientations.{IsChosen, TriedAs, TriesOrientation, pair_at}

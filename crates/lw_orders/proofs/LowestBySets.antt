@@ -17,7 +17,7 @@ use Rattle.lw_orders.proofs.Bits.{not-both_if_disjoint, bit_and-zero}
 
 -- ---- the numbers from k up that satisfy p
 module _ (p : ℕ → Bool) where
-  -- A number in the range is in the list if it satisfies p.
+  -- For a number of the range, the list of its numbers that satisfy p has it if and only if it satisfies p.
   is_in-indices : (k n i : ℕ) → k ≤ i → i < k + n → is_in (filter p (indices k n)) i ≡ p i
   is_in-indices k zero i a b = absurd (omega arith)
   is_in-indices k (suc n) i a b = elim (cases_eq k i) [
@@ -45,7 +45,8 @@ module _ (p : ℕ → Bool) where
   filter_same q k zero same = refl
   filter_same q k (suc n) same = grind (arith, same k, filter_same q (suc k) n (λ i a b. same i (omega arith) (omega arith)))
 
-  -- To clear one number's bit is to remove that number from the list.
+  -- If x satisfies p, and q is satisfied by the same numbers of the range except x, the list of those that satisfy q is that of
+  -- those that satisfy p, without x.
   filter-without : (q : ℕ → Bool) (x k n : ℕ)
       → p x ≡ true
       → ((i : ℕ) → k ≤ i → i < k + n → q i ≡ (not (eqb i x) && p i))
@@ -56,7 +57,8 @@ module _ (p : ℕ → Bool) where
     | inr ne ↦ grind (arith, nat_tests, same k, filter-without q x (suc k) n e (λ i a b. same i (omega arith) (omega arith)))
   ]
 
-  -- The first number of the list that passes a test, if no lower one passes it.
+  -- If i satisfies p and passes a test, and no lower number that satisfies p passes it, then i is the first number that is
+  -- found.
   find-lowest_passing : (test : ℕ → Bool) (k n i : ℕ)
       → k ≤ i
       → i < k + n
@@ -67,7 +69,7 @@ module _ (p : ℕ → Bool) where
   find-lowest_passing test k zero i a b pi ti none = absurd (omega arith)
   find-lowest_passing test k (suc n) i a b pi ti none = grind (arith, cases_eq k i, none k, find-lowest_passing test (suc k) n i)
 
-  -- If no number with p passes a test, none is found.
+  -- If no number that satisfies p passes a test, none is found.
   find-none_passing : (test : ℕ → Bool) (k n : ℕ)
       → ((j : ℕ) → j < k + n → p j ≡ true → test j ≡ false)
       → find test (filter p (indices k n)) ≡ None
@@ -78,9 +80,9 @@ module _ (p : ℕ → Bool) where
 module _ {len : ℕ} {predecessors reach : List ℕ} {left old mid : ℕ} (new item : ℕ) (few : len ≤ most_items) (l : item < len)
     (narrowed : Narrowed len predecessors reach left old mid) (is_candidate : has mid item ≡ true)
     (says : (k : ℕ) → k < most_items → has new k ≡ (has mid k && not (has (get_or reach item 0) k))) where
-  -- If the candidate `item` is blocked, it may be dropped from the candidates together with all that it reaches.
-  pub Narrowed-more : IsBlocked predecessors left item → Narrowed len predecessors reach left old new
-  Narrowed-more w = record {
+  -- If the candidate `item` is blocked, the candidates without all that it reaches are narrowed too.
+  pub Narrowed-next : IsBlocked predecessors left item → Narrowed len predecessors reach left old new
+  Narrowed-next w = record {
     among_old = λ k lk h. narrowed.among_old k lk (grind (arith, says k lk));
     dropped = λ k lk was gone. elim (cases_Bool (has mid k)) [
       | inl e ↦ (item, l, narrowed.among_old item (omega (arith, l, few)) is_candidate, w, grind (arith, says k lk))
@@ -113,7 +115,7 @@ pub record TakenSoFar (pairs : List (ℕ × ℕ)) (len : ℕ) (predecessors reac
   pub waiting : (k : ℕ) → k < len → has left k ≡ true → has candidates k ≡ false → IsBlocked predecessors left k
   pub closed : (i j : ℕ) → i < len → j < len → has left i ≡ true → reaches_in reach i j ≡ true → has left j ≡ true
 
--- Before the first turn every item is left and a candidate.
+-- If every item is left and a candidate, the invariant holds before the first turn.
 pub TakenSoFar-start : {len : ℕ} {predecessors reach items : List ℕ} (pairs : List (ℕ × ℕ)) (left : ℕ)
     → len ≤ most_items
     → ((k : ℕ) → k < most_items → has left k ≡ ltb k len)
@@ -144,7 +146,7 @@ module _ {pairs : List (ℕ × ℕ)} {len : ℕ} {predecessors reach neighbours 
   abbrev NoneLeads : ℕ → Type 0
   NoneLeads i = (j : ℕ) → j < len → Contains pairs (j, i) → has left j ≡ true → ⊥
 
-  -- The code's test of predecessors decides whether the item i is minimal.
+  -- For an item i in range, the code's test whether its predecessors are disjoint from those left decides whether i is minimal.
   Decides-are_disjoint : (i : ℕ) → i < len → Decides (are_disjoint (get_or predecessors i 0) left) (NoneLeads i)
   Decides-are_disjoint i li = (
     λ e j lj c h.
@@ -156,25 +158,25 @@ module _ {pairs : List (ℕ × ℕ)} {len : ℕ} {predecessors reach neighbours 
   )
 
   -- Tests that a pair is not from an item left to the item i.
-  abbrev is_no_edge_from_left : ℕ → ℕ × ℕ → Bool
-  is_no_edge_from_left i p = not (eqb p.1 i && is_in (items_below len left) p.0)
+  abbrev avoids_edge_from_left : ℕ → ℕ × ℕ → Bool
+  avoids_edge_from_left i p = not (eqb p.1 i && is_in (items_below len left) p.0)
 
-  -- The definition's test `is_minimal` decides the same.
+  -- The definition's test `is_minimal` decides whether i is minimal.
   Decides-is_minimal : (i : ℕ) → Decides (is_minimal pairs (items_below len left) i) (NoneLeads i)
   Decides-is_minimal i = (
     λ e j lj c h.
-        (let t : is_no_edge_from_left i (j, i) ≡ true =
-        All-contains (λ p. is_no_edge_from_left i p ≡ true) pairs (j, i) (AllPass-from_list_all (is_no_edge_from_left i) pairs e)
-        c in
+        (let t : avoids_edge_from_left i (j, i) ≡ true =
+        All-contains (λ p. avoids_edge_from_left i p ≡ true) pairs (j, i)
+        (AllPass-from_list_all (avoids_edge_from_left i) pairs e) c in
         grind (arith, nat_tests, is_in-indices (has left) 0 len j)),
     λ none.
-        list_all-from_AllPass (is_no_edge_from_left i) pairs
-        (λ k z lk. NoneLeads-passes (get_or pairs k z) (λ j. none j) (Contains-get_or pairs k z lk)),
+        list_all-from_AllPass (avoids_edge_from_left i) pairs
+        (λ k z lk. avoids_edge_from_left-if_none_leads (get_or pairs k z) (λ j. none j) (Contains-get_or pairs k z lk)),
   )
     where
-      -- A pair to i does not keep i back, if its first item is not left.
-      NoneLeads-passes : (p : ℕ × ℕ) → NoneLeads i → Contains pairs p → is_no_edge_from_left i p ≡ true
-      NoneLeads-passes p none is_member = elim (cases_eq p.1 i) [
+      -- If i is minimal, each of the pairs is no pair from an item left to i.
+      avoids_edge_from_left-if_none_leads : (p : ℕ × ℕ) → NoneLeads i → Contains pairs p → avoids_edge_from_left i p ≡ true
+      avoids_edge_from_left-if_none_leads p none is_member = elim (cases_eq p.1 i) [
         | inl e ↦
             (let lp = (closure-edge tables.closes p.0 p.1 is_member).0 in
             let out = false_from_ne_true (has left p.0) (none p.0 lp (subst (λ i. Contains pairs (p.0, i)) e is_member)) in
@@ -182,13 +184,13 @@ module _ {pairs : List (ℕ × ℕ)} {len : ℕ} {predecessors reach neighbours 
         | inr ne ↦ grind (arith, nat_tests)
       ]
 
-  -- So the two tests have the same value.
+  -- For an item i in range, the definition's test `is_minimal` has the same value as the code's test.
   is_minimal-are_disjoint : (i : ℕ)
       → i < len
       → is_minimal pairs (items_below len left) i ≡ are_disjoint (get_or predecessors i 0) left
   is_minimal-are_disjoint i li = same_from_decides _ _ (Decides-is_minimal i) (Decides-are_disjoint i li)
 
-  -- An item that another item left reaches is blocked; so is one that a blocked item reaches.
+  -- If an item i that is left reaches k, then k is blocked, provided that it is blocked if it is i itself.
   IsBlocked-reached : (m i k : ℕ)
       → i < len
       → Walk pairs m i k
@@ -203,7 +205,7 @@ module _ {pairs : List (ℕ × ℕ)} {len : ℕ} {predecessors reach neighbours 
       (λ a. (Decides-are_disjoint h lh).0 a i li c is_candidate)))
 
   module _ {narrow : ℕ} (narrowed : Narrowed len predecessors reach left candidates narrow) where
-    -- An item left that is no candidate is still blocked.
+    -- An item left that is no candidate is blocked.
     IsBlocked-no_candidate : (k : ℕ) → k < len → has left k ≡ true → has narrow k ≡ false → IsBlocked predecessors left k
     IsBlocked-no_candidate k lk is_candidate gone = elim (cases_Bool (has candidates k)) [
       | inl e ↦
@@ -214,8 +216,8 @@ module _ {pairs : List (ℕ × ℕ)} {len : ℕ} {predecessors reach neighbours 
       | inr n ↦ so.waiting k lk is_candidate n
     ]
 
-    -- The lowest order is made of the items taken, the minimal item that is found in this turn, and the order of the others; it is `None`
-    -- if no item is found.
+    -- The lowest order is that of the items taken, then the minimal item o that is found among those left, and then the greedy
+    -- order of the others; it is `None` if no item is found.
     lowest_order-turn : (o : Option ℕ)
         → find (is_minimal pairs (items_below len left)) (items_below len left) ≡ o
         → lowest_order len pairs
@@ -260,7 +262,7 @@ module _ {pairs : List (ℕ × ℕ)} {len : ℕ} {predecessors reach neighbours 
           ∙ ap (λ xs. option_map (λ ys. take (turn + 1) (set items turn item) ++ ys) (greedy_order (len - (turn + 1)) pairs xs))
           (sym (filter-without (has left) (has next) item 0 len item_is_left (λ k a b. cleared k (omega (arith, b, few))))))
 
-      -- An item that is no neighbour of the item taken is still blocked.
+      -- An item that is blocked, and no neighbour of the item taken, is blocked after the turn.
       IsBlocked-after_turn : (k : ℕ)
           → k < len
           → IsBlocked predecessors left k
@@ -279,11 +281,12 @@ module _ {pairs : List (ℕ × ℕ)} {len : ℕ} {predecessors reach neighbours 
                 not-both_if_disjoint (get_or predecessors k 0) next j (eqb-true _ 0 e) hr (grind (arith, nat_tests, cleared j lj))
           ]))))
 
-      -- The invariant holds in the next turn. Candidates are then those left over, and the neighbours of the item taken that are left.
-      pub TakenSoFar-more : (more : ℕ)
+      -- The invariant holds in the next turn, if its candidates are those left over, and the neighbours of the item taken that
+      -- are left.
+      pub TakenSoFar-next : (more : ℕ)
           → ((k : ℕ) → k < most_items → has more k ≡ ((has narrow k || reaches_in neighbours item k) && has next k))
           → TakenSoFar pairs len predecessors reach (set items turn item) next more (turn + 1)
-      TakenSoFar-more more says = record {
+      TakenSoFar-next more says = record {
         so_far = lowest_order-so_far_next;
         inside = λ k lk h. grind (arith, says k lk);
         waiting = λ k lk h gone.
@@ -302,7 +305,8 @@ module _ {pairs : List (ℕ × ℕ)} {len : ℕ} {predecessors reach neighbours 
             grind (arith, nat_tests, cleared j (omega (arith, lj, few))));
       }
 
--- If each predecessor set is joined with the predecessors by further pairs, the sets are those of both lists of pairs.
+-- If `first` has the predecessors by the pairs xs, and `second` has these and the predecessors by ys, then `second` has those
+-- by both.
 pub ArePredecessors-append : (n : ℕ) (first second : List ℕ) (xs ys : List (ℕ × ℕ))
     → ArePredecessors n xs first
     → ((i j : ℕ) → i < n → j < most_items → has (get_or second i 0) j ≡ (has (get_or first i 0) j || has_edge ys j i))
@@ -310,13 +314,14 @@ pub ArePredecessors-append : (n : ℕ) (first second : List ℕ) (xs ys : List (
 ArePredecessors-append n first second xs ys are more i j li lj =
     more i j li lj ∙ (ap (λ x. x || has_edge ys j i) (are i j li lj) ∙ sym (list_any-append (λ p. eqb p.0 j && eqb p.1 i) xs ys))
 
--- Empty sets are the predecessor sets of no pairs.
+-- If all sets of a table are empty, they are the predecessors by no pairs.
 pub ArePredecessors-empty : (none : List ℕ)
     → ((i : ℕ) → i < most_items → get_or none i 0 ≡ 0)
     → ArePredecessors most_items [] none
 ArePredecessors-empty none zero' i j li lj = ap (λ n. has n j) (zero' i li) ∙ ap (λ n. eqb n 1) (bit_at-zero j)
 
--- A set copied to the front of a table is read at its index.
+-- If `front` is the first `len` sets of `before`, then reading `front` and `rest` at an index below `len` gives the set of
+-- `before`.
 pub get_or-copied_set : (len i : ℕ) (before front rest : List ℕ)
     → i < len
     → len ≤ length before

@@ -25,7 +25,8 @@ pub record IsReaching (item len steps : ℕ) (sets : List ℕ) (set left next : 
   pub below : (k : ℕ) → k < next → has left k ≡ false
   pub lowest : next < most_items → has left next ≡ true
 
--- Before the first successor, the set has only the item itself, and every successor is still to be visited.
+-- If the set has only the item itself, and every successor is still to be visited, of which `next` is the lowest, the invariant
+-- holds.
 pub IsReaching-start : {len steps : ℕ} {sets : List ℕ} (item set none next : ℕ)
     → item < most_items
     → ((k : ℕ) → k < most_items → has set k ≡ (eqb k item || has none k))
@@ -44,7 +45,7 @@ IsReaching-start item set none next l with empty below lowest = record {
 
 module _ {item len steps : ℕ} {sets : List ℕ} {set left next : ℕ} (few : len ≤ most_items) (low : item < most_items)
     (r : IsReaching item len steps sets set left next) where
-  -- When no successor is left, the set has all that the item reaches.
+  -- If no successor is left (`next` is past the last item), the set has all that the item reaches.
   pub IsReachedFrom-end : len ≤ next → IsReachedFrom item len steps sets set
   IsReachedFrom-end end = record {
     itself = r.itself;
@@ -57,7 +58,7 @@ module _ {item len steps : ℕ} {sets : List ℕ} {set left next : ℕ} (few : l
       (join : (k : ℕ) → k < most_items → has more k ≡ (has set k || reaches_in sets next k))
       (drop_next : (k : ℕ) → k < most_items → has rest k ≡ (not (eqb k next) && has left k))
       (below : (k : ℕ) → k < further → has rest k ≡ false) (lowest : further < most_items → has rest further ≡ true) where
-    -- When the successor `next` is visited and its set joined, the invariant holds of the remaining successors.
+    -- If the successor `next` is visited and its set joined, the invariant holds of the remaining successors.
     pub IsReaching-next : IsReaching item len steps sets more rest further
     IsReaching-next = record {
       itself = join item low ∙ or_left _ _ r.itself;
@@ -82,7 +83,8 @@ module _ {item len steps : ℕ} {sets : List ℕ} {set left next : ℕ} (few : l
     pub next_lt_further : next < further
     next_lt_further = grind (arith, eq-eqb further next, drop_next further, r.below further)
 
--- The set computed for an item has exactly the items to which a walk leads, if this holds of the sets of higher items.
+-- If the sets of the items after `item` say which items walks from them reach, so does the set computed for `item` from its
+-- successors.
 pub Decides-set_of_steps : {item len set_of steps : ℕ} {sets : List ℕ} (preserved : List (ℕ × ℕ))
     → AreAscending len preserved
     → len ≤ most_items

@@ -10,18 +10,18 @@ use Rattle.lw_orders.proofs.Common.{get_or-replicate, length-replicate, All-appe
 use Rattle.lw_orders.proofs.Common.{All-drop, All-head, All-tail, Respects, All-push, lowest_order}
 use Rattle.lw_orders.proofs.Common.{AreInRange, has, reaches_in, ArePredecessors, EdgesAreIn, AreNeighbours}
 use Rattle.lw_orders.proofs.Common.{Reaches, IsAcyclicClosure, SearchState, reverse_if, ReversesLast}
-use Rattle.lw_orders.proofs.Common.{oriented, search_from, after_reversals, from_reversals, IsTaken, pair_at}
+use Rattle.lw_orders.proofs.Common.{oriented, search_from, after_reversals, from_reversals, IsChosen, pair_at}
 use Rattle.lw_orders.proofs.Common.{reach, CanBeSearched, IsSearchState, HasSearchTables, remaining_orders}
 use Rattle.lw_orders.proofs.SearchTree.{oriented-push, from_reversals-push_false, after_reversals-push_false}
 use Rattle.lw_orders.proofs.SearchTree.{after_reversals-push_true, from_reversals-all_oriented}
 use Rattle.lw_orders.proofs.SearchTree.{from_reversals-no_order}
 use Rattle.lw_orders.proofs.Walks.{closure-antisym}
-use Rattle.lw_orders.proofs.GrowingClosure.{IsAcyclicClosure-start, IsAcyclicClosure-more}
+use Rattle.lw_orders.proofs.GrowingClosure.{IsAcyclicClosure-start, IsAcyclicClosure-push}
 use Rattle.lw_orders.proofs.GrowingClosure.{not-Before-if_reached_back, lowest_order-if_acyclic}
 use Rattle.lw_orders.proofs.api.Complete.{All-parts, IsWithin, IsAscendingPair, Respects-push_inv}
 
 -- The number of orientations that one call tries is at most 3 k, for k unordered pairs. At first the call may go up, from a reversed pair
--- that closes a cycle to the pair before it, and tries one orientation for each pair that it leaves. After the first orientation taken it goes
+-- that closes a cycle to the pair before it, and tries one orientation for each pair that it leaves. After the first orientation choice it goes
 -- down, and tries at most two for each pair: if the first closes a cycle, the second does not.
 abbrev pub Phase : List (ℕ × ℕ) → SearchState → Option ℕ → ℕ → Type 0
 Phase unordered s None tried = tried ≤ 3 * length unordered
@@ -33,14 +33,14 @@ Phase unordered s (Some level) tried =
 
 -- ---- after some reversals
 module _ (reversals : List Bool) (ps : List (ℕ × ℕ)) (long : length reversals ≡ length ps) where
-  -- The first `k + 1` reversals are the first k, and the next one.
+  -- If the reversal at k is w, the first k + 1 reversals are the first k and then w.
   take_reversals-suc : (k : ℕ) (w : Bool)
       → k < length ps
       → get_or reversals k false ≡ w
       → take (k + 1) reversals ≡ take k reversals ++ w ∷ []
   take_reversals-suc k w in_range e = take_more reversals k false (omega (arith, long)) ∙ ap (λ v. take k reversals ++ v ∷ []) e
 
-  -- The first k reversals are k in number.
+  -- If there are at least k pairs, the first k reversals are k in number.
   length_take-reversals : (k : ℕ) → k ≤ length ps → length (take k reversals) ≡ k
   length_take-reversals k l = length-take-le k reversals (omega (arith, long))
 
@@ -49,14 +49,14 @@ module _ (len : ℕ) (graph ps : List (ℕ × ℕ)) (reversals : List Bool) (lon
   abbrev orders_after : ℕ → List (List ℕ)
   orders_after k = after_reversals len graph ps (take k reversals)
 
-  -- After a reversed pair come the orders that come after the pairs before it.
+  -- If the pair at k is reversed, the orders after the first k + 1 reversals are those after the first k.
   orders_after-reversed : (k : ℕ) → k < length ps → get_or reversals k false ≡ true → orders_after (k + 1) ≡ orders_after k
   orders_after-reversed k in_range on =
       ap (after_reversals len graph ps) (take_reversals-suc reversals ps long k true in_range on)
       ∙ after_reversals-push_true len graph ps (take k reversals)
       (omega (arith, length_take-reversals reversals ps long k (omega arith)))
 
-  -- After d reversed pairs come the orders that come after the pairs before them.
+  -- If the d pairs from `from` on are reversed, the orders after the reversals up to `upto` are those after the first `from`.
   orders_after-all_reversed : (d from upto : ℕ)
       → from + d ≡ upto
       → upto ≤ length ps
@@ -91,7 +91,7 @@ module _ (len : ℕ) (graph ps : List (ℕ × ℕ)) (reversals : List Bool) (lon
 
 -- ---- the search state
 
--- The first i oriented pairs are oriented by the first i reversals.
+-- The first i of the oriented pairs are the pairs oriented by the first i reversals.
 take-oriented : (i : ℕ) (ps : List (ℕ × ℕ)) (ws : List Bool) → oriented ps (take i ws) ≡ take i (oriented ps ws)
 take-oriented zero [] ws = refl
 take-oriented zero (p ∷ ps) ws = refl
@@ -99,7 +99,7 @@ take-oriented (suc i) [] ws = refl
 take-oriented (suc i) (p ∷ ps) [] = refl
 take-oriented (suc i) (p ∷ ps) (w ∷ ws) = ap (λ xs. reverse_if w p ∷ xs) (take-oriented i ps ws)
 
--- What holds of each pair in both orientations holds of the oriented pairs.
+-- If P holds of each pair in both orientations, it holds of the oriented pairs.
 All-oriented : (P : ℕ × ℕ → Type 0) (ps : List (ℕ × ℕ)) (ws : List Bool)
     → All (λ p. P p × P (p.1, p.0)) ps
     → All P (oriented ps ws)
@@ -109,12 +109,13 @@ All-oriented P (p ∷ ps) (w ∷ ws) all =
     All-cons P (reverse_if w p) _ (reverse_if-both w (All-head (λ p. P p × P (p.1, p.0)) p ps all))
     (All-oriented P ps ws (All-tail (λ p. P p × P (p.1, p.0)) p ps all))
   where
-    -- Whether the pair is reversed or not.
+    -- If P holds of the pair and of its reverse, it holds of the pair reversed or not (w).
     reverse_if-both : (w : Bool) → P p × P (p.1, p.0) → P (reverse_if w p)
     reverse_if-both false h = h.0
     reverse_if-both true h = h.1
 
--- Reversing the last pair not yet reversed preserves the reversals before it and their number.
+-- If the last unreversed pair of the first `upto` is reversed, the reversals before it and their number are unchanged, and it
+-- is below `upto`.
 ReversesLast-front_unchanged : (reversals next : List Bool) (upto : ℕ) (found : Option ℕ)
     → ReversesLast reversals next upto found
     → (length next ≡ length reversals)
@@ -126,7 +127,8 @@ ReversesLast-front_unchanged reversals next upto (Some i) (li, off, is, on) =
 
 module _ {len : ℕ} {preserved unordered : List (ℕ × ℕ)} {s : SearchState} {level : ℕ}
     (st : IsSearchState len preserved unordered s level) where
-  -- After the last pair not yet reversed is reversed, the search is at that pair.
+  -- If the last unreversed pair up to this level is reversed, the invariant holds at that pair; if there is none, the search
+  -- has ended, and the invariant holds at the first pair.
   pub IsSearchState-after_reversal : (next : List Bool) (upto : ℕ) (found : Option ℕ)
       → upto ≤ level + 1
       → ReversesLast s.reversals next upto found
@@ -200,7 +202,7 @@ module _ {len : ℕ} {preserved unordered : List (ℕ × ℕ)} {s : SearchState}
     abbrev p : ℕ × ℕ
     p = pair_at unordered s.reversals level
 
-    -- Its items are in range.
+    -- The items of the orientation to try are in range.
     p_within : (p.0 < len) × (p.1 < len)
     p_within = let (a, b) = st.can.unordered_up level (0, 0) below in grind arith
 
@@ -208,7 +210,7 @@ module _ {len : ℕ} {preserved unordered : List (ℕ × ℕ)} {s : SearchState}
     long_here : length (take level s.reversals) ≡ level
     long_here = length_take-reversals s.reversals unordered st.reversals_long level st.level_in
 
-    -- Oriented by the reversals up to this pair, the pairs are those chosen before, and the orientation to try.
+    -- The pairs oriented by the reversals up to this pair are those chosen before, and the orientation to try.
     reversal_chosen : oriented unordered (take (level + 1) s.reversals) ≡ take level s.chosen ++ p ∷ []
     reversal_chosen =
         ap (oriented unordered)
@@ -219,7 +221,7 @@ module _ {len : ℕ} {preserved unordered : List (ℕ × ℕ)} {s : SearchState}
     graph_is : preserved ++ oriented unordered (take (level + 1) s.reversals) ≡ (preserved ++ take level s.chosen) ++ p ∷ []
     graph_is = ap (λ ds. preserved ++ ds) reversal_chosen ∙ sym (append_assoc preserved (take level s.chosen) (p ∷ []))
 
-    -- An orientation that closes a cycle has no orders, so the search skips it.
+    -- If the orientation closes a cycle, there are no orders with it: the orders from its reversals on are those after them.
     pub from_reversals-closing_cycle : reach s.saved level p.1 p.0 ≡ true
         → from_reversals len preserved unordered (take (level + 1) s.reversals)
         ≡ after_reversals len preserved unordered (take (level + 1) s.reversals)
@@ -240,24 +242,24 @@ module _ {len : ℕ} {preserved unordered : List (ℕ × ℕ)} {s : SearchState}
             let (graph, pair) = Respects-push_inv (preserved ++ take level s.chosen) p o keeps in
             not-Before-if_reached_back p.0 p.1 p_within.0 p_within.1 closure_at_level back o graph pair
 
-    module _ {next : SearchState} (taken : IsTaken len p level s next) where
-      -- After an orientation that closes no cycle, the search is at the next pair.
+    module _ {next : SearchState} (choice : IsChosen len p level s next) where
+      -- If the orientation closes no cycle and is chosen, the search is at the next pair.
       pub IsSearchState-next_pair : reach s.saved level p.1 p.0 ≡ false → IsSearchState len preserved unordered next (level + 1)
       IsSearchState-next_pair free = record {
         can = st.can;
-        reversals_long = taken.long ∙ st.reversals_long;
-        chosen_long = ap length taken.chosen ∙ (length-set s.chosen level p ∙ st.chosen_long);
-        saved_long = ap length taken.saved ∙ (length-set s.saved (level + 1) (get_or next.saved (level + 1) []) ∙ st.saved_long);
+        reversals_long = choice.as_long ∙ st.reversals_long;
+        chosen_long = ap length choice.chosen ∙ (length-set s.chosen level p ∙ st.chosen_long);
+        saved_long = ap length choice.saved ∙ (length-set s.saved (level + 1) (get_or next.saved (level + 1) []) ∙ st.saved_long);
         level_in = omega (arith, below);
-        reversals_chosen = chosen_now ∙ (sym reversal_chosen ∙ ap (oriented unordered) (sym taken.before));
+        reversals_chosen = chosen_now ∙ (sym reversal_chosen ∙ ap (oriented unordered) (sym choice.before));
         closed = λ i li. elim (cases_eq i (level + 1)) [
           | inl q ↦
               rw (q, chosen_now, ← append_assoc preserved (take level s.chosen) (p ∷ []))
-              (IsAcyclicClosure-more p.0 p.1 p_within.0 p_within.1 (st.closed level (omega arith)) free taken.reached)
+              (IsAcyclicClosure-push p.0 p.1 p_within.0 p_within.1 (st.closed level (omega arith)) free choice.reached)
           | inr n ↦
-              (let was = ap (take i) taken.chosen ∙ take-set-le i s.chosen level p (omega arith) in
+              (let was = ap (take i) choice.chosen ∙ take-set-le i s.chosen level p (omega arith) in
               let set_of =
-              ap (λ xs. get_or xs i []) taken.saved
+              ap (λ xs. get_or xs i []) choice.saved
               ∙ get_or-set_other s.saved (level + 1) i (get_or next.saved (level + 1) []) [] n in
               subst (λ xs. IsAcyclicClosure len (preserved ++ take i next.chosen) (reaches_in xs)) (sym set_of)
               (rw was (st.closed i (omega arith))))
@@ -266,9 +268,9 @@ module _ {len : ℕ} {preserved unordered : List (ℕ × ℕ)} {s : SearchState}
         where
           -- The pairs chosen now are those before, and the orientation.
           chosen_now : take (level + 1) next.chosen ≡ take level s.chosen ++ p ∷ []
-          chosen_now = ap (take (level + 1)) taken.chosen ∙ take_more_set s.chosen level p (omega (arith, st.chosen_long, below))
+          chosen_now = ap (take (level + 1)) choice.chosen ∙ take_more_set s.chosen level p (omega (arith, st.chosen_long, below))
 
-      -- The orders from these reversals on are those from the reversals at the next pair on.
+      -- If the orientation is chosen, the orders from these reversals on are those from the reversals at the next pair on.
       pub from_reversals-next_pair : from_reversals len preserved unordered (take (level + 1) s.reversals)
           ≡ from_reversals len preserved unordered (take (level + 1 + 1) next.reversals)
       from_reversals-next_pair = elim (cases_lt (level + 1) (length unordered)) [
@@ -276,16 +278,18 @@ module _ {len : ℕ} {preserved unordered : List (ℕ × ℕ)} {s : SearchState}
             from_reversals-push_false len preserved unordered (take (level + 1) s.reversals)
             (omega (arith, length_take-reversals s.reversals unordered st.reversals_long (level + 1) (omega arith)))
             ∙ ap (from_reversals len preserved unordered)
-            (ap (λ ws. ws ++ false ∷ []) (sym taken.before)
-            ∙ sym (take_reversals-suc next.reversals unordered (taken.long ∙ st.reversals_long) (level + 1) false l
-            taken.next_unreversed))
+            (ap (λ ws. ws ++ false ∷ []) (sym choice.before)
+            ∙ sym (take_reversals-suc next.reversals unordered (choice.as_long ∙ st.reversals_long) (level + 1) false l
+            choice.next_unreversed))
         | inr g ↦
             ap (from_reversals len preserved unordered)
-            (sym (take_all (level + 1 + 1) next.reversals (omega (arith, st.reversals_long, taken.long))
-            ∙ (sym (take_all (level + 1) next.reversals (omega (arith, st.reversals_long, taken.long))) ∙ taken.before)))
+            (sym (take_all (level + 1 + 1) next.reversals (omega (arith, st.reversals_long, choice.as_long))
+            ∙ (sym (take_all (level + 1) next.reversals (omega (arith, st.reversals_long, choice.as_long))) ∙ choice.before)))
       ]
 
-    -- ---- the count of orientations tried: at most one orientation of a pair closes a cycle
+    -- ---- the count of orientations tried
+
+    -- Of the two orientations of a level's pair at most one closes a cycle with the pairs chosen before.
     not-both_close_cycle : reach s.saved level (get_or unordered level (0, 0)).1 (get_or unordered level (0, 0)).0 ≡ true
         → reach s.saved level (get_or unordered level (0, 0)).0 (get_or unordered level (0, 0)).1 ≡ true
         → ⊥
@@ -294,7 +298,8 @@ module _ {len : ℕ} {preserved unordered : List (ℕ × ℕ)} {s : SearchState}
         omega (arith, closure-antisym (st.closed level (omega arith)) _ _ (omega arith) b y x)
 
     module _ (tried : ℕ) (ph : Phase unordered s (Some level) tried) where
-      -- The count of tries is within its bound after an orientation that closes a cycle is abandoned.
+      -- If an orientation closes a cycle, and the last unreversed pair up to this level is reversed, the count of tries is
+      -- still within its bound, with one more.
       pub Phase-orientation_abandoned : (reversed : Bool) (next : List Bool) (found : Option ℕ)
           → get_or s.reversals level false ≡ reversed
           → reach s.saved level (reverse_if reversed (get_or unordered level (0, 0))).1
@@ -321,14 +326,15 @@ module _ {len : ℕ} {preserved unordered : List (ℕ × ℕ)} {s : SearchState}
         | inr n ↦ cc (on level (omega arith) (omega arith))
       ]
 
-      -- The count of tries is within its bound after an orientation is taken.
+      -- If an orientation is chosen, and the next pair is not reversed, the count of tries is still within its bound, with one
+      -- more.
       pub Phase-next_pair : (next : SearchState)
           → get_or next.reversals (level + 1) false ≡ false
           → Phase unordered next (Some (level + 1)) (tried + 1)
       Phase-next_pair next off =
           inr (rw off (elim ph [ inl a ↦ omega (arith, a.1) | inr b ↦ grind (arith, b.0) ]), λ t. cc (off, t))
 
-  -- A call tries at most three orientations for each unordered pair.
+  -- If the count of tries is within its bound at a pair, it is at most three for each unordered pair.
   pub tries-le_three_per_pair : (tried : ℕ) → Phase unordered s (Some level) tried → tried ≤ 3 * length unordered
   tries-le_three_per_pair tried (inl a) = omega (arith, a.1)
   tries-le_three_per_pair tried (inr b) = elim (cases_lt level (length unordered)) [
@@ -338,7 +344,7 @@ module _ {len : ℕ} {preserved unordered : List (ℕ × ℕ)} {s : SearchState}
 
 -- ---- the start
 
--- Before the first step all orders of the search remain.
+-- If the first pair is not reversed, the orders from its reversal on are all orders of the search.
 pub from_reversals-start : (n : ℕ) (preserved unordered : List (ℕ × ℕ)) (reversals : List Bool)
     → length reversals ≡ length unordered
     → get_or reversals 0 false ≡ false
@@ -350,7 +356,7 @@ from_reversals-start n preserved (p ∷ ps) (w ∷ reversals) long off =
     ap (λ v. from_reversals n preserved (p ∷ ps) (v ∷ [])) off
     ∙ sym (from_reversals-push_false n preserved (p ∷ ps) [] (omega arith))
 
--- If no pair is reversed, the first is not.
+-- In a list of reversals that are not set, the first is not set.
 pub get_or-replicate_false : (n : ℕ) → get_or (replicate n false) 0 false ≡ false
 get_or-replicate_false zero = refl
 get_or-replicate_false (suc n) = refl
@@ -376,7 +382,7 @@ IsSearchState-start {len = len} {preserved = preserved} {unordered = unordered} 
       rw (e, append-nil preserved) (rw (← first_saved) at (IsAcyclicClosure-start can.preserved_up reaches)));
 }
   where
-    -- The first of the saved sets are these.
+    -- The first table of saved sets is `sets`.
     first_saved : get_or s.saved 0 [] ≡ sets
     first_saved = ap (λ xs. get_or xs 0 []) sv ∙ get_or-replicate (k + 1) 0 sets [] (omega arith)
 

@@ -9,7 +9,8 @@ use Rattle.lw_orders.proofs.Common.{Constraints, IsWellFormed, AreAscending, is_
 use Rattle.lw_orders.proofs.Common.{has, reaches_in, Reaches}
 use Rattle.lw_orders.proofs.Walks.{IsOrderedByPath-if_ordered, is_ordered-if_path}
 
--- The conflicts that the sets of the closure do not order are the unordered ones.
+-- If sets say which items walks along the preserved pairs reach, the conflicts that the sets do not order are the unordered
+-- ones.
 pub unordered_conflicts-by_sets : (t : Constraints)
     → IsWellFormed t
     → (sets : List ℕ)
@@ -30,7 +31,8 @@ unordered_conflicts-by_sets t are sets walks = filter_ordered-same t.conflicts a
         let rest = filter_ordered-same ps (All-tail (λ p. (p.0 < p.1) × (p.1 < t.len)) p ps up) in
         cc
 
--- To write the first element of `back` is to write it in the whole list, at the length of `front`.
+-- If `back` is not empty, writing v as its first element is writing v in the whole list at the length of `front`. The written value is
+-- stated as what the list has there afterwards, as the clause `others` of `reach_next` states it.
 set-append_first : {X : Type 0} (front back : List X) (v d : X)
     → 0 < length back
     → front ++ set back 0 v ≡ set (front ++ back) (length front) (get_or (front ++ set back 0 v) (length front) d)
@@ -38,7 +40,7 @@ set-append_first [] [] v d in_range = absurd (omega arith)
 set-append_first [] (b ∷ back) v d in_range = refl
 set-append_first (f ∷ front) back v d in_range = ap (λ xs. f ∷ xs) (set-append_first front back v d in_range)
 
--- If xs is split at n into `front` and `back`, to write the first element of `back` is to write xs at n.
+-- If xs is split at n into `front` and `back`, to write v as the first element of `back` is to write v in xs at n, stated in the same way.
 pub set-split_at : {X : Type 0} (xs front back : List X) (n : ℕ) (v d : X)
     → xs ≡ front ++ back
     → length front ≡ n
@@ -47,12 +49,12 @@ pub set-split_at : {X : Type 0} (xs front back : List X) (n : ℕ) (v d : X)
 set-split_at xs front back n v d e long in_range = rw (e, ← long) (set-append_first front back v d in_range)
 
 module _ (xs front back : List (List ℕ)) (level : ℕ) (e : xs ≡ front ++ back) (long : length front ≡ level + 1) where
-  -- The table of a level, the last of the front part, is the one in the whole list.
+  -- The table of a level, which is the last of the front part, is read in the whole list at that level.
   pub get_or-front_level : get_or front level [] ≡ get_or xs level []
   get_or-front_level = rw e (sym (get_or_append_left front back [] level (omega (arith, long))))
 
-  -- If `more`, the table of a level extended by a pair, is written to the first of the back part, then the whole list has it after the
-  -- table of that level.
+  -- If the table `more`, that of a level extended by a pair, is written at the first of the back part, the whole list has it at
+  -- the next level.
   pub reaches_in-written_level : {len : ℕ} (from to : ℕ) (more : List ℕ)
       → 0 < length back
       → ((i j : ℕ)
@@ -89,7 +91,8 @@ pub record IsGrowing (sets more : List ℕ) (len from to item : ℕ) : Type 0 wh
 
 module _ {sets more : List ℕ} {len from to item : ℕ} (few : len ≤ most_items) (l : item < len)
     (growing : IsGrowing sets more len from to item) where
-  -- If an item reaches the new pair's first item, its set is joined with the second item's.
+  -- If `item` reaches the new pair's first item, and its new set has what its set and the second item's set have, then the
+  -- items below item + 1 are extended.
   pub IsGrowing-set_joined : (set' : ℕ)
       → ((j : ℕ) → j < most_items → has set' j ≡ (reaches_in sets item j || reaches_in sets to j))
       → reaches_in sets item from ≡ true
@@ -103,7 +106,7 @@ module _ {sets more : List ℕ} {len from to item : ℕ} (few : len ≤ most_ite
     ];
   }
 
-  -- If an item does not reach the new pair's first item, its set is unchanged.
+  -- If `item` does not reach the new pair's first item, the items below item + 1 are extended, with its set unchanged.
   pub IsGrowing-set_unchanged : reaches_in sets item from ≡ false → IsGrowing sets more len from to (item + 1)
   IsGrowing-set_unchanged off = record {
     room = growing.room;

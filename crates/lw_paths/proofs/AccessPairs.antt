@@ -28,7 +28,7 @@ module _ (acc : ℕ → Option Access) (numbered : (i : ℕ) (a : Access) → ac
   abbrev accesses_in : ℕ → ℕ → List Access
   accesses_in m d = flat_map (λ i. option_to_list (acc i)) (indices m d)
 
-  -- An item without an access conflicts with no other.
+  -- If item k has no access, it conflicts with none of the items js.
   none_row : (k : ℕ) → acc k ≡ None → (js : List ℕ) → filter conflict (map (pair k) js) ≡ []
   none_row k is_none [] = refl
   none_row k is_none (j ∷ js) = rw is_none (none_row k is_none js)
@@ -70,12 +70,12 @@ module _ (acc : ℕ → Option Access) (numbered : (i : ℕ) (a : Access) → ac
   conflicts_of_pairs (suc d) m = conflicts_of_pairs-next m d (acc m) refl (conflicts_of_pairs d (suc m))
 
 module _ {S : Type 0} (language : Language S) (program : List (List S)) where
-  -- Two items conflict if and only if their accesses do.
+  -- The test whether two items conflict, by their statements and whether each is a drain (d, e), is that of their accesses.
   conflict_by-by_accesses : (n m : ℕ) (d e : Bool) (s t : Option S)
       → conflict_by language d e s t ≡ accesses_conflict (access_by language n d s) (access_by language m e t)
   conflict_by-by_accesses n m d e s t = grind arith
 
-  -- The access of an item has the item's index.
+  -- If the item with index n, a drain if d is `true`, has an access, that has the index n.
   index-of_access : (n : ℕ) (d : Bool) (s : Option S) (a : Access) → access_by language n d s ≡ Some a → a.index ≡ n
   index-of_access n d s a e = grind arith
 

@@ -13,7 +13,7 @@ use Rattle.lw_paths.proofs.FlatMaps.{flat_map-same, flat_map-of_flat_map, map-fl
 
 -- ---- visits of path assignments in sequence
 module _ {V E : Type 0} (R : V → List (List ℕ) → V → Type 0) (F : V → List (List ℕ) → E → Type 0) where
-  -- If the first path assignments are visited, visiting more has the result of the later visits.
+  -- If the first path assignments cs are visited, a visit of ds from there has the result of a visit of cs and then ds.
   VisitResult-append : (cs ds : List (List (List ℕ))) (v m w : V) (r : Result (Unit {0}) E)
       → VisitsAll R cs v m
       → VisitResult R F ds m r w
@@ -22,27 +22,28 @@ module _ {V E : Type 0} (R : V → List (List ℕ) → V → Type 0) (F : V → 
   VisitResult-append (c ∷ cs) ds v m w (Ok u) (n, one, a) d = (n, one, VisitResult-append cs ds n m w (Ok u) a d)
   VisitResult-append (c ∷ cs) ds v m w (Err e) (n, one, a) d = inr (n, one, VisitResult-append cs ds n m w (Err e) a d)
 
-  -- If a visit of the first path assignments fails, so does visiting these and more.
+  -- If a visit of cs fails with a cause, so does a visit of cs and then ds.
   VisitFails-append : (cs ds : List (List (List ℕ))) (v : V) (e : E) → VisitFails R F cs v e → VisitFails R F (cs ++ ds) v e
   VisitFails-append [] ds v e r = absurd r
   VisitFails-append (c ∷ cs) ds v e (inl h) = inl h
   VisitFails-append (c ∷ cs) ds v e (inr (m, one, h)) = inr (m, one, VisitFails-append cs ds m e h)
 
-  -- A sequence of visits that succeeds has visited every path assignment.
+  -- If a visit of path assignments succeeds, each of them was visited.
   pub VisitsAll-if_ok : (cs : List (List (List ℕ))) (v w : V) (r : Result (Unit {0}) E)
       → VisitResult R F cs v r w
       → OnOk r (VisitsAll R cs v w)
   VisitsAll-if_ok cs v w (Ok u) d = d
   VisitsAll-if_ok cs v w (Err e) d = tt
 
-  -- A sequence of visits that fails has failed at one of the path assignments.
+  -- If a visit of path assignments fails with a cause, the visit of one of them failed with it.
   pub VisitFails-if_err : (cs : List (List (List ℕ))) (v w : V) (r : Result (Unit {0}) E)
       → VisitResult R F cs v r w
       → IfErr r (VisitFails R F cs v)
   VisitFails-if_err cs v w (Ok u) d = tt
   VisitFails-if_err cs v w (Err e) d = d
 
-  -- A sequence of one visit succeeds or fails as that visit does.
+  -- If the visit of one path assignment reaches w, or fails for a true cause, this is the result of visiting the list of just
+  -- this one.
   VisitResult-one : (c : List (List ℕ)) (v w : V) (r : Result (Unit {0}) E)
       → OnOk r (R v c w)
       → IfErr r (F v c)
@@ -52,19 +53,19 @@ module _ {V E : Type 0} (R : V → List (List ℕ) → V → Type 0) (F : V → 
 
 module _ {S : Type 0} (language : Language S) where
   module _ (code : List S) (forward : JumpsForward language code) where
-    -- The paths through a statement depend only on the paths from later positions.
+    -- If f and g agree on all later positions of the code, the paths through the statement at j are the same by f and by g.
     paths_through-same : (f g : ℕ → List (List ℕ)) (j : ℕ)
         → ((k : ℕ) → j < k → k ≤ length code → f k ≡ g k)
         → paths_through language f (slice_get code j) j ≡ paths_through language g (slice_get code j) j
     paths_through-same f g j h = same-at_statement (slice_get code j) refl
       where
-        -- By the statement at the position.
+        -- By the statement at the position: its successors are later.
         same-at_statement : (o : Option S) → slice_get code j ≡ o → paths_through language f o j ≡ paths_through language g o j
         same-at_statement None e = refl
         same-at_statement (Some s) e = ap (map (λ p. j ∷ p)) (flat_map-same f g (successors language s j)
             (λ k c. (let (up, within) = successors-in_range language code j k s forward e c in h k up within)))
 
-    -- The bound on the number of steps does not matter, if it is large enough.
+    -- If n and m are both enough steps to reach the end of the code, the paths from j with either bound are the same.
     paths_from-any_bound : (n m j : ℕ)
         → length code ≤ j + n
         → length code ≤ j + m
@@ -78,7 +79,8 @@ module _ {S : Type 0} (language : Language S) where
         paths_through-same (λ k. paths_from language n code k) (λ k. paths_from language m code k) j
         (λ k l h. paths_from-any_bound n m k (omega arith) (omega arith))
 
-    -- The paths from a statement are its position, followed by the paths from its successors.
+    -- If a code has the statement s at a position, the paths from there are this position, followed by the paths from the
+    -- successors of s.
     paths-step : (at : ℕ) (s : S)
         → slice_get code at ≡ Some s
         → paths_at language code at ≡ map (λ p. at ∷ p) (flat_map (paths_at language code) (successors language s at))
@@ -89,7 +91,7 @@ module _ {S : Type 0} (language : Language S) where
         (λ k a b. paths_from-any_bound (length code - at - 1) (length code - k) k (omega arith) (omega arith))
         ∙ ap (λ o. paths_through language (paths_at language code) o at) found_at)
 
-  -- From the end of the code there is exactly the empty path.
+  -- If a code has no statement at a position, exactly the empty path leads from there.
   paths-end : (code : List S) (n at : ℕ) → slice_get code at ≡ None → paths_from language n code at ≡ [] ∷ []
   paths-end code zero at is_none = ap (λ o. paths_through language (λ k. []) o at) is_none
   paths-end code (suc n) at is_none = ap (λ o. paths_through language (λ k. paths_from language n code k) o at) is_none
@@ -106,7 +108,7 @@ module _ {S : Type 0} (language : Language S) where
       (ap (λ n. flat_map (λ p. map (λ paths. p ∷ paths) (path_assignments language program)) (paths_from language n code 0))
       (omega arith))
 
-  -- A program without threads has exactly one path assignment: the empty one.
+  -- If a program has no threads, its only path assignment is the empty one.
   pub path_assignments-no_threads : (program : List (List S)) (assignment : List (List ℕ))
       → true ≡ (length program == 0)
       → assignment ≡ []
@@ -129,7 +131,8 @@ module _ {S : Type 0} {language : Language S} {program : List (List S)} {assignm
   own_short : length code_of_thread ≤ 32
   own_short = can.visitable.short (length assignment) [] can.thread
 
-  -- The statement read at the position is the one in the code of the thread whose path is being extended.
+  -- If `code` was read for the thread whose path is being extended, and o is its statement at the position, then o is the
+  -- statement there in the thread's code.
   pub statement_at_position : {code : List S} {n : ℕ} {o : Option S}
       → code ≡ get_or program n code
       → n ≡ length assignment
@@ -167,7 +170,8 @@ module _ {S : Type 0} {language : Language S} {program : List (List S)} {assignm
     length_of_more grown,
   )
 
-  -- After a position the walk continues at each of its successors, which are later in the code.
+  -- If k is a successor of the statement at the position, the path with this position can be extended at k, which is later in
+  -- the code.
   pub CanExtendPath-successor : {s : S} {longer : List ℕ} (k : ℕ)
       → slice_get code_of_thread position ≡ Some s
       → longer ≡ path ++ position ∷ []
@@ -200,7 +204,7 @@ module _ {S : Type 0} {language : Language S} {program : List (List S)} {assignm
           rw (paths-step language code_of_thread own position s e, ← led_is, grown)
           (simp (flat_map-map, flat_map-of_flat_map, append_assoc))
 
-      -- If the statement has one successor, a visit of all path assignments through it visits all from the statement on.
+      -- If the statement has one successor, visiting all path assignments through it visits all from the statement on.
       pub VisitsAll-one_successor : (first ∷ []) ≡ successors language s position
           → VisitsAll R (assignments_along language program assignment longer first) v w
           → VisitsAll R (assignments_along language program assignment path position) v w

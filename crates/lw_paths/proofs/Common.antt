@@ -55,10 +55,10 @@ pub use Rattle.lw_paths.specs.Items.{item_at, items_at, items_conflict, items_fr
 pub use Rattle.lw_paths.specs.Items.{needs_earlier_drains, pairs_from, path_items}
 pub use Rattle.lw_paths.specs.Items.{statement_needs_empty_buffer, statement_of, writes_by}
 pub use Rattle.lw_paths.specs.PathAssignments.{IsPathAssignment, JumpsForward}
+pub use Rattle.lw_paths.specs.ReducedPairs.{edge_from, last_of_thread, none_before, record_last, reduced_at}
+pub use Rattle.lw_paths.specs.ReducedPairs.{reduced_constraints_of, reduced_from}
 pub use Rattle.lw_paths.specs.Totals.{LimitFaultOfAssignment, LimitFaultOfAssignments, LimitFaultOfOrders}
 pub use Rattle.lw_paths.specs.Totals.{orders_of, orders_of_assignment, total_of}
-pub use Rattle.lw_paths.specs.TransitiveReduction.{edge_from, last_of_thread, none_before, record_last}
-pub use Rattle.lw_paths.specs.TransitiveReduction.{reduced_at, reduced_from, transitive_reduction}
 pub use Rattle.lw_paths.specs.Views.{assignment_of, path_of}
 pub use Rattle.lw_paths.specs.Visits.{CanExtendPath, IsVisitable, VisitFails, VisitsAll, assignments_along}
 pub use Rattle.lw_paths.specs.Visits.{paths_at}

@@ -17,7 +17,7 @@ abbrev DrainsFollowStores : Item → List Item → Type 0
 DrainsFollowStores a [] = Unit {0}
 DrainsFollowStores a (b ∷ items) = (b.is_drain ≡ true → IsStatementOf a b) × DrainsFollowStores b items
 
--- The property of `DrainsFollowStores` holds of a concatenation, if the second list does not start with a drain.
+-- If in xs, after a, each drain follows its store, and so in ys after any item, then so in xs and then ys after a.
 DrainsFollowStores-append : (a : Item) (xs ys : List Item)
     → DrainsFollowStores a xs
     → ((b : Item) → DrainsFollowStores b ys)
@@ -26,7 +26,7 @@ DrainsFollowStores-append a [] ys xs_follow ys_follow = ys_follow a
 DrainsFollowStores-append a (b ∷ xs) ys xs_follow ys_follow =
     (xs_follow.0, DrainsFollowStores-append b xs ys xs_follow.1 ys_follow)
 
--- A drain in such a list comes immediately after its store.
+-- If in the items after a each drain follows its store, a drain at index j comes immediately after its store.
 DrainsFollowStores-at : (a : Item) (items : List Item)
     → DrainsFollowStores a items
     → (j : ℕ)
@@ -38,7 +38,7 @@ DrainsFollowStores-at a (b ∷ items) follow zero in_range d = follow.0 d
 DrainsFollowStores-at a (b ∷ items) follow (suc j) in_range d = DrainsFollowStores-at b items follow.1 j (omega arith) d
 
 module _ {S : Type 0} (language : Language S) where
-  -- In the items of a statement, the drain comes immediately after its store.
+  -- In the items of a statement, after any item, each drain follows its store.
   DrainsFollowStores-statement : (t j : ℕ) (o : Option S) (a : Item) → DrainsFollowStores a (items_at language t j o)
   DrainsFollowStores-statement t j None a = tt
   DrainsFollowStores-statement t j (Some s) a =
@@ -49,7 +49,7 @@ module _ {S : Type 0} (language : Language S) where
       drain_follows_store None = tt
       drain_follows_store (Some x) = ((λ e. record { thread = refl; position = refl; statement = refl }), tt)
 
-  -- In the items of a path, each drain comes immediately after its store.
+  -- In the items of a path, after any item, each drain follows its store.
   DrainsFollowStores-path : (t : ℕ) (code : List S) (path : List ℕ) (a : Item)
       → DrainsFollowStores a (path_items language t code path)
   DrainsFollowStores-path t code [] a = tt
@@ -57,7 +57,7 @@ module _ {S : Type 0} (language : Language S) where
       DrainsFollowStores-append a (items_at language t j (slice_get code j)) (path_items language t code path)
       (DrainsFollowStores-statement t j (slice_get code j) a) (DrainsFollowStores-path t code path)
 
-  -- In the items of a path assignment, each drain comes immediately after its store.
+  -- In the items of a path assignment, after any item, each drain follows its store.
   DrainsFollowStores-program : (t : ℕ) (program : List (List S)) (paths : List (List ℕ)) (a : Item)
       → DrainsFollowStores a (items_from language t program paths)
   DrainsFollowStores-program t (code ∷ program) (path ∷ paths) a =

@@ -22,7 +22,8 @@ module _ {S : Type 0} (language : Language S) (undrained : (s : S) → drained_l
       at_most_one-without_drain None is_none = omega arith
       at_most_one-without_drain (Some x) is_none = absurd (cc)
 
-  -- A path has at most one item for each position that it passes.
+  -- If jumps go forward and no store is drained, a flow path from position `at` has at most one item for each position from
+  -- there on.
   length-path_items_le : (t : ℕ) (code : List S) (at : ℕ) (path : List ℕ)
       → JumpsForward language code
       → IsFlowPathFrom language code at path

@@ -14,7 +14,7 @@ use Rattle.lw_paths.proofs.Common.{orders_of_assignment, orders_of, total_of, is
 use Rattle.lw_paths.proofs.Common.{writes_by, conflict_by, items_conflict, statement_of, items_of, item_at}
 use Rattle.lw_paths.proofs.Common.{pairs_from, constraints_of, branches, code_has_no_access, has_no_access}
 
--- If each element's list has at most m elements, the concatenation has at most m for each element.
+-- If f of each element has at most m elements, the concatenation has at most m for each element of the list.
 length-flat_map_le : {X Y : Type 0} (f : X → List Y) (m : ℕ) (xs : List X)
     → ((x : X) → length (f x) ≤ m)
     → length (flat_map f xs) ≤ length xs * m
@@ -22,7 +22,7 @@ length-flat_map_le f m [] few = omega arith
 length-flat_map_le f m (x ∷ xs) few =
     omega (arith, length-flat_map_le f m xs few, few x, length-append (f x) (flat_map f xs), suc-mul (length xs) m)
 
--- From a later index on, at most as many elements pass a test as from an earlier one.
+-- If j ≤ k, at most as many elements pass a test from k on as from j on.
 count_by-drop_le : {X : Type 0} (p : X → Bool) (xs : List X) (j k : ℕ) → j ≤ k → count_by p (drop k xs) ≤ count_by p (drop j xs)
 count_by-drop_le p [] j k l = rw (drop-nil k, drop-nil j) (omega arith)
 count_by-drop_le p (x ∷ xs) zero zero l = omega arith
@@ -51,7 +51,7 @@ module _ {S : Type 0} (language : Language S) where
         drop_more code j s (slice_get_within code j s statement_at)
         ∙ ap (λ y. y ∷ drop (j + 1) code) (get_or_from_slice_get code j s s statement_at)
 
-    -- From a later position on there are no more branches.
+    -- If j ≤ k, 2 to the number of branches from k on is at most that from j on.
     branches_from-antitone : (k : ℕ) → j ≤ k → 2 ^ branches_from code k ≤ 2 ^ branches_from code j
     branches_from-antitone k l = pow_mono (count_by-drop_le (λ s. is_some (branch_target (language.operation_of s))) code j k l)
 
@@ -60,7 +60,8 @@ module _ {S : Type 0} (language : Language S) where
     length_paths-one_successor k later =
         omega (arith, few k later, length-append (rest k) [], branches_from-antitone k (omega arith))
 
-    -- After a branch there are two successors, and at most twice the paths, since the branch counts.
+    -- If the statement is a branch to a later position, the paths through both successors are at most 2 to the number of
+    -- branches from j on, which counts this one.
     length_paths-two_successors : (to : ℕ)
         → branch_target (language.operation_of s) ≡ Some to
         → j < to
@@ -113,7 +114,7 @@ module _ {S : Type 0} (language : Language S) where
     length-map (flat_map rest (successors language s j)) (λ path. j ∷ path),
   )
 
-  -- The number of paths from a position is at most 2 to the number of branches from there.
+  -- If jumps go forward, the paths from a position are at most 2 to the number of branches from there.
   length-paths_from_le : (n : ℕ) (code : List S)
       → JumpsForward language code
       → (j : ℕ)
@@ -124,7 +125,7 @@ module _ {S : Type 0} (language : Language S) where
       length-paths_through_le _ forward j (paths_from language n code) (λ k l. length-paths_from_le n _ forward k)
       (slice_get code j) refl
 
-  -- Each branch at most doubles the number of path assignments.
+  -- If jumps go forward, the path assignments are at most 2 to the number of all branches.
   length-path_assignments_le : (program : List (List S))
       → All (JumpsForward language) program
       → length (path_assignments language program) ≤ 2 ^ sum_by (branches language) program
@@ -148,12 +149,12 @@ module _ {S : Type 0} (language : Language S) where
 
   -- ---- orders
 
-  -- A statement whose operation accesses no location has no access, executed or drained.
+  -- A statement whose operation accesses no location has no access, drained (d is `true`) or executed.
   location_by-none : (d : Bool) (s : S) → location_of (language.operation_of s) ≡ None → location_by language d s ≡ None
   location_by-none true s is_none = cond_both (is_drained language s) _ _ (λ o. o ≡ None) (λ _. is_none) (λ _. refl)
   location_by-none false s is_none = cond_both (is_drained language s) _ _ (λ o. o ≡ None) (λ _. refl) (λ _. is_none)
 
-  -- If the first item's statement accesses no location, the two items do not conflict.
+  -- If the first item's statement accesses no location, the two items, drains if d and e say so, do not conflict.
   conflict_by-none : (d e : Bool) (o q : Option S)
       → ((s : S) → o ≡ Some s → location_of (language.operation_of s) ≡ None)
       → conflict_by language d e o q ≡ false
@@ -169,8 +170,8 @@ module _ {S : Type 0} (language : Language S) where
 
   module _ (program : List (List S)) (silent : has_no_access language program ≡ true) where
     -- Each thread accesses no location.
-    code_has_no_access-at_thread : (t : ℕ) → code_has_no_access language (thread_code program t) ≡ true
-    code_has_no_access-at_thread t = elim (cases_lt t (length program)) [
+    no_access-at_thread : (t : ℕ) → code_has_no_access language (thread_code program t) ≡ true
+    no_access-at_thread t = elim (cases_lt t (length program)) [
       | inl within ↦ AllPass-from_list_all (code_has_no_access language) program silent t [] within
       | inr past ↦ rw (get_or_past program t [] past) refl
     ]
@@ -194,7 +195,7 @@ module _ {S : Type 0} (language : Language S) where
         conflict_by-none (item_at items p.0).is_drain (item_at items p.1).is_drain
         (statement_of language program (item_at items p.0)) (statement_of language program (item_at items p.1)) (λ s at.
         location_of-none_in_silent_code (thread_code program (item_at items p.0).thread) (item_at items p.0).position s
-        (code_has_no_access-at_thread (item_at items p.0).thread) at))
+        (no_access-at_thread (item_at items p.0).thread) at))
 
     -- If no statement accesses a location, a path assignment has one order.
     orders_of_assignment-one : (paths : List (List ℕ)) → orders_of_assignment language program paths ≡ 1

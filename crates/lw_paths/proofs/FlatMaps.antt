@@ -11,13 +11,13 @@ flat_map-same f g [] h = refl
 flat_map-same f g (x ∷ xs) h =
     ap₂ (λ a b. a ++ b) (h x (Contains-head x x xs refl)) (flat_map-same f g xs (λ y c. h y (Contains-tail x y xs c)))
 
--- A `flat_map` of a `flat_map` is a single `flat_map`.
+-- The `flat_map` of f over the `flat_map` of g is that of f over each list of g.
 pub flat_map-of_flat_map : {X Y Z : Type 0} (f : Y → List Z) (g : X → List Y) (xs : List X)
     → flat_map f (flat_map g xs) ≡ flat_map (λ x. flat_map f (g x)) xs
 flat_map-of_flat_map f g [] = refl
 flat_map-of_flat_map f g (x ∷ xs) = flat_map-append f _ _ ∙ ap (λ b. flat_map f (g x) ++ b) (flat_map-of_flat_map f g xs)
 
--- A `map` of a `flat_map` is a `flat_map`.
+-- The `map` of f over a `flat_map` of g is the `flat_map` of the images of each list of g.
 pub map-flat_map : {X Y Z : Type 0} (f : Y → Z) (g : X → List Y) (xs : List X)
     → map f (flat_map g xs) ≡ flat_map (λ x. map f (g x)) xs
 map-flat_map f g [] = refl

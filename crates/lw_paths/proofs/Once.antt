@@ -10,7 +10,7 @@ use Rattle.lw_paths.proofs.api.Members.{Contains-flat_map_inv}
 use Rattle.lw_paths.proofs.api.Successors.{successors-in_range, IsDuplicateFree-successor_list}
 use Rattle.lw_paths.proofs.api.Enumerated.{paths-only}
 
--- An injective function maps a list without duplicates to one without.
+-- If f is injective, and a list has no duplicates, neither has the list of images.
 IsDuplicateFree-map : {X Y : Type 0} (f : X → Y) (xs : List X)
     → ((x y : X) → f x ≡ f y → x ≡ y)
     → IsDuplicateFree xs
@@ -21,7 +21,7 @@ IsDuplicateFree-map f (x ∷ xs) inj o = (
   IsDuplicateFree-map f xs inj o.1,
 )
 
--- The concatenation of two disjoint lists without duplicates has none.
+-- If two lists have no duplicates, and no common element, their concatenation has no duplicates.
 IsDuplicateFree-append : {X : Type 0} (xs ys : List X)
     → IsDuplicateFree xs
     → IsDuplicateFree ys
@@ -47,12 +47,12 @@ IsDuplicateFree-flat_map f (x ∷ xs) o each apart =
     (let g = Contains-flat_map_inv f xs z d in
     o.0 (subst (λ w. Contains xs w) (sym (apart x g.0 z (Contains-head x x xs refl) (Contains-tail x g.0 xs g.1) c g.2)) g.1)))
 
--- Prepending an element is injective.
+-- If two lists are equal with x at their fronts, they are equal.
 cons-injective_tail : {X : Type 0} (x : X) (xs ys : List X) → x ∷ xs ≡ x ∷ ys → xs ≡ ys
 cons-injective_tail x xs ys e = cc
 
 module _ {S : Type 0} (language : Language S) where
-  -- A path determines the position where it starts.
+  -- If a path is a flow path from j and from k, then j is k.
   flow_path_start-unique : (code : List S) (j k : ℕ) (path : List ℕ)
       → IsFlowPathFrom language code j path
       → IsFlowPathFrom language code k path
@@ -68,7 +68,7 @@ module _ {S : Type 0} (language : Language S) where
         → IsDuplicateFree (paths_through language rest (slice_get code j) j)
     IsDuplicateFree-paths_through rest j each only = duplicate_free-at_statement (slice_get code j) refl
       where
-        -- By the statement at the position.
+        -- By the statement at the position: the paths from different successors differ.
         duplicate_free-at_statement : (o : Option S) → slice_get code j ≡ o → IsDuplicateFree (paths_through language rest o j)
         duplicate_free-at_statement None e = (not-Contains-nil [], tt)
         duplicate_free-at_statement (Some s) e =
@@ -79,7 +79,7 @@ module _ {S : Type 0} (language : Language S) where
             (λ k c. each k (in_code k c).0 (in_code k c).1)
             (λ k m p a b c d. flow_path_start-unique code k m p (only k p (in_code k a).1 c) (only m p (in_code m b).1 d)))
 
-    -- The list of paths from a position has no duplicates.
+    -- If jumps go forward, the list of paths from a position has no duplicates.
     pub paths-once : (n j : ℕ) → IsDuplicateFree (paths_from language n code j)
     paths-once zero j = IsDuplicateFree-paths_through (λ k. []) j (λ k a b. tt) (λ k p l c. absurd (not-Contains-nil p c))
     paths-once (suc n) j =

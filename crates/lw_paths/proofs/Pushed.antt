@@ -8,22 +8,22 @@ use Rattle.lw_paths.proofs.Common.{orientation_count, is_ordered, drop_more, Ite
 use Rattle.lw_paths.proofs.Common.{edge_from, reduced_at, record_last, last_of_thread, items_at, path_items}
 use Rattle.lw_paths.proofs.Common.{items_from, needs_earlier_drains, reduced_from}
 
--- The pairs pushed for an item are its reduced pairs.
-reduced_at-as_pushed : (d w : Bool) (last : LastItems) (n : ℕ)
-    → edge_from last.statement n ++ (if d || w then edge_from last.drain n else []) ≡ reduced_at d w last n
+-- The pair with the last statement and, if the item is a drain or waits for drains, that with the last drain are the item's reduced pairs.
+reduced_at-as_pushed : (is_drain waits : Bool) (last : LastItems) (n : ℕ)
+    → edge_from last.statement n ++ (if is_drain || waits then edge_from last.drain n else []) ≡ reduced_at is_drain waits last n
 reduced_at-as_pushed false false last n = append-nil (edge_from last.statement n)
 reduced_at-as_pushed _ _ last n = refl
 
--- A property holds after a failure if it holds in every case.
+-- If P holds, it holds after a failure.
 pub OnErr-always : {T E P : Type 0} (r : Result T E) → P → OnErr r P
 OnErr-always (Ok x) p = tt
 OnErr-always (Err e) p = p
 
--- Concatenation of new, `rest` and `more` is associative.
+-- If new, `rest` and `more` together are `all`, so are new and the concatenation of `rest` and `more`.
 pub append-assoc_all : (new rest more : List Item) {all : List Item} → new ++ rest ++ more ≡ all → new ++ (rest ++ more) ≡ all
 append-assoc_all new rest more e = sym (append_assoc new rest more) ∙ e
 
--- A list to which `rest` is appended to give all items is the first of them.
+-- A list that `rest` completes to all items is a prefix of them.
 pub append-is_take : (new rest : List Item) {all : List Item} → new ++ rest ≡ all → (filled : ℕ) × (new ≡ take filled all)
 append-is_take new rest e = (length new, sym (take-append_seam new rest) ∙ ap (take (length new)) e)
 
@@ -95,11 +95,11 @@ module _ {S : Type 0} (language : Language S) where
         plus,
       ) (rw (drop_more items n a in_range, ← ea, plus) at h)
 
--- If nothing conflicts, there is exactly one order.
+-- If nothing conflicts, there is one orientation.
 pub orientation_count-no_conflicts : (t : Constraints) → length t.conflicts ≡ 0 → 1 ≡ orientation_count t
 orientation_count-no_conflicts t none = one-without_pairs t.conflicts none
   where
-    -- No pair is left to be chosen.
+    -- By the cases of the list of conflicts: if it is empty, no conflict is unordered.
     one-without_pairs : (pairs : List (ℕ × ℕ))
         → length pairs ≡ 0
         → 1 ≡ 2 ^ length (filter (λ p. not (is_ordered t.preserved p)) pairs)

@@ -12,7 +12,7 @@ use Rattle.lw_paths.proofs.api.Members.{Contains-singleton, Contains-head, Conta
 
 -- ---- the maximum over one or two successors
 
--- The larger of f's values at two positions is the maximum of f over the list of both.
+-- If xs is the list of a and b, and m is f of one of them and at least f of both, then m is the maximum of f over xs.
 pub IsMost-two : (f : ℕ → ℕ) (xs : List ℕ) (a b m : ℕ)
     → xs ≡ a ∷ b ∷ []
     → f a ≤ m
@@ -34,11 +34,11 @@ IsMost-two f xs a b m are first second reached =
       }
     ])
 
--- A list of a first position and an optional second one contains the first.
+-- If xs is the position a and an optional second one, it contains a.
 pub Contains-first_successor : {xs : List ℕ} {a : ℕ} (o : Option ℕ) → (a ∷ option_to_list o) ≡ xs → Contains xs a
 Contains-first_successor {a = a} o are = rw (← are) (Contains-head a a (option_to_list o) refl)
 
--- A list of a first position and an optional second one contains the second, if it is present.
+-- If xs is a first position and the optional second one b, it contains b.
 pub Contains-second_successor : {xs : List ℕ} {a b : ℕ} {o : Option ℕ} → (a ∷ option_to_list o) ≡ xs → o ≡ Some b → Contains xs b
 Contains-second_successor {a = a} {b = b} are is = rw (← are, is) (Contains-tail a b (b ∷ []) (Contains-head b b [] refl))
 
@@ -52,7 +52,7 @@ module _ {S : Type 0} (language : Language S) where
   statement_size-le_two : (s : S) → statement_size language s ≤ 2
   statement_size-le_two s = grind arith
 
-  -- The items of a path are those of its first statement and those of the rest.
+  -- If a path begins with a position that has the statement s, its items are those of s and those of the rest of the path.
   path_size-cons : (code : List S) (j : ℕ) (path : List ℕ) (s : S)
       → slice_get code j ≡ Some s
       → path_size language code (j ∷ path) ≡ statement_size language s + path_size language code path
@@ -67,7 +67,7 @@ pub record IsKnown {S : Type 0} (language : Language S) (code : List S) (j most 
   pub at_most_two_each : most + (j + j) ≤ length code + length code
 
 module _ {S : Type 0} {language : Language S} {code : List S} where
-  -- At the end of the code the maximum is 0.
+  -- At the end of the code the maximum number of items of a path is 0.
   IsKnown-end : IsKnown language code (length code) 0
   IsKnown-end = record {
     is_most = record { none_more = size-at_end; element = []; is_element = refl; reached = refl };
@@ -84,7 +84,7 @@ module _ {S : Type 0} {language : Language S} {code : List S} where
   module _ {at rest_size : ℕ} {s : S} (most : ℕ → ℕ) (statement_at : slice_get code at ≡ Some s)
       (forward : JumpsForward language code) (later : (k : ℕ) → at < k → k ≤ length code → IsKnown language code k (most k))
       (largest : IsMost (Contains (successors language s at)) most rest_size) where
-    -- For each successor of the statement the maximum is known.
+    -- The maximum is known for each successor of the statement.
     IsKnown-successor : (k : ℕ) → Contains (successors language s at) k → IsKnown language code k (most k)
     IsKnown-successor k is_member =
         let (up, within) = successors-in_range language code at k s forward statement_at is_member in later k up within
@@ -150,7 +150,7 @@ module _ {S : Type 0} {language : Language S} {code : List S} {most : List ℕ} 
   module _ {k at rest_size : ℕ} {s : S} (known : AreKnownFrom language code k most) (next : k ≡ suc at)
       (statement_at : slice_get code at ≡ Some s) (forward : JumpsForward language code) (short : length code ≤ 32)
       (largest : IsMost (Contains (successors language s at)) (λ n. slice_index most n) rest_size) where
-    -- The same, with the maxima of the successors taken from the table.
+    -- The maximum at the statement is its size plus the largest maximum of its successors in the table.
     IsKnown-by_table : IsKnown language code at (statement_size language s + rest_size)
     IsKnown-by_table =
         IsKnown-statement (λ n. slice_index most n) statement_at forward
@@ -160,7 +160,7 @@ module _ {S : Type 0} {language : Language S} {code : List S} {most : List ℕ} 
     pub size_sum_small : statement_size language s + rest_size ≤ 66
     size_sum_small = omega (arith, IsKnown-by_table.at_most_two_each, short)
 
-    -- The table is right from this position on after its maximum is set.
+    -- If the statement's maximum v is set in the table, the table is right from this position on.
     pub AreKnownFrom-set : (v : ℕ)
         → v ≡ statement_size language s + rest_size
         → AreKnownFrom language code at (slice_set most at v)
@@ -209,7 +209,8 @@ module _ {S : Type 0} (language : Language S) where
       length-append (path_items language 0 code path) (items_from language 1 program paths)
       ∙ ap (λ n. path_size language code path + n) (length-items_from_any_thread 1 0 program paths)
 
-  -- The maximum for a program is that of its first thread's paths plus that of the other threads' path assignments.
+  -- If m is the maximum of the first thread's paths, and n that of the other threads' path assignments, m + n is that of the
+  -- program's path assignments.
   pub IsMost-more_threads : (program : List (List S)) (code : List S) (others : List (List S)) (m n : ℕ)
       → program ≡ code ∷ others
       → IsMost (IsFlowPathFrom language code 0) (path_size language code) m
@@ -234,7 +235,7 @@ module _ {S : Type 0} (language : Language S) where
         rest.none_more paths assignment.1,
       )
 
-  -- A program without threads has exactly one path assignment, which has no items.
+  -- If a program has no threads, the maximum number of items of its path assignments is 0.
   pub IsMost-no_threads : (program : List (List S))
       → length program ≡ 0
       → IsMost (IsPathAssignment language program) (items_of_assignment language program) 0

@@ -9,6 +9,6 @@ pub mod PreservedPairs
 pub mod PreservedOrder
 pub mod ReducedPairs
 pub mod Reduced
-pub mod Mutual
+pub mod ConflictSymmetry
 pub mod Totals
 pub mod Counting

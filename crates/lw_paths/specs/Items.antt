@@ -75,17 +75,18 @@ module _ {S : Type 0} (language : Language S) where
   abbrev pub statement_of : List (List S) → Item → Option S
   statement_of program item = slice_get (thread_code program item.thread) item.position
 
-  -- The location that an item accesses, from whether it is the statement's drain.
+  -- The location that an item accesses: that of the statement's drain (`true`), or that of the statement itself (`false`).
   abbrev pub location_by : Bool → S → Option ℕ
   location_by true s = drained_location s
   location_by false s = accessed_by_statement s
 
-  -- Tests whether an item writes its location: a drain does, and a statement that writes by itself.
+  -- Tests whether an item writes its location: a drain does (`true`), and so does a statement (`false`) that writes by itself.
   abbrev pub writes_by : Bool → S → Bool
   writes_by true s = true
   writes_by false s = is_written language s
 
-  -- Tests whether two items conflict, from their statements and whether each is a drain.
+  -- Tests whether two items conflict, from their statements, and whether each is a drain (d and e). Without a statement an item
+  -- conflicts with none.
   abbrev pub conflict_by : Bool → Bool → Option S → Option S → Bool
   conflict_by d e None b = false
   conflict_by d e (Some a) None = false

@@ -1,7 +1,7 @@
 pub mod PathAssignments
 pub mod AssignmentLists
 pub mod Items
-pub mod TransitiveReduction
+pub mod ReducedPairs
 pub mod Faults
 pub mod Views
 pub mod Visits

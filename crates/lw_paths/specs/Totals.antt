@@ -7,7 +7,7 @@ use Rattle.lw_orders.specs.Orientations.{orientation_count}
 use Rattle.lw_paths.specs.AssignmentLists.{path_assignments}
 use Rattle.lw_paths.specs.Counts.{items_of_assignment, HasTooManyItems}
 use Rattle.lw_paths.specs.Items.{items_of, constraints_of}
-use Rattle.lw_paths.specs.TransitiveReduction.{transitive_reduction}
+use Rattle.lw_paths.specs.ReducedPairs.{reduced_constraints_of}
 use Rattle.lw_paths.specs.declared.fault.ListFault.{ListFault}
 use Rattle.lw_paths.specs.declared.fault.ListFault.TheVariants.{TooManyItems, TooManyOrders, Memory}
 use Rattle.lw_paths.specs.declared.item.Item.{Item}
@@ -41,7 +41,7 @@ module _ {S : Type 0} (language : Language S) (program : List (List S)) where
   -- The reason for which the orders of items are rejected: there are too many, or memory was refused.
   abbrev pub LimitFaultOfOrders : List Item → ListFault → Type 0
   LimitFaultOfOrders items TooManyItems = ⊥
-  LimitFaultOfOrders items TooManyOrders = most_orders < orientation_count (transitive_reduction language program items)
+  LimitFaultOfOrders items TooManyOrders = most_orders < orientation_count (reduced_constraints_of language program items)
   LimitFaultOfOrders items Memory = Unit {0}
 
   -- The reason for which a visit of all path assignments fails.

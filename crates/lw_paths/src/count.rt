@@ -5,7 +5,7 @@ ghost use Rattle.lw_orders.specs.Limits.{most_items, most_orders};
 ghost use Rattle.lw_paths.specs.Counts.{items_of_assignment};
 ghost use Rattle.lw_paths.specs.Totals.{orders_of_assignment, LimitFaultOfPaths, LimitFaultOfAssignment};
 ghost use Rattle.lw_paths.specs.Items.{constraints_of, items_of};
-ghost use Rattle.lw_paths.specs.TransitiveReduction.{transitive_reduction};
+ghost use Rattle.lw_paths.specs.ReducedPairs.{reduced_constraints_of};
 ghost use Rattle.lw_paths.specs.Views.{assignment_of};
 
 use crate::conflicts::conflicts_of;
@@ -39,8 +39,7 @@ pub fn fill_few_items<S: Statement, A: Allocator, B: Allocator>(
     Ok(())
 }
 
-/// Returns the items with these conflicts and the transitive reduction of their preserved pairs, which is equivalent
-/// to all preserved pairs.
+/// Returns the items with these conflicts and their reduced pairs, which are equivalent to all preserved pairs.
 pub fn reduced_constraints<S: Statement, A: Allocator, B: Allocator>(
     alloc: A,
     program: &[Sequence<S, B>],
@@ -49,7 +48,7 @@ pub fn reduced_constraints<S: Statement, A: Allocator, B: Allocator>(
 ) -> Result<Items<A>, AllocError>
     requires bounded { length items.now ≤ most_items }
     requires conflicts { conflicts.items ≡ (constraints_of S.language program.now items.now).conflicts }
-    ensures { IfOk result (λ t. t ≡ transitive_reduction S.language program.now items.now) }
+    ensures { IfOk result (λ t. t ≡ reduced_constraints_of S.language program.now items.now) }
 {
     let preserved = reduced_pairs(alloc, program, items)?;
     Ok(Items::new(items.len(), preserved, conflicts))

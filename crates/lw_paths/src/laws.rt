@@ -12,7 +12,7 @@ ghost use Rattle.lw_paths.specs.declared.fault.ListFault.{ListFault};
 ghost use Rattle.lw_paths.specs.declared.fault.ListFault.TheVariants.{Memory};
 ghost use Rattle.lw_paths.specs.Totals.{total_of};
 ghost use Rattle.lw_paths.specs.Items.{items_of, constraints_of};
-ghost use Rattle.lw_paths.specs.TransitiveReduction.{transitive_reduction};
+ghost use Rattle.lw_paths.specs.ReducedPairs.{reduced_constraints_of};
 ghost use Rattle.lw_orders.specs.Order.{IsLinearExtension, IsOrderedByPath};
 ghost use Rattle.lw_orders.specs.Orientations.{orientation_count};
 
@@ -26,17 +26,17 @@ pub fn path_assignments_are_complete<S: Statement>()
     ensures once { (program : List (List S)) → All (JumpsForward S.language) program → IsDuplicateFree (path_assignments S.language program) }
 {}
 
-/// States that the transitive reduction of the preserved pairs is equivalent to all of them: it has the same linear
-/// extensions, orders the same pairs, and leaves as many orientations of the conflicts.
-pub fn transitive_reduction_is_equivalent<S: Statement>()
+/// States that the reduced pairs are equivalent to all preserved pairs: they have the same linear extensions, order the
+/// same pairs, and leave as many orientations of the conflicts.
+pub fn reduced_pairs_are_equivalent<S: Statement>()
     ensures orders { (program : List (List S)) (paths : List (List ℕ)) (order : List ℕ)
-        → IsLinearExtension (transitive_reduction S.language program (items_of S.language program paths)) order
+        → IsLinearExtension (reduced_constraints_of S.language program (items_of S.language program paths)) order
         ↔ IsLinearExtension (constraints_of S.language program (items_of S.language program paths)) order }
     ensures ordered { (program : List (List S)) (paths : List (List ℕ)) (p : ℕ × ℕ)
-        → IsOrderedByPath (transitive_reduction S.language program (items_of S.language program paths)).preserved p
+        → IsOrderedByPath (reduced_constraints_of S.language program (items_of S.language program paths)).preserved p
         ↔ IsOrderedByPath (constraints_of S.language program (items_of S.language program paths)).preserved p }
     ensures orientations { (program : List (List S)) (paths : List (List ℕ))
-        → orientation_count (transitive_reduction S.language program (items_of S.language program paths))
+        → orientation_count (reduced_constraints_of S.language program (items_of S.language program paths))
         ≡ orientation_count (constraints_of S.language program (items_of S.language program paths)) }
 {}
 

@@ -34,8 +34,8 @@ pub use fault::ListFault;
 pub use few_orders::has_no_conflicts;
 pub use item::Item;
 pub use laws::{
-    path_assignments_are_complete, source_tests_have_few_items, totals_are_counted,
-    transitive_reduction_is_equivalent,
+    path_assignments_are_complete, reduced_pairs_are_equivalent, source_tests_have_few_items,
+    totals_are_counted,
 };
 pub use limits::check_limits;
 pub use path::{Path, PathAssignment};

@@ -1,10 +1,11 @@
-//! The preserved order of the items of a path assignment: the transitive reduction of its preserved pairs. They are
-//! few, and equivalent to all preserved pairs.
+//! The reduced pairs of the items of a path assignment: an item's preserved pair with the last statement before it, and
+//! that with the last drain, of a drain or of an item that waits for drains. They are few, and have the same
+//! transitive closure as all preserved pairs.
 ghost use Rattle.std.specs.Prelude.{◌≡◌, ◌≤◌, ◌++◌, ◌||◌, [], if◌then◌else◌, length, IfOk, OnOk, option_copied};
 ghost use Rattle.lw_orders.specs.Limits.{most_items};
 ghost use Rattle.lw_paths.specs.Items as assignment_items;
 ghost use Rattle.lw_paths.specs.Items.{needs_earlier_drains};
-ghost use Rattle.lw_paths.specs.TransitiveReduction.{none_before, edge_from, record_last, last_of_thread, reduced_from};
+ghost use Rattle.lw_paths.specs.ReducedPairs.{none_before, edge_from, record_last, last_of_thread, reduced_from};
 
 use crate::item::{Item, LastItems};
 use crate::statement::needs_empty_buffer;
@@ -111,7 +112,7 @@ fn push_preserved<A: Allocator>(
     Ok(())
 }
 
-/// Returns the transitive reduction of the preserved pairs of the items.
+/// Returns the reduced pairs of the items.
 pub(crate) fn reduced_pairs<S: Statement, A: Allocator, B: Allocator>(
     alloc: A,
     program: &[Sequence<S, B>],

@@ -13,7 +13,8 @@ pub(crate) fn is_drained<S: Statement>(stmt: &S) -> bool
     S::is_buffered() && stmt.operation().is_store()
 }
 
-/// Returns the location that a statement itself reads or writes, or `None` if only its drain writes one.
+/// Returns the location that a statement itself reads or writes, or `None` if there is none: a store into the buffer leaves
+/// it to its drain.
 pub(crate) fn accesses<S: Statement>(stmt: &S) -> Option<Loc>
     ensures { result ≡ items.accessed_by_statement S.language stmt.now }
 {

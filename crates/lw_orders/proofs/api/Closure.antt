@@ -1,5 +1,5 @@
 -- Two lists of pairs order the same items if each pair of one is a walk along the other; then they leave the same conflicts unordered. So
--- the transitive reduction of lw_paths has the same orders.
+-- the reduced pairs of lw_paths have the same orders.
 use Rattle.lw_orders.proofs.Common.{◌≡◌, ℕ, zero, suc, ◌^◌, Bool, true, false, not, List, length, filter}
 use Rattle.lw_orders.proofs.Common.{refl, sym, ap, ◌∙◌, All, get_or, Contains-get_or, All-contains}
 use Rattle.lw_orders.proofs.Common.{Constraints, Walk, IsOrderedByPath, is_ordered, unordered_conflicts}
@@ -14,7 +14,7 @@ Leads pairs i j = (n : ℕ) × Walk pairs (suc n) i j
 abbrev pub LeadsAlong : List (ℕ × ℕ) → List (ℕ × ℕ) → Type 0
 LeadsAlong pairs others = All (λ p. Leads pairs p.0 p.1) others
 
--- Two walks in sequence are a walk.
+-- If walks of at least one step lead from i to j and from j to k, one leads from i to k.
 pub Leads-trans : (pairs : List (ℕ × ℕ)) (i j k : ℕ) → Leads pairs i j → Leads pairs j k → Leads pairs i k
 Leads-trans pairs i j k (n, (h, c, w)) (m, v) = (let (l, u) = Walk-trans pairs n h j w k (suc m) v in (l, (h, c, u)))
 
@@ -22,7 +22,7 @@ Leads-trans pairs i j k (n, (h, c, w)) (m, v) = (let (l, u) = Walk-trans pairs n
 pub LeadsAlong-refl : (pairs : List (ℕ × ℕ)) → LeadsAlong pairs pairs
 LeadsAlong-refl pairs k d l = (0, ((get_or pairs k d).1, Contains-get_or pairs k d l, refl))
 
--- If each pair of the others is a walk along these pairs, so is each walk along the others.
+-- If each pair of the others is a walk along `pairs`, each walk along the others has a walk along `pairs` with the same ends.
 Walk-along : (pairs others : List (ℕ × ℕ))
     → LeadsAlong pairs others
     → (n i j : ℕ)
@@ -42,7 +42,7 @@ pub IsOrderedByPath-along : (pairs others : List (ℕ × ℕ))
     → IsOrderedByPath pairs p
 IsOrderedByPath-along pairs others along p (n, w) = Walk-along pairs others along n p.0 p.1 w
 
--- Two tests of which each implies the other are equal.
+-- Two truth values of which each implies the other are equal.
 bool-ext : (a b : Bool) → (a ≡ true → b ≡ true) → (b ≡ true → a ≡ true) → a ≡ b
 bool-ext true b forth back = sym (forth refl)
 bool-ext false true forth back = back refl
@@ -51,7 +51,7 @@ bool-ext false false forth back = refl
 -- Two constraints with the same conflicts, and preserved pairs of the same closure, have the same number of orientations.
 module _ (t u : Constraints) (t_up : AreAscending t.len t.preserved) (u_up : AreAscending u.len u.preserved)
     (forth : LeadsAlong u.preserved t.preserved) (back : LeadsAlong t.preserved u.preserved) where
-  -- A pair is ordered by both or by neither.
+  -- If two lists of pairs have the same closure, a pair is ordered by both or by neither.
   is_ordered-same_closure : (p : ℕ × ℕ) → is_ordered t.preserved p ≡ is_ordered u.preserved p
   is_ordered-same_closure p =
       bool-ext (is_ordered t.preserved p) (is_ordered u.preserved p) (λ e.
@@ -60,13 +60,15 @@ module _ (t u : Constraints) (t_up : AreAscending t.len t.preserved) (u_up : Are
       is_ordered-if_path t.len t.preserved p t_up
       (IsOrderedByPath-along t.preserved u.preserved back p (IsOrderedByPath-if_ordered u.preserved p e)))
 
-  -- Two lists of pairs with the same closure leave the same conflicts unordered.
+  -- If the preserved pairs of t and u have the same closure, and both have the same conflicts, they leave the same conflicts
+  -- unordered.
   pub unordered_conflicts-same_closure : t.conflicts ≡ u.conflicts → unordered_conflicts t ≡ unordered_conflicts u
   unordered_conflicts-same_closure same =
       filter_agree (λ p. not (is_ordered t.preserved p)) (λ p. not (is_ordered u.preserved p))
       (λ p. ap not (is_ordered-same_closure p)) t.conflicts
       ∙ ap (filter (λ p. not (is_ordered u.preserved p))) same
 
-  -- Two lists of pairs with the same closure have the same number of orientations.
+  -- If the preserved pairs of t and u have the same closure, and both have the same conflicts, they have the same number of
+  -- orientations.
   pub orientation_count-same_closure : t.conflicts ≡ u.conflicts → orientation_count t ≡ orientation_count u
   orientation_count-same_closure same = ap (λ (pairs : List (ℕ × ℕ)). 2 ^ length pairs) (unordered_conflicts-same_closure same)

@@ -6,15 +6,15 @@ use Rattle.lw_orders.proofs.Common.{length-append, cond-true, cond-false, cases_
 use Rattle.lw_orders.proofs.Common.{All-head, All-tail, index_in, Before, AreDistinct, IsOrder, without}
 use Rattle.lw_orders.proofs.Common.{indices}
 
--- The first item has index 0.
+-- If the first item is i, the index of i is 0.
 pub index_in-same : (x : ℕ) (xs : List ℕ) (i : ℕ) → x ≡ i → index_in (x ∷ xs) i ≡ 0
 index_in-same x xs i e = cond-true (eqb x i) 0 (suc (index_in xs i)) (eq-eqb x i e)
 
--- Any other item has an index one greater than in the tail.
+-- If the first item is not i, the index of i is one greater than in the tail.
 pub index_in-other : (x : ℕ) (xs : List ℕ) (i : ℕ) → (x ≡ i → ⊥) → index_in (x ∷ xs) i ≡ suc (index_in xs i)
 index_in-other x xs i ne = cond-false (eqb x i) 0 (suc (index_in xs i)) (ne_eqb x i ne)
 
--- Two items with the same index are equal.
+-- If i is in the list, and j has the same index, they are equal.
 pub index_in-injective : (xs : List ℕ) (i j : ℕ) → index_in xs i ≡ index_in xs j → index_in xs i < length xs → i ≡ j
 index_in-injective [] i j e l = absurd (omega arith)
 index_in-injective (x ∷ xs) i j e l = grind (arith, nat_tests, index_in-injective xs i j)
@@ -42,12 +42,12 @@ pub index_in-without : (xs : List ℕ) (y i : ℕ)
 index_in-without [] y i ne l = l
 index_in-without (x ∷ xs) y i ne l = grind (arith, nat_tests, index_in-without xs y i)
 
--- Removing an item from a list without duplicates leaves one without duplicates.
+-- If a list has no duplicates, neither has the list without y.
 pub AreDistinct-without : (xs : List ℕ) (y : ℕ) → AreDistinct xs → AreDistinct (without xs y)
 AreDistinct-without [] y o = tt
 AreDistinct-without (x ∷ xs) y o = grind (arith, nat_tests, AreDistinct-without xs y o.1, index_in-of_without xs y x)
 
--- An item removed from a list without duplicates is no longer in it.
+-- If a list has no duplicates, y is not in the list without y.
 pub not_in-without : (xs : List ℕ) (y : ℕ) → AreDistinct xs → length (without xs y) ≤ index_in (without xs y) y
 not_in-without [] y o = omega arith
 not_in-without (x ∷ xs) y o = grind (arith, nat_tests, not_in-without xs y o.1)
@@ -57,7 +57,7 @@ pub length-without_le : (xs : List ℕ) (y : ℕ) → length xs ≤ suc (length 
 length-without_le [] y = omega arith
 length-without_le (x ∷ xs) y = grind (arith, nat_tests, length-without_le xs y)
 
--- A list that contains all of some distinct items is at least as long.
+-- If xs contains all of some distinct items, it is at least as long as the list of these.
 pub length_le-if_distinct : (some xs : List ℕ)
     → AreDistinct some
     → ((i : ℕ) → index_in some i < length some → index_in xs i < length xs)
@@ -69,7 +69,7 @@ length_le-if_distinct (s ∷ some) xs o f =
     index_in-without xs s i ne (f i (omega (arith, index_in-other s some i (λ e. ne (sym e)))))) in
     omega (arith, length-without xs s (f s (omega (arith, index_in-same s some s refl))))
 
--- A list that contains all of some distinct items, and is no longer, has no duplicates.
+-- If xs contains all of some distinct items, and is no longer than the list of these, it has no duplicates.
 pub AreDistinct-from_room : (xs some : List ℕ)
     → AreDistinct some
     → ((i : ℕ) → index_in some i < length some → index_in xs i < length xs)
@@ -102,7 +102,7 @@ pub index_in-indices_within : (k n i : ℕ) → index_in (indices k n) i < lengt
 index_in-indices_within k zero i l = absurd (omega arith)
 index_in-indices_within k (suc n) i l = grind (arith, nat_tests, index_in-indices_within (suc k) n i)
 
--- A number in the range from 0 is below n.
+-- If a number is in the range from 0 to n, it is below n.
 pub lt-of_index_in_indices : (n i : ℕ) → index_in (indices 0 n) i < length (indices 0 n) → i < n
 lt-of_index_in_indices n i l = omega (arith, index_in-indices_within 0 n i l)
 
@@ -140,7 +140,7 @@ index_in-append_le : (front rest : List ℕ) (i : ℕ) → index_in (front ++ i 
 index_in-append_le [] rest i = omega (arith, index_in-same i rest i refl)
 index_in-append_le (x ∷ front) rest i = grind (arith, nat_tests, index_in-append_le front rest i)
 
--- In a list without duplicates, the index of an item after `front` is the length of `front`.
+-- If a list has no duplicates, the index of the item after `front` is the length of `front`.
 index_in-split : (front rest : List ℕ) (i : ℕ) → AreDistinct (front ++ i ∷ rest) → index_in (front ++ i ∷ rest) i ≡ length front
 index_in-split [] rest i o = index_in-same i rest i refl
 index_in-split (x ∷ front) rest i o =
@@ -155,7 +155,7 @@ index_in-order_split n i front rest o = (
   index_in-split front rest i (AreDistinct-order n (front ++ i ∷ rest) o),
 )
 
--- What holds of every item of a list holds of an item found in it.
+-- If P holds of every item of a list, it holds of each item that is in it.
 pub All-index_in : (P : ℕ → Type 0) (xs : List ℕ) (i : ℕ) → All P xs → index_in xs i < length xs → P i
 All-index_in P [] i all l = absurd (omega arith)
 All-index_in P (x ∷ xs) i all l = elim (cases_eq x i) [

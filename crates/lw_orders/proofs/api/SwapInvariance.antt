@@ -7,7 +7,7 @@ use Rattle.lw_orders.proofs.Common.{AreTraceEquivalent, AreAscending, AreDepende
 use Rattle.lw_orders.proofs.Common.{AreConnectedBySwaps, AreConnected, IsSwapInvariant}
 use Rattle.lw_orders.proofs.Exchanges.{SwapsTo, IsReachedBySwaps-trace_equivalent}
 
--- A swap preserves the order of every two items except the two swapped.
+-- If i precedes j, and they are not the two swapped items, i precedes j after the swap.
 Before-swap : (front rest : List ℕ) (x y i j : ℕ)
     → (i ≡ x → j ≡ y → ⊥)
     → Before (front ++ x ∷ y ∷ rest) i j
@@ -15,14 +15,15 @@ Before-swap : (front rest : List ℕ) (x y i j : ℕ)
 Before-swap [] rest x y i j apart b = grind (arith, nat_tests)
 Before-swap (z ∷ front) rest x y i j apart b = grind (arith, nat_tests, Before-swap front rest x y i j apart)
 
--- A swap preserves the items of a list.
+-- If i is in the list, it is in the list after a swap of adjacent items.
 index_in-swap : (front rest : List ℕ) (x y i : ℕ)
     → index_in (front ++ x ∷ y ∷ rest) i < length (front ++ x ∷ y ∷ rest)
     → index_in (front ++ y ∷ x ∷ rest) i < length (front ++ y ∷ x ∷ rest)
 index_in-swap [] rest x y i l = grind (arith, nat_tests)
 index_in-swap (z ∷ front) rest x y i l = grind (arith, nat_tests, index_in-swap front rest x y i)
 
--- A swap of adjacent independent items preserves that an order respects the preserved pairs.
+-- If x and y are independent, and adjacent in an order that respects the preserved pairs, the order with them swapped respects
+-- these too.
 IsLinearExtension-swap : (t : Constraints) (front rest : List ℕ) (x y : ℕ)
     → ¬ AreDependent t x y
     → IsLinearExtension t (front ++ x ∷ y ∷ rest)
@@ -37,7 +38,8 @@ IsLinearExtension-swap t front rest x y free ((long, there), keeps) =
           (keeps k d l),
     )
 
--- Along swaps of adjacent independent items all orders respect the preserved pairs.
+-- If n swaps of adjacent independent items turn xs, which respects the preserved pairs, into ys, then xs and ys are connected
+-- by n swaps through orders that respect them.
 AreConnectedBySwaps-of_swaps : (t : Constraints) (n : ℕ) (xs ys : List ℕ)
     → IsLinearExtension t xs
     → SwapsTo (AreDependent t) n xs ys
@@ -60,7 +62,7 @@ trace_equivalent_orders_are_connected t up xs ys (ox, kx) (oy, ky) alike =
     let (n, steps) = IsReachedBySwaps-trace_equivalent t up xs ys ox oy kx ky alike in
     (n, AreConnectedBySwaps-of_swaps t n xs ys (ox, kx) steps)
 
--- A property P that every swap preserves holds of all orders connected with one that has it.
+-- If every swap preserves P, and two orders are connected by swaps, then P holds of the second if it holds of the first.
 pub preserved-by_swaps : (t : Constraints) (P : List ℕ → Type 0)
     → ((xs ys : List ℕ) → IsLinearExtension t xs → IsLinearExtension t ys → IsAdjacentSwap (AreDependent t) xs ys → P xs → P ys)
     → (xs ys : List ℕ)

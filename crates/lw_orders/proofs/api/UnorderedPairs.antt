@@ -38,12 +38,12 @@ IsLexicographicallyLess-trans p q r (inl a) (inr b) = inl (omega (arith, a, b.0)
 IsLexicographicallyLess-trans p q r (inr a) (inl b) = inl (omega (arith, a.0, b))
 IsLexicographicallyLess-trans p q r (inr a) (inr b) = inr (a.0 ∙ b.0, omega (arith, a.1, b.1))
 
--- The lexicographic order of pairs is irreflexive.
+-- If a pair is lexicographically less than another, they differ.
 IsLexicographicallyLess-irreflexive : (p q : ℕ × ℕ) → IsLexicographicallyLess p q → p ≡ q → ⊥
 IsLexicographicallyLess-irreflexive p q (inl a) e = absurd (omega (arith, a, ap (λ (r : ℕ × ℕ). r.0) e))
 IsLexicographicallyLess-irreflexive p q (inr a) e = absurd (omega (arith, a.1, ap (λ (r : ℕ × ℕ). r.1) e))
 
--- The first of sorted pairs is less than all others.
+-- If pairs are sorted, the first is less than all others.
 IsLexicographicallyLess-first : (p : ℕ × ℕ) (ps : List (ℕ × ℕ)) → AreSorted (p ∷ ps) → All (IsLexicographicallyLess p) ps
 IsLexicographicallyLess-first p [] s = All-nil (IsLexicographicallyLess p)
 IsLexicographicallyLess-first p (q ∷ ps) s =
@@ -51,17 +51,17 @@ IsLexicographicallyLess-first p (q ∷ ps) s =
     (All-weaker (IsLexicographicallyLess q) (IsLexicographicallyLess p) (λ r b. IsLexicographicallyLess-trans p q r s.0 b) ps
     (IsLexicographicallyLess-first q ps s.1))
 
--- The tail of sorted pairs is sorted.
+-- If pairs are sorted, so is their tail.
 AreSorted-tail : (p : ℕ × ℕ) (ps : List (ℕ × ℕ)) → AreSorted (p ∷ ps) → AreSorted ps
 AreSorted-tail p [] s = tt
 AreSorted-tail p (q ∷ ps) s = s.1
 
--- Sorted pairs with a lesser pair before them are sorted.
+-- If p is less than all of sorted pairs, p followed by them is sorted.
 AreSorted-cons : (p : ℕ × ℕ) (ps : List (ℕ × ℕ)) → All (IsLexicographicallyLess p) ps → AreSorted ps → AreSorted (p ∷ ps)
 AreSorted-cons p [] above s = tt
 AreSorted-cons p (q ∷ ps) above s = (All-head (IsLexicographicallyLess p) q ps above, s)
 
--- The sorted pairs that pass a test are sorted.
+-- If pairs are sorted, so are those that pass a test.
 AreSorted-filter : (test : ℕ × ℕ → Bool) (ps : List (ℕ × ℕ)) → AreSorted ps → AreSorted (filter test ps)
 AreSorted-filter test [] s = tt
 AreSorted-filter test (p ∷ ps) s =
@@ -74,7 +74,7 @@ AreSorted-filter test (p ∷ ps) s =
       | inr e ↦ rw e rest
     ])
 
--- The first of sorted pairs is not in the tail.
+-- If pairs are sorted, the first is not in the tail.
 not-Contains-sorted_tail : (p : ℕ × ℕ) (ps : List (ℕ × ℕ)) → AreSorted (p ∷ ps) → Contains ps p → ⊥
 not-Contains-sorted_tail p ps s is_member =
     IsLexicographicallyLess-irreflexive p p
@@ -136,7 +136,8 @@ Contains-filter_pair_inv test ps p is_member = (
 
 -- ---- the unordered conflicts
 module _ (t : Constraints) where
-  -- The computed list `unordered_conflicts` satisfies the definition `AreUnorderedConflicts`.
+  -- If the preserved pairs are ascending and the conflicts sorted, the list `unordered_conflicts` satisfies the definition
+  -- `AreUnorderedConflicts`.
   pub AreUnorderedConflicts-computed : AreAscending t.len t.preserved
       → AreSorted t.conflicts
       → AreUnorderedConflicts t (unordered_conflicts t)
@@ -166,24 +167,26 @@ module _ (t : Constraints) where
         | inr e ↦ ap not e
       ])
 
-  -- The computed number `orientation_count` satisfies the definition `HasOrientationCount`.
+  -- If the preserved pairs are ascending and the conflicts sorted, the number `orientation_count` satisfies the definition
+  -- `HasOrientationCount`.
   pub HasOrientationCount-computed : AreAscending t.len t.preserved
       → AreSorted t.conflicts
       → HasOrientationCount t (orientation_count t)
   HasOrientationCount-computed up sorted = (unordered_conflicts t, AreUnorderedConflicts-computed up sorted, refl)
 
-  -- The definition determines the list of unordered conflicts.
+  -- If two lists satisfy `AreUnorderedConflicts`, they are equal.
   pub AreUnorderedConflicts-unique : (ps qs : List (ℕ × ℕ)) → AreUnorderedConflicts t ps → AreUnorderedConflicts t qs → ps ≡ qs
   AreUnorderedConflicts-unique ps qs p q =
       AreSorted-unique ps qs p.sorted q.sorted
       (λ r. ((λ c. (q.exactly r).1 ((p.exactly r).0 c)), λ c. (p.exactly r).1 ((q.exactly r).0 c)))
 
-  -- The definition determines the number of orientations.
+  -- If two numbers satisfy `HasOrientationCount`, they are equal.
   pub HasOrientationCount-unique : (n m : ℕ) → HasOrientationCount t n → HasOrientationCount t m → n ≡ m
   HasOrientationCount-unique n m (ps, p, n_is) (qs, q, m_is) =
       n_is ∙ (ap (λ (rs : List (ℕ × ℕ)). 2 ^ length rs) (AreUnorderedConflicts-unique ps qs p q) ∙ sym m_is)
 
-  -- A number is the number of orientations if and only if it is the computed one.
+  -- If the preserved pairs are ascending and the conflicts sorted, n is the number of orientations if and only if it is the
+  -- computed one.
   pub HasOrientationCount-iff_computed : AreAscending t.len t.preserved
       → AreSorted t.conflicts
       → (n : ℕ)

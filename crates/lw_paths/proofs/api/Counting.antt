@@ -40,7 +40,7 @@ module _ {S : Type 0} (language : Language S) where
     pub total : after ≡ min (before + orders) (2 ^ 64 - 1)
     pub within_order_limit : after ≤ most_orders
 
-  -- A total within the limit was not saturated, so it is the sum.
+  -- If a path assignment was counted, and its total is within the limit, the total is the sum of the orders before and its own.
   pub Counts-if_counted : (program : List (List S)) (before : ℕ) (paths : List (List ℕ)) (after : ℕ)
       → Counted program before paths after
       → Counts program before paths program after
@@ -66,7 +66,7 @@ module _ {S : Type 0} (language : Language S) where
   FailureHolds program before assignments TooManyOrders = most_orders < before + orders_of language program assignments
   FailureHolds program before assignments Memory = Unit {0}
 
-  -- The cause for which the first of some path assignments failed holds of them all.
+  -- If a cause holds of the first path assignment, after the orders before it, it holds of all of them.
   FailureHolds-first : (program : List (List S)) (before : ℕ) (paths : List (List ℕ)) (assignments : List (List (List ℕ)))
       (e : ListFault)
       → LimitFaultOfAssignment language program before paths e
@@ -75,7 +75,7 @@ module _ {S : Type 0} (language : Language S) where
   FailureHolds-first program before paths assignments TooManyOrders h = omega (arith, h)
   FailureHolds-first program before paths assignments Memory h = tt
 
-  -- A cause that holds of later path assignments, counted from the first one's total on, holds of them all.
+  -- If a cause holds of the later path assignments, after at most the orders of the first too, it holds of all of them.
   FailureHolds-later : (program : List (List S)) (before after : ℕ) (paths : List (List ℕ)) (assignments : List (List (List ℕ)))
       (e : ListFault)
       → after ≤ before + orders_of_assignment language program paths
@@ -132,7 +132,7 @@ module _ {S : Type 0} (language : Language S) where
           → view.refuses v paths e
           → LimitFaultOfAssignment language (view.program v) (view.count v) paths e
 
-    -- A counter states causes that hold.
+    -- If a visitor is a counter, its causes of failure hold.
     GivesReasons-counter : IsCounter → GivesReasons
     GivesReasons-counter counter = record {
       preserves_program = λ v paths w h. (let (same, items, orders, within) = counter.each v paths w h in same);
@@ -141,7 +141,7 @@ module _ {S : Type 0} (language : Language S) where
     }
 
     module _ (program : List (List S)) where
-      -- If one of some path assignments failed, the cause holds of them all.
+      -- If a visitor states causes that hold, and a visit of some path assignments fails with one, it holds of all of them.
       FailureHolds-visit_fails : GivesReasons
           → (assignments : List (List (List ℕ))) (v : V) (e : ListFault)
           → view.program v ≡ program
@@ -185,7 +185,7 @@ module _ {S : Type 0} (language : Language S) where
             let all = IsWithinLimits-visited counter (path_assignments language program) v w is (omega (arith, none)) h in
             (not-HasTooManyItems-listed program forward all.0, omega (arith, all.1, none))
 
-        -- The cause with which a visitor fails is a reason why not all path assignments can be visited.
+        -- If a visitor that states causes that hold fails with one, it is a reason why not all path assignments can be visited.
         pub LimitFaultOfAssignments-visit_fails : GivesReasons
             → (v : V) (e : ListFault)
             → view.program v ≡ program
@@ -196,7 +196,7 @@ module _ {S : Type 0} (language : Language S) where
             LimitFaultOfAssignments-if_failure program forward e
             (rw none at (FailureHolds-visit_fails reasons (path_assignments language program) v e is h))
 
-        -- The same holds of a counter.
+        -- If a counter fails with a cause, it is a reason why not all path assignments can be visited.
         pub LimitFaultOfAssignments-counter_fails : IsCounter
             → (v : V) (e : ListFault)
             → view.program v ≡ program
@@ -205,7 +205,7 @@ module _ {S : Type 0} (language : Language S) where
             → LimitFaultOfAssignments language program e
         LimitFaultOfAssignments-counter_fails counter = LimitFaultOfAssignments-visit_fails (GivesReasons-counter counter)
 
-  -- The cause for which a path assignment's items are rejected is a cause for the first path assignment.
+  -- If the items of a path assignment are rejected for a cause, it is a cause for this assignment as the first one.
   pub LimitFaultOfAssignment-items_refused : (program : List (List S)) (paths : List (List ℕ)) (e : ListFault)
       → LimitFaultOfOrders language program (items_of language program paths) e
       → LimitFaultOfAssignment language program 0 paths e

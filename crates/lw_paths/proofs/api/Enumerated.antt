@@ -45,7 +45,7 @@ module _ {S : Type 0} (language : Language S) where
           | inr h ↦ omega arith
         ]
 
-        -- By the statement at the position.
+        -- By the statement at the position: a path in the list goes to one of its successors.
         only-at_statement : (o : Option S)
             → slice_get code j ≡ o
             → Contains (paths_through language rest o j) path
@@ -60,7 +60,7 @@ module _ {S : Type 0} (language : Language S) where
             let (up, within) = successors-in_range language code j k s forward e leads in
             rw (← is_path) (refl, k, successors-only language _ s j k e leads, more k p up within goes)
 
-    -- The list contains each path from a position, if the bound on its steps is large enough.
+    -- If n steps are enough to reach the end of the code, the list contains each flow path from j.
     pub paths-has : (n j : ℕ) (path : List ℕ)
         → length code ≤ j + n
         → IsFlowPathFrom language code j path
@@ -68,7 +68,7 @@ module _ {S : Type 0} (language : Language S) where
     paths-has zero j path l flows = paths_through-has (λ k. []) j path flows (λ k p a b g. absurd (omega arith))
     paths-has (suc n) j path l flows = paths_through-has _ j path flows (λ k p a b g. paths-has n k p (omega arith) g)
 
-    -- The list contains only such paths.
+    -- If j is within the code, each path in the list is a flow path from j.
     pub paths-only : (n j : ℕ) (path : List ℕ)
         → j ≤ length code
         → Contains (paths_from language n code j) path
@@ -76,7 +76,7 @@ module _ {S : Type 0} (language : Language S) where
     paths-only zero j path l on_path = paths_through-only (λ k. []) j path l (λ k p a b g. absurd (not-Contains-nil p g)) on_path
     paths-only (suc n) j path l on_path = paths_through-only _ j path l (λ k p a b g. paths-only n k p b g) on_path
 
-  -- The list contains each path assignment.
+  -- If jumps go forward, the list contains each path assignment.
   assignments-has : (program : List (List S))
       → All (JumpsForward language) program
       → (paths : List (List ℕ))
@@ -90,7 +90,7 @@ module _ {S : Type 0} (language : Language S) where
       (assignments-has program (All-tail (JumpsForward language) code program all) paths rest))
   assignments-has _ all _ assignment = absurd assignment
 
-  -- The list contains only path assignments.
+  -- If jumps go forward, each element of the list is a path assignment.
   assignments-only : (program : List (List S))
       → All (JumpsForward language) program
       → (paths : List (List ℕ))

@@ -21,7 +21,7 @@ abbrev pub Pairwise : (Item → Item → Type 0) → List Item → Type 0
 Pairwise R [] = Unit {0}
 Pairwise R (a ∷ items) = All (R a) items × Pairwise R items
 
--- What holds pairwise in two lists, and from the first to the second, holds pairwise in the concatenation.
+-- If R holds pairwise in xs and in ys, and of each item of xs with each of ys, it holds pairwise in the concatenation.
 Pairwise-append : (R : Item → Item → Type 0) (xs ys : List Item)
     → Pairwise R xs
     → Pairwise R ys
@@ -31,7 +31,7 @@ Pairwise-append R [] ys h g a = g
 Pairwise-append R (x ∷ xs) ys h g a =
     (All-append (R x) xs ys h.0 (a 0 x (omega arith)), Pairwise-append R xs ys h.1 g (λ k d l. a (suc k) d (omega arith)))
 
--- What holds of any two items with P holds pairwise in a list of items with P.
+-- If R holds of any two items with P, it holds pairwise in a list of items with P.
 Pairwise-of_All : (R : Item → Item → Type 0) (P : Item → Type 0)
     → ((a b : Item) → P a → P b → R a b)
     → (xs : List Item)
@@ -42,7 +42,7 @@ Pairwise-of_All R P f (x ∷ xs) h =
     let rest : All P xs = All-tail P x xs h in
     (All-weaker P (R x) (λ b. f x b (All-head P x xs h)) xs rest, Pairwise-of_All R P f xs rest)
 
--- What holds pairwise holds of the items at two ascending indices.
+-- If R holds pairwise in a list, it holds of the items at two ascending indices.
 Pairwise-at : (R : Item → Item → Type 0) (xs : List Item) (i j : ℕ)
     → Pairwise R xs
     → i < j
@@ -77,11 +77,11 @@ IsLower a b = a.thread ≡ b.thread → thread_rank a < thread_rank b
 abbrev IsNoLater : Item → Item → Type 0
 IsNoLater a b = a.thread ≤ b.thread
 
--- Items of an earlier position have the lower `thread_rank`.
+-- An item of an earlier position has the lower number, whether either is a drain (b and c) or not.
 pub item_slot-increasing : (b c : Bool) (j k : ℕ) → j < k → item_slot b j < item_slot c k
 item_slot-increasing b c j k l = grind arith
 
--- At the same position the store has a lower `thread_rank` than its drain.
+-- At one position the store (b is `false`) has a lower number than its drain (c is `true`).
 pub item_slot-store_before_drain : (b c : Bool) (j k : ℕ) → b ≡ false → c ≡ true → j ≡ k → item_slot b j < item_slot c k
 item_slot-store_before_drain b c j k e f g = rw (e, f) (omega arith)
 
@@ -90,16 +90,16 @@ abbrev pub IsAscendingFrom : ℕ → List ℕ → Type 0
 IsAscendingFrom low [] = Unit {0}
 IsAscendingFrom low (k ∷ path) = (low ≤ k) × IsAscendingFrom (suc k) path
 
--- Numbers ascending from a bound are at least that bound.
+-- If numbers are ascending from `low`, each of them is at least `low`.
 pub IsAscendingFrom-lower_bound : (low j : ℕ) (path : List ℕ) → IsAscendingFrom low path → IsMember j path → low ≤ j
 IsAscendingFrom-lower_bound low j [] u is_member = absurd is_member
 IsAscendingFrom-lower_bound low j (k ∷ path) u (inl e) = omega (arith, u.0)
 IsAscendingFrom-lower_bound low j (k ∷ path) u (inr h) = omega (arith, u.0, IsAscendingFrom-lower_bound (suc k) j path u.1 h)
 
--- Numbers ascending from a bound are ascending from every lower bound.
-IsAscendingFrom-weaker : (low l : ℕ) (path : List ℕ) → l ≤ low → IsAscendingFrom low path → IsAscendingFrom l path
-IsAscendingFrom-weaker low l [] le u = tt
-IsAscendingFrom-weaker low l (k ∷ path) le u = (omega (arith, u.0), u.1)
+-- If numbers are ascending from `low`, they are ascending from every lower bound l.
+IsAscendingFrom-mono : (low l : ℕ) (path : List ℕ) → l ≤ low → IsAscendingFrom low path → IsAscendingFrom l path
+IsAscendingFrom-mono low l [] le u = tt
+IsAscendingFrom-mono low l (k ∷ path) le u = (omega (arith, u.0), u.1)
 
 module _ {S : Type 0} (language : Language S) where
   -- The statement is a store into the store buffer, so its entry is drained.
@@ -111,7 +111,8 @@ module _ {S : Type 0} (language : Language S) where
   OnPath P t code path =
       (j : ℕ) (s : S) (b : Bool) → IsMember j path → slice_get code j ≡ Some s → (b ≡ true → IsStoring s) → P (item t j b)
 
-  -- What holds of a statement and of its drain, if it has one, holds of the items at its position.
+  -- If P holds of the statement at a position (b is `false`), and of its drain (b is `true`) if it is a store into the buffer,
+  -- it holds of the items there.
   All-items_at : (P : Item → Type 0) (t j : ℕ) (o : Option S)
       → ((s : S) (b : Bool) → o ≡ Some s → (b ≡ true → IsStoring s) → P (item t j b))
       → All P (items_at language t j o)
@@ -125,7 +126,7 @@ module _ {S : Type 0} (language : Language S) where
       All-drain None e = All-nil P
       All-drain (Some x) e = All-cons P (item t j true) [] (f s true refl (λ d. (x, e))) (All-nil P)
 
-  -- What holds of the statements and drains on a path holds of its items.
+  -- If P holds of the statements and drains on a path, it holds of the path's items.
   All-path_items : (P : Item → Type 0) (t : ℕ) (code : List S) (path : List ℕ)
       → OnPath P t code path
       → All P (path_items language t code path)
@@ -134,7 +135,7 @@ module _ {S : Type 0} (language : Language S) where
       All-append P _ (path_items language t code path) (All-items_at P t j (slice_get code j) (λ s b. f j s b (inl refl)))
       (All-path_items P t code path (λ k s b h. f k s b (inr h)))
 
-  -- What holds of the statements and drains on the paths holds of each item.
+  -- If P holds of the statements and drains on each thread's path, it holds of all items.
   All-items_from : (P : Item → Type 0) (t : ℕ) (program : List (List S)) (paths : List (List ℕ))
       → ((k u : ℕ) → u ≡ t + k → k < length program → OnPath P u (thread_code program k) (thread_code paths k))
       → All P (items_from language t program paths)
@@ -143,7 +144,7 @@ module _ {S : Type 0} (language : Language S) where
       (All-items_from P (suc t) program paths (λ k u e l. f (suc k) u (omega arith) (omega arith)))
   All-items_from P t _ _ f = All-nil P
 
-  -- Each statement on the paths, and each drain of a store there, is an item.
+  -- The items of a statement contain it (b is `false`) and, if it is a store into the buffer, its drain (b is `true`).
   Contains-items_at : (t j : ℕ) (s : S) (b : Bool)
       → (b ≡ true → IsStoring s)
       → Contains (items_at language t j (Some s)) (item t j b)
@@ -153,7 +154,7 @@ module _ {S : Type 0} (language : Language S) where
       (subst (λ (o : Option ℕ). Contains (option_map_or (λ x. item t j true ∷ []) o []) (item t j true)) (sym (store refl).1)
       (Contains-head (item t j true) (item t j true) [] refl))
 
-  -- An item of a position on a thread's path is an item of the path.
+  -- If j is on a thread's path, the path's items contain those of j.
   Contains-path_items : (t : ℕ) (code : List S) (path : List ℕ) (j : ℕ) (a : Item)
       → IsMember j path
       → Contains (items_at language t j (slice_get code j)) a
@@ -194,7 +195,7 @@ module _ {S : Type 0} (language : Language S) where
         (All-nil (IsLower (item t j true)), tt),
       )
 
-  -- Along an ascending path the ranks of its items increase.
+  -- If a path is ascending, the ranks of its items increase.
   Pairwise-ascending_path : (t low : ℕ) (code : List S) (path : List ℕ)
       → IsAscendingFrom low path
       → Pairwise IsLower (path_items language t code path)
@@ -207,7 +208,8 @@ module _ {S : Type 0} (language : Language S) where
       All-path_items (IsLower (item t j b)) t code path
       (λ k z c h f g same. item_slot-increasing b c j k (IsAscendingFrom-lower_bound (suc j) k path u.1 h))))
 
-  -- What holds pairwise along each path, and between items of different threads, holds pairwise of all items.
+  -- If R holds pairwise along each path with Q, and between items of different threads, and each path has Q, then R holds
+  -- pairwise of all items.
   Pairwise-items_from : (R : Item → Item → Type 0) (Q : List ℕ → Type 0)
       → ((t : ℕ) (code : List S) (path : List ℕ) → Q path → Pairwise R (path_items language t code path))
       → ((a b : Item) → a.thread < b.thread → R a b)
@@ -229,7 +231,7 @@ module _ {S : Type 0} (language : Language S) where
       Pairwise-of_All IsNoLater (λ a. a.thread ≡ t) (λ a b e f. omega (arith, e, f)) _
       (All-path_items (λ a. a.thread ≡ t) t code path (λ j s b h e store. refl))
 
-  -- The positions of a flow path are ascending.
+  -- If jumps go forward, the positions of a flow path from j are ascending from j.
   pub IsAscendingFrom-flow_path : (code : List S) (j : ℕ) (path : List ℕ)
       → JumpsForward language code
       → IsFlowPathFrom language code j path
@@ -238,7 +240,7 @@ module _ {S : Type 0} (language : Language S) where
   IsAscendingFrom-flow_path code j (k ∷ path) forward (same, next, follows, rest) =
       let w : (j < next) × (next ≤ length code) = IsFlowSuccessor-in_range language code j next forward follows in (
         omega arith,
-        IsAscendingFrom-weaker next (suc k) path (omega (arith, w.0)) (IsAscendingFrom-flow_path code next path forward rest),
+        IsAscendingFrom-mono next (suc k) path (omega (arith, w.0)) (IsAscendingFrom-flow_path code next path forward rest),
       )
 
   -- A path assignment has a path for each thread.
@@ -270,7 +272,8 @@ module _ {S : Type 0} (language : Language S) where
     abbrev at : ℕ → Item
     at i = item_at items i
 
-    -- A statement on a thread's path is an item, and so is its drain if it is a store into the store buffer.
+    -- A statement on a thread's path is an item (b is `false`), and so is its drain (b is `true`), if it is a store into the
+    -- store buffer.
     pub HasItem-on_path : (t j : ℕ) (s : S) (b : Bool)
         → length paths ≡ length program
         → t < length program
@@ -302,7 +305,7 @@ module _ {S : Type 0} (language : Language S) where
     pub IsItemOnPath-of_member : (i : ℕ) → i < length items → IsItemOnPath (at i)
     IsItemOnPath-of_member i in_range = All-get_or IsItemOnPath items i _ in_range IsItemOnPath-all
 
-    -- Threads increase with the indices.
+    -- Of two items the one with the lower index is not of a later thread.
     pub thread_le-index : (i j : ℕ) → i ≤ j → j < length items → (at i).thread ≤ (at j).thread
     thread_le-index i j le in_range = elim (cases_eq i j) [
       | inl e ↦ rw e (omega arith)
@@ -327,7 +330,7 @@ module _ {S : Type 0} (language : Language S) where
           IsAscendingFrom-flow_path (thread_code program t) 0 (thread_code paths t) (forward t)
           (IsFlowPathFrom-path_assignment program paths assignment t l))) less in_range same
 
-      -- Within a thread the indices increase with the `thread_rank`s.
+      -- If an item in range has a lower `thread_rank` than one of the same thread, its index is lower.
       pub index_lt-if_rank_lt : (i j : ℕ)
           → i < length items
           → (at i).thread ≡ (at j).thread
@@ -339,7 +342,7 @@ module _ {S : Type 0} (language : Language S) where
         | inr (inr g) ↦ absurd (omega (arith, less, thread_rank-increasing j i g li (sym same)))
       ]
 
-      -- A thread, a position and the kind of an item determine its index.
+      -- If two items in range have the same thread, position and kind, their indices are the same.
       pub item_index-unique : (i j : ℕ)
           → i < length items
           → j < length items
@@ -355,7 +358,8 @@ module _ {S : Type 0} (language : Language S) where
             | inr (inr g) ↦ absurd (omega (arith, thread_rank-increasing j i g li (sym same)))
           ]
 
-      -- The statement at an item's position is an item, and so is the drain if it is a store into the store buffer.
+      -- The statement at an item's position is an item (b is `false`), and so is the drain (b is `true`), if it is a store into
+      -- the store buffer.
       pub HasItem-same_position : (i : ℕ) (b : Bool) (l : i < length items)
           → (b ≡ true → IsStoring (IsItemOnPath-of_member i l).statement)
           → HasItem items (item (at i).thread (at i).position b)

@@ -21,7 +21,7 @@ Contains-filter p (z ∷ xs) x is_member h = elim (cases_Bool (p z)) [
   ])
 ]
 
--- What follows from a property and the test holds of all elements of the filtered list.
+-- If P holds of all elements, and implies Q of those that pass the test, Q holds of all elements of the filtered list.
 pub All-passing : {X : Type 0} (p : X → Bool) (P Q : X → Type 0) (xs : List X)
     → All P xs
     → ((x : X) → P x → p x ≡ true → Q x)
@@ -97,7 +97,7 @@ abbrev pub AreIncreasingPairs : List (ℕ × ℕ) → Type 0
 AreIncreasingPairs [] = Unit {0}
 AreIncreasingPairs (p ∷ ps) = All (IsPairLess p) ps × AreIncreasingPairs ps
 
--- Filtering preserves that pairs are strictly sorted.
+-- If each pair is less than all after it, so is each of those that pass a test.
 pub AreIncreasingPairs-filter : (p : ℕ × ℕ → Bool) (ps : List (ℕ × ℕ)) → AreIncreasingPairs ps → AreIncreasingPairs (filter p ps)
 AreIncreasingPairs-filter p [] r = tt
 AreIncreasingPairs-filter p (q ∷ ps) r = elim (cases_Bool (p q)) [
@@ -105,7 +105,7 @@ AreIncreasingPairs-filter p (q ∷ ps) r = elim (cases_Bool (p q)) [
   | inr e ↦ rw e (AreIncreasingPairs-filter p ps r.1)
 ]
 
--- Pairs of which each is less than all after it are sorted.
+-- If each pair is less than all after it, the pairs are sorted.
 pub AreIncreasingPairs-sorted : (ps : List (ℕ × ℕ)) → AreIncreasingPairs ps → AreSorted ps
 AreIncreasingPairs-sorted (p ∷ q ∷ ps) (a, r) = (All-head (IsPairLess p) q ps a, AreIncreasingPairs-sorted (q ∷ ps) r)
 AreIncreasingPairs-sorted _ r = tt

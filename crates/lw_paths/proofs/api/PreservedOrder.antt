@@ -25,7 +25,7 @@ module _ {S : Type 0} (language : Language S) (program : List (List S)) where
 
   -- ---- two items
   module _ (a b : Item) where
-    -- Two items in preserved order are of one thread, and the first is ordered before the second.
+    -- If two items are in preserved order, they are of one thread, and the first is ordered before the second.
     AreOrdered-if_preserved : is_preserved language program a b ≡ true → (a.thread ≡ b.thread) × AreOrdered a b
     AreOrdered-if_preserved e =
         (let (same, kinds) = and_parts (a.thread == b.thread) _ e in (
@@ -33,23 +33,23 @@ module _ {S : Type 0} (language : Language S) (program : List (List S)) where
           λ d. elim (cases_Bool b.is_drain) [ inl drain ↦ inl drain | inr statement ↦ inr (rw (d, statement) at kinds) ],
         ))
 
-    -- Two statements of a thread are in preserved order.
+    -- If two items of one thread are statements, they are in preserved order.
     is_preserved-statements : a.thread ≡ b.thread
         → a.is_drain ≡ false
         → b.is_drain ≡ false
         → is_preserved language program a b ≡ true
     is_preserved-statements same_thread d e = rw (eq-eqb a.thread b.thread same_thread, d, e) refl
 
-    -- A store and its drain are in preserved order.
+    -- If a is the statement of b, which is its drain, they are in preserved order.
     is_preserved-store_and_drain : IsStatementOf a b → b.is_drain ≡ true → is_preserved language program a b ≡ true
     is_preserved-store_and_drain store e =
         rw (eq-eqb a.thread b.thread store.thread, store.statement, e, eq-eqb a.position b.position store.position) refl
 
-    -- Two drains of a thread are in preserved order.
+    -- If two items of one thread are drains, they are in preserved order.
     is_preserved-drains : a.thread ≡ b.thread → a.is_drain ≡ true → b.is_drain ≡ true → is_preserved language program a b ≡ true
     is_preserved-drains same_thread d e = rw (eq-eqb a.thread b.thread same_thread, d, e) refl
 
-    -- A drain and a statement of its thread that waits for drains are in preserved order.
+    -- If a is a drain, and b a statement of its thread that waits for drains, they are in preserved order.
     is_preserved-drain_and_waiting : a.thread ≡ b.thread
         → a.is_drain ≡ true
         → b.is_drain ≡ false
@@ -70,12 +70,13 @@ module _ {S : Type 0} (language : Language S) (program : List (List S)) where
     -- R is transitive, and relates the preserved pairs of the items.
     module _ (R : ℕ → ℕ → Type 0) (transitive : (i j k : ℕ) → R i j → R j k → R i k)
         (has : All (λ p. R p.0 p.1) (constraints_of language program items).preserved) where
-      -- R relates two ascending items in preserved order, since that is a preserved pair.
+      -- If two ascending items are in preserved order, R relates them, since they are a preserved pair.
       related : (i j : ℕ) → i < j → j < length items → is_preserved language program (at i) (at j) ≡ true → R i j
       related i j less in_range preserved =
           All-contains (λ p. R p.0 p.1) _ (i, j) has (Contains-preserved_pair language program items i j less in_range preserved)
 
-      -- R relates two ascending items of a thread that are ordered. A store whose drain follows is related to that drain by way of its own.
+      -- By whether each of two ascending items of a thread that are ordered is a drain: R relates them. A store whose drain
+      -- follows is related to that drain by way of its own.
       related-by_kinds : (d e : Bool) (i j : ℕ)
           → (at i).is_drain ≡ d
           → (at j).is_drain ≡ e
@@ -103,17 +104,17 @@ module _ {S : Type 0} (language : Language S) (program : List (List S)) where
                 (is_preserved-statements (at i) (at m) (same ∙ sym store.thread) d store.statement)) own
           ]
 
-      -- A transitive relation that relates the preserved pairs relates all ordered items.
+      -- If a transitive relation relates the preserved pairs, it relates all ordered items.
       pub HasOrdered-if_preserved_related : HasOrdered R items
       HasOrdered-if_preserved_related i j = related-by_kinds (at i).is_drain (at j).is_drain i j refl refl
 
-    -- An order that respects the preserved pairs has all ordered items in order.
+    -- If an order respects the preserved pairs, it has all ordered items in order.
     pub HasOrdered-if_respected : (order : List ℕ)
         → Respects (constraints_of language program items).preserved order
         → HasOrdered (Before order) items
     HasOrdered-if_respected order keeps = HasOrdered-if_preserved_related (Before order) (λ i j k a b. omega (arith, a, b)) keeps
 
-  -- A relation of indices that relates all ordered items relates the preserved pairs.
+  -- If a relation of indices relates all ordered items, it relates the preserved pairs.
   pub All-preserved_related : (R : ℕ → ℕ → Type 0) (items : List Item)
       → HasOrdered R items
       → All (λ p. R p.0 p.1) (constraints_of language program items).preserved
@@ -123,7 +124,7 @@ module _ {S : Type 0} (language : Language S) (program : List (List S)) where
       (let (same, ordered) = AreOrdered-if_preserved (item_at items p.0) (item_at items p.1) preserved in
       has p.0 p.1 within.1 (omega (arith, within.2)) same ordered))
 
-  -- An order that has all ordered items in order respects the preserved pairs.
+  -- If an order has all ordered items in order, it respects the preserved pairs.
   pub Respects-if_ordered : (items : List Item) (order : List ℕ)
       → HasOrdered (Before order) items
       → Respects (constraints_of language program items).preserved order

@@ -17,7 +17,7 @@ module _ {S : Type 0} (language : Language S) (program : List (List S)) where
   abbrev conflict_at : List Item → ℕ × ℕ → Bool
   conflict_at items p = items_conflict language program (item_at items p.0) (item_at items p.1)
 
-  -- An ascending pair of items in preserved order is among the preserved pairs.
+  -- If i < j are in range, and their items are in preserved order, (i, j) is a preserved pair.
   pub Contains-preserved_pair : (items : List Item) (i j : ℕ)
       → i < j
       → j < length items
@@ -27,7 +27,7 @@ module _ {S : Type 0} (language : Language S) (program : List (List S)) where
       Contains-filter (preserved_at items) (pairs_from 0 (length items)) (i, j)
       (Contains-pairs_from 0 (length items) i j (omega arith) less (omega arith)) f
 
-  -- An ascending pair of conflicting items is among the conflicts.
+  -- If i < j are in range, and their items conflict, (i, j) is a conflict.
   pub Contains-conflict_pair : (items : List Item) (i j : ℕ)
       → i < j
       → j < length items
@@ -37,7 +37,7 @@ module _ {S : Type 0} (language : Language S) (program : List (List S)) where
       Contains-filter (conflict_at items) (pairs_from 0 (length items)) (i, j)
       (Contains-pairs_from 0 (length items) i j (omega arith) less (omega arith)) c
 
-  -- Each listed pair is ascending.
+  -- Each pair of numbers below n that passes a test is ascending.
   AreAscending-filtered_pairs : (test : ℕ × ℕ → Bool) (n : ℕ) → AreAscending n (filter test (pairs_from 0 n))
   AreAscending-filtered_pairs test n =
       All-passing test (IsPairInRange 0 n) (λ p. (p.0 < p.1) × (p.1 < n)) (pairs_from 0 n) (IsPairInRange-pairs_from 0 n)
@@ -58,7 +58,7 @@ module _ {S : Type 0} (language : Language S) (program : List (List S)) where
       (AreIncreasingPairs-filter (conflict_at items) (pairs_from 0 (length items))
       (AreIncreasingPairs-pairs_from 0 (length items)))
 
-  -- Items within the limit are well-formed with their pairs.
+  -- If items are within the limit, they are well-formed with their preserved pairs and their conflicts.
   pub IsWellFormed-constraints : (items : List Item)
       → length items ≤ most_items
       → IsWellFormed (constraints_of language program items)

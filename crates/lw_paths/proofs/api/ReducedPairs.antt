@@ -6,7 +6,7 @@ use Rattle.lw_paths.proofs.Common.{subst, inl, inr, arith, All, eq-eqb, ne_eqb, 
 use Rattle.lw_paths.proofs.Common.{cond-false, drop_all, All-nil, All-cons, All-append, AreAscending}
 use Rattle.lw_paths.proofs.Common.{most_items, indices, All-parts, Item, LastItems, Language, item_at}
 use Rattle.lw_paths.proofs.Common.{none_before, edge_from, reduced_at, record_last, last_of_thread}
-use Rattle.lw_paths.proofs.Common.{needs_earlier_drains, reduced_from, constraints_of, transitive_reduction}
+use Rattle.lw_paths.proofs.Common.{needs_earlier_drains, reduced_from, constraints_of, reduced_constraints_of}
 use Rattle.lw_paths.proofs.Common.{IsWellFormed}
 use Rattle.lw_paths.proofs.api.PreservedPairs.{IsWellFormed-constraints}
 
@@ -24,19 +24,22 @@ last_by true last = last.drain
 last_by false last = last.statement
 
 module _ (Q : ℕ × ℕ → Type 0) (n : ℕ) where
-  -- What holds of the pair of each optional item with n holds of the list of this pair, which may be empty.
+  -- If Q holds of the pair of the optional item with n, if there is one, it holds of all pairs of the list `edge_from`.
   All-edge_from : (o : Option ℕ) → ((m : ℕ) → o ≡ Some m → Q (m, n)) → All Q (edge_from o n)
   All-edge_from None each = All-nil Q
   All-edge_from (Some m) each = All-cons Q (m, n) [] (each m refl) (All-nil Q)
 
-  -- What holds of item n's pair with the last statement, and with the last drain if n comes after drains, holds of all its reduced pairs.
-  pub All-reduced_at : (d w : Bool) (last : LastItems)
+  -- If Q holds of item n's pair with the last statement and, if n is a drain or waits for drains, of that with the last drain,
+  -- it holds of all its reduced pairs.
+  pub All-reduced_at : (is_drain waits : Bool) (last : LastItems)
       → ((m : ℕ) → last.statement ≡ Some m → Q (m, n))
-      → ((d ≡ true) ⊎ (w ≡ true) → (m : ℕ) → last.drain ≡ Some m → Q (m, n))
-      → All Q (reduced_at d w last n)
-  All-reduced_at true w last s d = All-append Q _ _ (All-edge_from _ s) (All-edge_from last.drain (d (inl refl)))
-  All-reduced_at false true last s d = All-append Q _ _ (All-edge_from _ s) (All-edge_from last.drain (d (inr refl)))
-  All-reduced_at false false last s d = All-edge_from last.statement s
+      → ((is_drain ≡ true) ⊎ (waits ≡ true) → (m : ℕ) → last.drain ≡ Some m → Q (m, n))
+      → All Q (reduced_at is_drain waits last n)
+  All-reduced_at true waits last of_statement of_drain =
+      All-append Q _ _ (All-edge_from _ of_statement) (All-edge_from last.drain (of_drain (inl refl)))
+  All-reduced_at false true last of_statement of_drain =
+      All-append Q _ _ (All-edge_from _ of_statement) (All-edge_from last.drain (of_drain (inr refl)))
+  All-reduced_at false false last of_statement of_drain = All-edge_from last.statement of_statement
 
 module _ (Q : ℕ × ℕ → Type 0) (f : ℕ → List (ℕ × ℕ)) where
   -- If Q holds of all pairs of each index in a range, it holds of the concatenation.
@@ -84,29 +87,31 @@ module _ (all : List Item) where
   AreEarlier-none n t true m e = cc
   AreEarlier-none n t false m e = cc
 
-  -- They are so too as the last items of thread u: the same if u is t, and otherwise none.
+  -- If the claim holds of the last items of thread t, it holds of them as those of thread u: the same if u is t, and otherwise
+  -- none.
   AreEarlier-of_thread : (n t u : ℕ) (last : LastItems) → AreEarlier n t last → AreEarlier n u (last_of_thread t u last)
   AreEarlier-of_thread n t u last h = elim (cases_eq t u) [
     | inl same_thread ↦ rw (last_of_thread-same t u last same_thread, ← same_thread) h
     | inr threads_differ ↦ rw (last_of_thread-other t u last threads_differ) (AreEarlier-none n u)
   ]
 
-  -- After item n of the thread is recorded as the last statement or drain, the claim holds before the next index.
-  AreEarlier-suc : (d : Bool) (n t : ℕ) (last : LastItems)
+  -- If the claim holds of a thread's last items before n, which is of this thread, it holds before the next index after n is
+  -- recorded as the last drain (d is `true`) or the last statement.
+  AreEarlier-next : (d : Bool) (n t : ℕ) (last : LastItems)
       → (it n).is_drain ≡ d
       → (it n).thread ≡ t
       → AreEarlier n t last
       → AreEarlier (suc n) t (record_last d last n)
-  AreEarlier-suc true n t last is on h true m e = (let same : n ≡ m = cc in rw (← same) (omega arith, on, is))
-  AreEarlier-suc true n t last is on h false m e = (let (less, there, kind) = h false m e in (omega (arith, less), there, kind))
-  AreEarlier-suc false n t last is on h true m e = (let (less, there, kind) = h true m e in (omega (arith, less), there, kind))
-  AreEarlier-suc false n t last is on h false m e = (let same : n ≡ m = cc in rw (← same) (omega arith, on, is))
+  AreEarlier-next true n t last is on h true m e = (let same : n ≡ m = cc in rw (← same) (omega arith, on, is))
+  AreEarlier-next true n t last is on h false m e = (let (less, there, kind) = h false m e in (omega (arith, less), there, kind))
+  AreEarlier-next false n t last is on h true m e = (let (less, there, kind) = h true m e in (omega (arith, less), there, kind))
+  AreEarlier-next false n t last is on h false m e = (let same : n ≡ m = cc in rw (← same) (omega arith, on, is))
 
-  -- The claim holds of the last items before each index, of the thread of the item before.
+  -- Before each index n the claim holds of the last items of the thread of the item before n.
   AreEarlier-upto : (n : ℕ) → AreEarlier n (thread_upto n) (last_upto n)
   AreEarlier-upto zero = AreEarlier-none 0 0
   AreEarlier-upto (suc n) =
-      AreEarlier-suc (it n).is_drain n (it n).thread (last_at n) refl refl
+      AreEarlier-next (it n).is_drain n (it n).thread (last_at n) refl refl
       (AreEarlier-of_thread n (thread_upto n) (it n).thread (last_upto n) (AreEarlier-upto n))
 
   module _ {S : Type 0} (language : Language S) (program : List (List S)) where
@@ -125,18 +130,20 @@ module _ (all : List Item) where
         ∙ ap (λ ps. preserved_of n ++ ps) (reduced_from-by_index d (suc n) (omega arith))
 
     -- All reduced pairs are those of the item at each index.
-    reduction-by_index : (transitive_reduction language program all).preserved ≡ flat_map preserved_of (indices 0 (length all))
-    reduction-by_index = reduced_from-by_index (length all) 0 (omega arith)
+    reduced_pairs-by_index : (reduced_constraints_of language program all).preserved
+        ≡ flat_map preserved_of (indices 0 (length all))
+    reduced_pairs-by_index = reduced_from-by_index (length all) 0 (omega arith)
 
-    -- What holds of all reduced pairs holds of those of item n.
+    -- If Q holds of all reduced pairs, it holds of those of each item n.
     pub reduced-at : (Q : ℕ × ℕ → Type 0)
-        → All Q (transitive_reduction language program all).preserved
+        → All Q (reduced_constraints_of language program all).preserved
         → (n : ℕ)
         → n < length all
         → All Q (preserved_of n)
-    reduced-at Q each n in_range = All-index Q preserved_of 0 _ (rw reduction-by_index at each) n (omega arith) (omega arith)
+    reduced-at Q each n in_range = All-index Q preserved_of 0 _ (rw reduced_pairs-by_index at each) n (omega arith) (omega arith)
 
-    -- What holds of each last item of a thread with a later item holds of all reduced pairs.
+    -- If Q holds of each pair of items of one thread in ascending order, of which the first is a drain (b is `true`) only if
+    -- the second is a drain or waits for drains, it holds of all reduced pairs.
     pub All-reduced_pairs : (Q : ℕ × ℕ → Type 0)
         → ((b : Bool) (m n : ℕ)
         → m < n
@@ -145,8 +152,8 @@ module _ (all : List Item) where
         → (it m).is_drain ≡ b
         → (b ≡ true → ((it n).is_drain ≡ true) ⊎ (needs_earlier_drains language program (it n) ≡ true))
         → Q (m, n))
-        → All Q (transitive_reduction language program all).preserved
-    All-reduced_pairs Q each = rw reduction-by_index (All-numbered Q preserved_of 0 (length all) (λ n a l.
+        → All Q (reduced_constraints_of language program all).preserved
+    All-reduced_pairs Q each = rw reduced_pairs-by_index (All-numbered Q preserved_of 0 (length all) (λ n a l.
         (let last = AreEarlier-of_thread n (thread_upto n) (it n).thread (last_upto n) (AreEarlier-upto n) in
         All-reduced_at Q n (it n).is_drain (needs_earlier_drains language program (it n)) (last_at n)
         (λ m e. (let (less, same, is) = last false m e in each false m n less (omega (arith, l)) same is (λ bad. cc (bad))))
@@ -155,15 +162,15 @@ module _ (all : List Item) where
 module _ {S : Type 0} (language : Language S) (program : List (List S)) where
   -- Each reduced pair is ascending.
   pub AreAscending-reduced : (items : List Item)
-      → AreAscending (length items) (transitive_reduction language program items).preserved
+      → AreAscending (length items) (reduced_constraints_of language program items).preserved
   AreAscending-reduced items =
       All-reduced_pairs items language program (λ p. (p.0 < p.1) × (p.1 < length items))
       (λ b m n less l same is ordered. (less, l))
 
-  -- Items within the limit are well-formed with their reduced pairs.
+  -- If items are within the limit, they are well-formed with their reduced pairs and their conflicts.
   pub IsWellFormed-reduced_pairs : (items : List Item)
       → length items ≤ most_items
-      → IsWellFormed (transitive_reduction language program items)
+      → IsWellFormed (reduced_constraints_of language program items)
   IsWellFormed-reduced_pairs items few =
       let well_formed : IsWellFormed (constraints_of language program items) =
       IsWellFormed-constraints language program items few in
@@ -174,7 +181,8 @@ module _ {S : Type 0} (language : Language S) (program : List (List S)) where
         sorted = well_formed.sorted;
       }
 
-  -- Items within the limit are well-formed with their reduced pairs and their conflicts.
+  -- If items are within the limit, and `preserved` and `conflicts` are their reduced pairs and their conflicts, they are
+  -- well-formed with these.
   pub IsWellFormed-with_reduced_pairs : (items : List Item) (preserved conflicts : List (ℕ × ℕ))
       → length items ≤ most_items
       → preserved ≡ reduced_from language program 0 0 none_before items

@@ -9,7 +9,7 @@ use Rattle.lw_paths.proofs.Common.{successor_list, successors}
 use Rattle.lw_paths.proofs.api.Members.{not-Contains-nil, Contains-singleton, Contains-head, Contains-tail}
 use Rattle.lw_paths.proofs.api.Members.{Contains-cons}
 
--- The list of the next position and a target contains both.
+-- If k is the next position or the target, the list of both contains k.
 pub next_and_target-has : (next to k : ℕ) → (k ≡ to) ⊎ (k ≡ next) → Contains (next_and_target next to) k
 next_and_target-has next to k o = elim (cases_eq next to) [
   | inl e ↦ rw (eq-eqb next to e) (Contains-head next k [] (elim o [ inl h ↦ e ∙ sym h | inr h ↦ sym h ]))
@@ -19,7 +19,7 @@ next_and_target-has next to k o = elim (cases_eq next to) [
   ])
 ]
 
--- The list of the next position and a target contains only these.
+-- If the list of the next position and the target contains k, then k is one of them.
 pub next_and_target-only : (next to k : ℕ) → Contains (next_and_target next to) k → (k ≡ to) ⊎ (k ≡ next)
 next_and_target-only next to k is_member = elim (cases_eq next to) [
   | inl e ↦ inr (Contains-singleton next k (rw (eq-eqb next to e) at is_member))
@@ -49,12 +49,12 @@ IsDuplicateFree-successor_list None goes j = IsDuplicateFree-singleton (j + 1)
 IsDuplicateFree-successor_list (Some to) true j = IsDuplicateFree-next_and_target (j + 1) to
 IsDuplicateFree-successor_list (Some to) false j = IsDuplicateFree-singleton to
 
--- An operation without a target falls through to the next statement.
+-- If an operation has no target, it falls through to the next statement.
 falls_through-no_target : (o : Operation) → branch_target o ≡ None → falls_through o ≡ true
 falls_through-no_target (Branch c to) is_none = absurd cc
 falls_through-no_target _ is_none = refl
 
--- The list contains each successor, by the target or by falling through.
+-- If k is the next position and control can pass to it (`goes`), or is the target o, the list contains k.
 successor_list-has : (o : Option ℕ) (goes : Bool) (j k : ℕ)
     → ((goes ≡ true) × (k ≡ j + 1)) ⊎ (o ≡ Some k)
     → Contains (successor_list o goes j) k
@@ -65,7 +65,8 @@ successor_list-has (Some to) false j k (inl (g, e)) = absurd (true≢false (sym 
 successor_list-has (Some to) true j k (inr e) = next_and_target-has (j + 1) to k (inl (sym (same_Some to k e)))
 successor_list-has (Some to) false j k (inr e) = Contains-head to k [] (same_Some to k e)
 
--- The list contains only successors, by the target or by falling through.
+-- If the list contains k, then k is the next position and control can pass to it, or is the target; without a target control
+-- can pass to the next.
 successor_list-only : (o : Option ℕ) (goes : Bool) (j k : ℕ)
     → (o ≡ None → goes ≡ true)
     → Contains (successor_list o goes j) k
@@ -76,14 +77,14 @@ successor_list-only (Some to) true j k on is_member =
 successor_list-only (Some to) false j k on is_member = inr (ap Some (sym (Contains-singleton to k is_member)))
 
 module _ {S : Type 0} (language : Language S) where
-  -- The list of a statement's successors contains each.
+  -- If k is a flow successor of the statement s at j, the list of successors contains k.
   pub successors-has : (o : Option S) (s : S) (j k : ℕ)
       → o ≡ Some s
       → IsFlowSuccessor language o j k
       → Contains (successors language s j) k
   successors-has o s j k e f = successor_list-has _ (falls_through (language.operation_of s)) j k (rw e at f)
 
-  -- The list of a statement's successors contains only these.
+  -- If the list of the successors of s at j contains k, then k is a flow successor of it.
   pub successors-only : (o : Option S) (s : S) (j k : ℕ)
       → o ≡ Some s
       → Contains (successors language s j) k

@@ -43,6 +43,7 @@ module _ {S : Type 0} (language : Language S) (program : List (List S)) where
   }
 
   -- ---- the total is unique
+  -- If n and m are both the number of orders of a path assignment, they are the same.
   HasOrderCount-unique : (paths : List (List ℕ)) (n m : ℕ)
       → HasOrderCount language program paths n
       → HasOrderCount language program paths m
@@ -61,7 +62,7 @@ module _ {S : Type 0} (language : Language S) (program : List (List S)) where
     pub without_duplicates : IsDuplicateFree others
     pub left : (c : List (List ℕ)) → Contains others c ↔ (Contains assignments c × (one ≡ c → ⊥))
 
-  -- A member of a list of path assignments without duplicates can be set aside from the others.
+  -- If a list of path assignments without duplicates contains one, this can be set aside from the others.
   IsSetAside-member : (one : List (List ℕ)) (assignments : List (List (List ℕ))) (n : ℕ)
       → Contains assignments one
       → IsDuplicateFree assignments
@@ -109,7 +110,7 @@ module _ {S : Type 0} (language : Language S) (program : List (List S)) where
             })
       ]
 
-  -- Two lists of the same path assignments, without duplicates, have the same number of orders.
+  -- If two lists without duplicates have the same path assignments, with n and with m orders, then n is m.
   HaveOrderCounts-unique : (assignments others : List (List (List ℕ))) (n m : ℕ)
       → IsDuplicateFree assignments
       → IsDuplicateFree others
@@ -134,13 +135,13 @@ module _ {S : Type 0} (language : Language S) (program : List (List S)) where
       )) have p.others_have in
       omega (arith, sum, p.sum, first, rest)
 
-  -- The definition determines a program's total.
+  -- If n and m are both a program's total of orders, they are the same.
   pub IsTotalOrderCount-unique : (n m : ℕ) → IsTotalOrderCount language program n → IsTotalOrderCount language program m → n ≡ m
   IsTotalOrderCount-unique n m a b =
       HaveOrderCounts-unique a.assignments b.assignments n m a.without_duplicates b.without_duplicates
       (λ c. ((λ h. (b.exactly c).1 ((a.exactly c).0 h)), λ h. (a.exactly c).1 ((b.exactly c).0 h))) a.orders b.orders
 
-  -- No test is both past a limit and within the limits.
+  -- If a reason other than memory for which there is no list is true, the program is not within the limits.
   pub not-LimitFaultIsTrue-if_within_limits : (f : ListFault)
       → f ≢ Memory
       → LimitFaultIsTrue language program f

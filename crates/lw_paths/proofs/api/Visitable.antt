@@ -7,7 +7,7 @@ use Rattle.lw_paths.proofs.Common.{IsVisitable}
 use Rattle.lw_litmus.specs.WellFormed.{IsWellFormed}
 
 module _ {S : Type 0} (language : Language S) (test : Test S) (well_formed : IsWellFormed language test) where
-  -- The path assignments of a well-formed test can be visited.
+  -- If a test is well-formed, and its language has at most 32 statements for a thread, its path assignments can be visited.
   pub IsVisitable-well_formed : language.most ≤ 32 → IsVisitable language test.threads
   IsVisitable-well_formed short = record {
     bounded = omega (arith, well_formed.as_many, well_formed.head.bounded);

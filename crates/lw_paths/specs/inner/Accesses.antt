@@ -20,7 +20,8 @@ conflicts_among [] = []
 conflicts_among (a ∷ later) = conflicts_with a later ++ conflicts_among later
 
 module _ {S : Type 0} (language : Language S) where
-  -- The access of the item with number n, from whether it is the statement's drain.
+  -- The access of the item with number n, if it accesses a location: that of the statement's drain (`true`), or that of the
+  -- statement.
   abbrev pub access_by : ℕ → Bool → Option S → Option Access
   access_by n is_drain None = None
   access_by n is_drain (Some s) =

@@ -1,8 +1,8 @@
 -- Proves `lowest_by_sets`, whose result is the greedy order of any pairs that the tables are of.
--- `TakenSoFar-more` takes the item that `first_free` found; if it found none, no order respects the pairs
+-- `TakenSoFar-next` takes the item that `first_free` found; if it found none, no order respects the pairs
 -- (`TakenSoFar-none`).
 use Rattle.lw_orders.proofs.Common.{◌||◌, ◌&&◌, ◌∙◌, ap, sym, refl, length-set, arith, get_or_read, has}
-use Rattle.lw_orders.proofs.LowestBySets.{TakenSoFar-start, TakenSoFar-none, TakenSoFar-more}
+use Rattle.lw_orders.proofs.LowestBySets.{TakenSoFar-start, TakenSoFar-none, TakenSoFar-next}
 use Rattle.lw_orders.proofs.greedy.lowest_by_sets.Goals as goal
 
 pub loop-turn-init : goal.loop-turn-init
@@ -18,13 +18,14 @@ returns-in_err-item g c pairs drawn =
     ∙ sym (TakenSoFar-none c.requires.bounded c.loop-turn.invariant.fits c.loop-turn-test.true drawn
     (c.loop-turn.invariant.taken pairs drawn) c.in_err-item.ensures.narrowed c.in_err-item.ensures.found)
 
+-- One more item is taken: the lowest minimal one.
 pub loop-turn-preserved : goal.loop-turn-preserved
 loop-turn-preserved g c = record {
   room = length-set c.loop-turn.items c.loop-turn.turn c.in_ok-item.item ∙ c.loop-turn.invariant.room;
   fits = c.without-left.ensures.fits;
   taken =
       λ pairs drawn.
-      TakenSoFar-more c.requires.bounded c.loop-turn.invariant.fits c.loop-turn-test.true drawn
+      TakenSoFar-next c.requires.bounded c.loop-turn.invariant.fits c.loop-turn-test.true drawn
       (c.loop-turn.invariant.taken pairs drawn) c.in_ok-item.ensures.narrowed c.in_ok-item.item c.in_ok-item.ensures.found
       c.loop-turn.invariant.room _ c.without-left.ensures.items (g.S.ItemBits.number c.with_all_among-candidates.result) (λ k l.
       c.with_all_among-candidates.ensures k l

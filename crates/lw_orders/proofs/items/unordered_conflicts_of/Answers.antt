@@ -15,6 +15,7 @@ returns-clause-pairs g c =
     ∙ unordered_conflicts-by_sets c.args.items.now (subst IsWellFormed c.items.view_is c.items.invariant) c.args.reach.now
     c.requires)
 
+-- The first item of a conflict is in range, since conflicts are ascending.
 pub set_of-requires : goal.set_of-requires
 set_of-requires g c =
     let k = c.loop-pair.pair-index in
@@ -28,6 +29,7 @@ set_of-requires g c =
       ap (λ (ps : List (ℕ × ℕ)). (get_or ps k (0, 0)).0) c.deref-pair-items.ensures.value,
     )
 
+-- The second item of a conflict is in range, since conflicts are ascending.
 pub contains-requires : goal.contains-requires
 contains-requires g c =
     let k = c.loop-pair.pair-index in

@@ -20,6 +20,7 @@ reaches-iff_not_disjoint g c =
     ∙ ap (λ set_of. are_disjoint set_of (2 ^ c.args.from)) c.set_of-in-loop-item.ensures))
     ∙ has-bit _ c.args.from
 
+-- One more item's set is extended: joined with the second item's set if the item reaches the first, unchanged otherwise.
 pub loop-item-preserved : goal.loop-item-preserved
 loop-item-preserved g c =
     let d = (goal.at.loop-item-preserved g c).After-is_disjoint in

@@ -5,6 +5,7 @@ use Rattle.lw_paths.proofs.AccessPairs.{accesses_from-push}
 use Rattle.lw_paths.proofs.conflicts.accesses_of.Goals.{in-Some+in_ok-push, in_default}
 use Rattle.lw_paths.proofs.conflicts.accesses_of.Goals as goal
 
+-- The access of one more item is appended, if it has one.
 pub loop-index-preserved : goal.loop-index-preserved
 loop-index-preserved g c =
     let found = c.loop-index.accesses.items in

@@ -6,6 +6,7 @@ use Rattle.lw_paths.proofs.AccessPairs.{conflicts_with-push}
 use Rattle.lw_paths.proofs.conflicts.push_conflicts.Goals.{then-is_conflict+in_ok-push, else-is_conflict}
 use Rattle.lw_paths.proofs.conflicts.push_conflicts.Goals as goal
 
+-- The pair with one more access is appended, if they conflict.
 pub loop-second-preserved : goal.loop-second-preserved
 loop-second-preserved g c =
     let found = c.loop-second.pairs.items in

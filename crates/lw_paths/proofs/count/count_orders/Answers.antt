@@ -14,6 +14,7 @@ returns-then-is_empty g c =
     let all = constraints_of g.S.Statement.language c.args.program.now c.args.items.now in
     (orientation_count-no_conflicts all (ap length (sym c.in_ok-conflicts.ensures) ∙ none), omega arith)
 
+-- The orientations are counted with the reduced pairs, and are as many as with all preserved pairs.
 pub returns : goal.returns
 returns g c =
     let counted =

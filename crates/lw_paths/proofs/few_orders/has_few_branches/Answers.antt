@@ -5,7 +5,8 @@ use Rattle.lw_paths.proofs.Common.{◌≡◌, ℕ, ◌+◌, ◌-◌, ◌<◌, �
 use Rattle.lw_paths.proofs.Common.{sum_by, sum_by-cons, sum_by-take-drop, drop_more, common_steps}
 use Rattle.lw_paths.proofs.few_orders.has_few_branches.Goals as goal
 
--- The remaining room after one more element's count is subtracted.
+-- If the room and the counts of the first i elements together are `most`, so are the room less the count of the element at i,
+-- which is at most the room, and the counts of the first i + 1.
 room-after_subtraction : {X : Type 0} (f : X → ℕ) (xs : List X) (i : ℕ) (x : X) (room count most : ℕ)
     → i < length xs
     → x ≡ get_or xs i x

@@ -8,6 +8,7 @@ use Rattle.lw_paths.proofs.Pushed.{OnErr-always, append-assoc_all, append-is_tak
 use Rattle.lw_paths.proofs.Pushed.{SomeIff-is_some, items_from-push, items_from-no_paths}
 use Rattle.lw_paths.proofs.items.fill_items.Goals as goal
 
+-- The items of one more thread's path are appended.
 pub loop-thread-preserved : goal.loop-thread-preserved
 loop-thread-preserved g c =
     let cpu : c.unwrap-cpu.result ≡ c.loop-thread.thread =
@@ -59,6 +60,7 @@ offset_bounds-path-items-thread g c =
     let few : length c.as_slice-path-items.result.now ≤ 4 = c.loop-thread.invariant.bounded in
     omega (arith, few, c.loop-thread-test.true)
 
+-- Memory ran out within a thread's path: the list has some of the first items.
 pub returns-in_err-push_path-clause-err : goal.returns-in_err-push_path-clause-err
 returns-in_err-push_path-clause-err g c =
     let left = c.in_err-push_path.ensures.err in

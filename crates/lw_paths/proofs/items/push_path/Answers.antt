@@ -11,6 +11,7 @@ loop-position-preserved g c =
     c.loop-position.items.items c.loop-position-test.true (c.get.ensures ∙ ap (slice_get c.args.code.now) c.from.ensures)
     c.in_ok-push_statement.ensures.ok c.loop-position.invariant
 
+-- Memory ran out within a statement: the list has the old items and some of the path's.
 pub returns-in_err-push_statement-clause-err : goal.returns-in_err-push_statement-clause-err
 returns-in_err-push_statement-clause-err g c =
     let left = c.in_err-push_statement.ensures.err in

@@ -1,4 +1,4 @@
--- Proves `reduced_pairs`, which returns the transitive reduction of the preserved pairs. `reduced_from-push`
+-- Proves `reduced_pairs`, which returns the reduced pairs of the items. `reduced_from-push`
 -- appends the pairs of the next item, with the last statement and the last drain of its thread.
 use Rattle.lw_paths.proofs.Common.{refl, append-nil, drop_all, IfOk-from_err}
 use Rattle.lw_paths.proofs.Pushed.{reduced_from-push}

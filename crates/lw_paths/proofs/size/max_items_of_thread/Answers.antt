@@ -13,6 +13,7 @@ loop-done-init g c =
     (get_or-replicate (suc most_instructions) (length c.as_slice-stmts.result.now) 0 0
     (omega (arith, c.requires.short, ap length c.as_slice-stmts.ensures)))
 
+-- The successors of the statement are within the table.
 pub max_items_from-requires-clause-within : goal.max_items_from-requires-clause-within
 max_items_from-requires-clause-within g c k has =
     let stmts = c.as_slice-stmts.result.now in
@@ -25,6 +26,7 @@ max_items_from-requires-clause-within g c k has =
     is has in
     omega (arith, beyond.1, c.requires.short, ap length c.as_slice-stmts.ensures)
 
+-- The maximum at the statement is small.
 pub overflow_add-most : goal.overflow_add-most
 overflow_add-most g c =
     let stmts = c.as_slice-stmts.result.now in
@@ -37,6 +39,7 @@ overflow_add-most g c =
     c.max_items_from.ensures in
     omega (arith, few, c.statement_size.ensures)
 
+-- The table is right at one position more.
 pub loop-done-preserved : goal.loop-done-preserved
 loop-done-preserved g c =
     let stmts = c.as_slice-stmts.result.now in

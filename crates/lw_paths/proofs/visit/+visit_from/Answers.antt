@@ -35,6 +35,7 @@ successors-first-requires g t c =
     let e = statement_at_position c.requires c.index-program-len.is c.len.ensures c.in-Some.ensures in
     (path_within_limits c.requires e).0
 
+-- After a complete path the visit continues with the next thread.
 pub visit_from-requires : goal.visit_from-requires
 visit_from-requires g t c κs within =
     let n =
@@ -48,6 +49,7 @@ visit_from-requires g t c κs within =
     let low : c.args.at ≤ most_instructions = c.requires.within_room in
     search rules
 
+-- The visit continues at the statement's first successor.
 pub visit_from-requires-2 : goal.visit_from-requires-2
 visit_from-requires-2 g t c κs within =
     let e = statement_at_position c.requires c.index-program-len.is c.len.ensures c.in-Some.ensures in
@@ -61,6 +63,7 @@ visit_from-requires-2 g t c κs within =
     let low : c.successors-first.result.0 ≤ most_instructions = on.2 in
     search rules
 
+-- The visit continues at the statement's second successor.
 pub visit_from-requires-in-Some-second : goal.visit_from-requires-in-Some-second
 visit_from-requires-in-Some-second g t c κs within =
     let e = statement_at_position c.requires c.index-program-len.is c.len.ensures c.in-Some.ensures in

@@ -40,6 +40,7 @@ module _ (g : Over) (c : In_ok-neighbours g) where
       (ap (λ ws. get_or ws 0 false) reversals-at_start ∙ get_or-replicate_false c.len.result)
       ∙ rw (len-read, preserved-copied, c.requires.unordered) refl
 
+-- The search is at the first pair, its tables are filled, and no orientation was tried.
 pub invariant_of-result : goal.invariant_of-result
 invariant_of-result g c =
     let d = (goal.at.invariant_of-result g c).In_ok-neighbours in

@@ -5,6 +5,7 @@ use Rattle.lw_paths.proofs.Common.{arith, ◌∙◌}
 use Rattle.lw_paths.proofs.api.Counting.{Counts-if_counted, sum_too_large-if_saturated}
 use Rattle.lw_paths.proofs.count.CounterVisitor.visit.Goals as goal
 
+-- The orders of the path assignment were counted, and the total is within its limit.
 pub returns-clause-ok : goal.returns-clause-ok
 returns-clause-ok g c = Counts-if_counted g.S.Statement.language c.args.self.now.program.now c.args.self.now.total _ _ (record {
   items = c.as_slice.result.now;

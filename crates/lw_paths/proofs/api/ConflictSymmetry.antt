@@ -13,7 +13,7 @@ is_same_location-sym (Some x) (Some y) = elim (cases_eq x y) [
   | inr ne ↦ ne_eqb x y ne ∙ sym (ne_eqb y x (λ e. ne (sym e)))
 ]
 
--- Conflict of two items is symmetric.
+-- Conflict of two items is symmetric: of a and b, which are drains if d and e say so.
 pub conflict_by-sym : {S : Type 0} (language : Language S) (d e : Bool) (a b : Option S)
     → conflict_by language d e a b ≡ conflict_by language e d b a
 conflict_by-sym language d e None None = refl

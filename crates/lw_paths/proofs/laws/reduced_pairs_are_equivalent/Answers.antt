@@ -2,7 +2,7 @@
 -- same items, and leave as many orientations. Each clause is a lemma.
 use Rattle.lw_paths.proofs.api.Reduced.{IsLinearExtension-reduced_iff, IsOrderedByPath-reduced_iff}
 use Rattle.lw_paths.proofs.api.Reduced.{orientation_count-reduced}
-use Rattle.lw_paths.proofs.laws.transitive_reduction_is_equivalent.Goals as goal
+use Rattle.lw_paths.proofs.laws.reduced_pairs_are_equivalent.Goals as goal
 
 pub returns-clause-orders : goal.returns-clause-orders
 returns-clause-orders g c program paths order = IsLinearExtension-reduced_iff g.S.Statement.language program paths order
