@@ -20,9 +20,10 @@ pub use Rattle.std.proofs.lemmas.Result.{IfErr-weaker, IfOk-from_err, IfOk-weake
 pub use Rattle.std.proofs.lemmas.Result.{on_ok_weaker}
 pub use Rattle.std.specs.Option.{option_map_or}
 pub use Rattle.lw_base.proofs.Common.{FinalState, HasOutcomeShape, RunsTo, thread_code}
-pub use Rattle.lw_base.proofs.api.Lists.{at_index, get-set_other, get-set_same, slice_get-in_range}
+pub use Rattle.lw_base.proofs.api.Lists.{at_index, slice_get-in_range, slice_get-slice_set_other}
+pub use Rattle.lw_base.proofs.api.Lists.{slice_get-slice_set_same}
 pub use Rattle.lw_base.proofs.api.Replays.{RunsTo-append}
-pub use Rattle.lw_base.proofs.api.Zips.{get-map, list_all_zip-at_index}
+pub use Rattle.lw_base.proofs.api.Zips.{list_all_zip-at_index, slice_get-map_inv}
 pub use Rattle.lw_base.specs.declared.event.Event.{Event}
 pub use Rattle.lw_base.specs.declared.event.Event.TheVariants.{Drain, Evict, Step}
 pub use Rattle.lw_base.specs.declared.stop.Stop.{Stop}
@@ -72,15 +73,15 @@ pub use Rattle.lw_outcome_map.specs.Listings.{OutcomeEntries, OutcomesWith, outc
 pub use Rattle.lw_paths.proofs.Common.{HasTooManyItems, IsPathAssignment, IsWithinLimits, JumpsForward}
 pub use Rattle.lw_paths.proofs.Common.{LimitFaultOfAssignment, VisitsAll, assignment_of, conflict_by}
 pub use Rattle.lw_paths.proofs.Common.{constraints_of, drained_location, item_at, items_conflict, items_of}
-pub use Rattle.lw_paths.proofs.Common.{items_of_assignment, location_by, statement_needs_empty_buffer}
-pub use Rattle.lw_paths.proofs.Common.{statement_of, transitive_reduction, writes_by}
+pub use Rattle.lw_paths.proofs.Common.{items_of_assignment, location_by, reduced_constraints_of}
+pub use Rattle.lw_paths.proofs.Common.{statement_needs_empty_buffer, statement_of, writes_by}
+pub use Rattle.lw_paths.proofs.api.ConflictSymmetry.{conflict_by-sym}
 pub use Rattle.lw_paths.proofs.api.Counting.{GivesReasons, LimitFaultIsTrue-of_assignments}
 pub use Rattle.lw_paths.proofs.api.Counting.{LimitFaultOfAssignment-items_refused}
 pub use Rattle.lw_paths.proofs.api.Counting.{LimitFaultOfAssignments-visit_fails, VisitorView}
 pub use Rattle.lw_paths.proofs.api.Enumerated.{Contains-path_assignments}
 pub use Rattle.lw_paths.proofs.api.Members.{Contains-cons, Contains-head, Contains-map_inv}
 pub use Rattle.lw_paths.proofs.api.Members.{Contains-singleton, Contains-tail, not-Contains-nil}
-pub use Rattle.lw_paths.proofs.api.Mutual.{conflict_by-sym}
 pub use Rattle.lw_paths.proofs.api.Numbering.{HasItem, HasItem-on_path, HasItem-same_position}
 pub use Rattle.lw_paths.proofs.api.Numbering.{IsAscendingFrom, IsAscendingFrom-flow_path}
 pub use Rattle.lw_paths.proofs.api.Numbering.{IsAscendingFrom-lower_bound, IsItemOnPath}

@@ -10,7 +10,7 @@ use Rattle.lw_finals.proofs.Common.{EventOccurrence, EventOccurrence-of_event, n
 use Rattle.lw_finals.proofs.Common.{Event, Step, Drain, Evict, Language, Test, X86Test, Constraints}
 use Rattle.lw_finals.proofs.Common.{IsLinearExtension, most_items, orders, JumpsForward, IsPathAssignment}
 use Rattle.lw_finals.proofs.Common.{HasTooManyItems, IsWithinLimits, items_of_assignment, items_of}
-use Rattle.lw_finals.proofs.Common.{transitive_reduction, Item, Contains-path_assignments}
+use Rattle.lw_finals.proofs.Common.{reduced_constraints_of, Item, Contains-path_assignments}
 use Rattle.lw_finals.proofs.Common.{IsWellFormed-reduced_pairs, IsLinearExtension-reduced_iff, Contains-head}
 use Rattle.lw_finals.proofs.Common.{Contains-map_inv, OutcomeEntries, outcomes_of, ReplaysToOverCaches}
 use Rattle.lw_finals.proofs.Common.{ItemTransitionSystem, ReplaysFlatTo, CollectsOutcomes, OutcomesOfProgram}
@@ -21,7 +21,7 @@ use Rattle.lw_finals.proofs.TraceEquivalence.{OrdersEndAlike}
 use Rattle.lw_finals.proofs.Ordered.{OfAssignment}
 use Rattle.lw_orders.specs.Order as orders
 
--- If P and Q imply R, and the value of a result has P where it has one, and Q holds there, then the value has R.
+-- If the value of a result has P, Q holds if there is a value, and P and Q imply R, then the value has R.
 IfOk-with_fact : {T E : Type 0} (r : Result T E) (P R : T → Type 0) (Q : Type 0)
     → ((x : T) → P x → Q → R x)
     → IfOk r P
@@ -37,7 +37,7 @@ module _ {S : Type 0} (language : Language S) (test : Test S) {State : Type 0} (
 
   -- The items of a path assignment with their reduced pairs, from which the orders are computed.
   abbrev pub reduced_constraints : List (List ℕ) → Constraints
-  reduced_constraints paths = transitive_reduction language test.threads (assignment_items paths)
+  reduced_constraints paths = reduced_constraints_of language test.threads (assignment_items paths)
 
   -- For each path assignment of the test, trace-equivalent orders of its items reach the same outcome.
   abbrev pub AllOrdersEndAlike : Type 0
@@ -55,7 +55,7 @@ module _ {S : Type 0} (language : Language S) (test : Test S) {State : Type 0} (
       | inr within ↦ IsWellFormed-reduced_pairs language test.threads (assignment_items paths) within
     ]
 
-    -- An outcome of some order of a path assignment is the outcome of a listed order.
+    -- If an outcome is one of some order of a path assignment, it is that of a listed order.
     OutcomesOfProgram-if_of_assignment : (o : FinalState)
         → OfAssignment language test.threads system o
         → OutcomesOfProgram language (FollowsPathsToEnd system) test.threads o
@@ -94,9 +94,10 @@ module _ {S : Type 0} (language : Language S) (test : Test S) {State : Type 0} (
         Contains-iff_outcome : (o : FinalState) → Contains (outcomes_of entries) o ↔ Has o
         Contains-iff_outcome o = (
           λ c.
-              (let e = Contains-map_inv _ entries o c in
-              subst Has e.2
-              ((same e.0.0).0 (reached e.0.1 e.0.0 (All-contains (λ e. Leads e.1 e.0) entries e.0 All-lead_to_outcome e.1)))),
+              (let (entry, is_entry, is_outcome) = Contains-map_inv _ entries o c in
+              subst Has is_outcome
+              ((same entry.0).0 (reached entry.1 entry.0
+              (All-contains (λ e. Leads e.1 e.0) entries entry All-lead_to_outcome is_entry)))),
           λ has. gathers.covered o (OutcomesOfProgram-if_of_assignment o ((assignments o).0 has)),
         )
 
@@ -153,7 +154,8 @@ module _ {S : Type 0} (language : Language S) (test : Test S) {State : Type 0} (
   abbrev pub IsCollected : {Kept : Type 0} → (Kept → FinalState → Type 0) → OutcomesWith Kept → Type 0
   IsCollected Leads l = CollectsOutcomes (OutcomesOfProgram language (FollowsPathsToEnd system) test.threads) Leads [] l
 
-  -- If a test has a list, it is a complete list of its outcomes.
+  -- If a test can be listed and is within the limits, what is collected of all path assignments is a complete list of its
+  -- outcomes.
   pub IsComplete-collected : (Has : FinalState → Type 0) (program : X86Test)
       → CanBeListed Has program
       → {E : Type 0} (result : Result OutcomeEntries E)
@@ -166,7 +168,8 @@ module _ {S : Type 0} (language : Language S) (test : Test S) {State : Type 0} (
       complete_list can.well_scoped can.alike can.complete within.0 Has can.assignments program can.same can.program_is_flat l
       gathers)
 
-  -- If a test has a list without schedules, it has exactly the test's outcomes.
+  -- If a test can be listed and is within the limits, what is collected of all path assignments without schedules is exactly
+  -- the test's outcomes.
   pub AreAllOutcomes-collected : (Has : FinalState → Type 0) (program : X86Test)
       → CanBeListed Has program
       → {Kept : Type 0} (Leads : Kept → FinalState → Type 0)

@@ -9,14 +9,14 @@ use Rattle.lw_finals.proofs.Common.{Contains-permuted_outcomes, Contains-head, C
 use Rattle.lw_finals.proofs.Common.{not-Contains-nil, Contains-singleton, All-indices_in_range}
 
 module _ {Kept : Type 0} (Leads : Kept → FinalState → Type 0) where
-  -- If there is no outcome, unchanged entries collect all outcomes.
+  -- If there is no outcome, the unchanged entries collect all outcomes.
   pub CollectsOutcomes-none : (Ends : FinalState → Type 0) (es : OutcomesWith Kept)
       → ((o : FinalState) → Ends o → ⊥)
       → CollectsOutcomes Ends Leads es es
   CollectsOutcomes-none Ends es none =
       record { covered = λ o e. absurd (none o e); preserves_outcomes = λ o c. c; each_leads = λ a. a }
 
-  -- If o is the only outcome, then adding it with a value that leads to it collects all outcomes.
+  -- If o is the only outcome, appending it with a value that leads to it collects all outcomes.
   pub CollectsOutcomes-one : (Ends : FinalState → Type 0) (es fs : OutcomesWith Kept) (o p : FinalState) (s : Kept)
       → ((q : FinalState) → Ends q → q ≡ o)
       → p ≡ o
@@ -38,15 +38,15 @@ module _ {Kept : Type 0} (Leads : Kept → FinalState → Type 0) where
       outcomes_of-push : outcomes_of (es ++ (p, s) ∷ []) ≡ outcomes_of es ++ p ∷ []
       outcomes_of-push = map-append _ es ((p, s) ∷ [])
 
-  -- Entries that collect a set of outcomes collect each subset.
-  pub CollectsOutcomes-weaker : (More Ends : FinalState → Type 0) (es fs : OutcomesWith Kept)
+  -- If entries collect the outcomes of `More`, they collect those of `Ends`, which are among them.
+  pub CollectsOutcomes-mono : (More Ends : FinalState → Type 0) (es fs : OutcomesWith Kept)
       → ((o : FinalState) → Ends o → More o)
       → CollectsOutcomes More Leads es fs
       → CollectsOutcomes Ends Leads es fs
-  CollectsOutcomes-weaker _ _ _ fs h a =
+  CollectsOutcomes-mono _ _ _ fs h a =
       record { covered = λ o e. a.covered o (h o e); preserves_outcomes = a.preserves_outcomes; each_leads = a.each_leads }
 
-  -- Sorting preserves what is collected.
+  -- If entries collect the outcomes, so does a permutation of them in which each value still leads to its outcome.
   pub CollectsOutcomes-sorted : {Ends : FinalState → Type 0} {es fs gs : OutcomesWith Kept}
       → IsPermutation fs gs
       → CollectsOutcomes Ends Leads es fs
@@ -83,7 +83,7 @@ pub record CollectedUpTo {Kept : Type 0} (Ends : List ℕ → FinalState → Typ
 
 module _ {Kept : Type 0} (Ends : List ℕ → FinalState → Type 0) (Leads : Kept → FinalState → Type 0) (all : List (List ℕ))
     (old : OutcomesWith Kept) where
-  -- If the first remaining order is collected, those after it remain.
+  -- If the remaining orders begin with `order`, and its outcomes are collected, those after it remain.
   pub CollectedUpTo-next : {to_come next : List (List ℕ)} {found more : OutcomesWith Kept} {order : List ℕ}
       → to_come ≡ order ∷ next
       → CollectedUpTo Ends Leads all to_come old found
@@ -104,7 +104,7 @@ module _ {V Kept : Type 0} (Test : Type 0) (test_of : V → Test) (found_of : V 
     (each : (v : V) (paths : List (List ℕ)) (w : V)
     → visits v paths w
     → (test_of w ≡ test_of v) × CollectsOutcomes (Ends (test_of v) paths) (Leads (test_of v)) (found_of v) (found_of w)) where
-  -- What path assignments collect, visited in sequence, is collected from all of them.
+  -- If path assignments are visited in sequence, and each visit collects its outcomes, the outcomes of all are collected.
   pub CollectsOutcomes-all_visits : (test : Test) (assignments : List (List (List ℕ))) (v w : V)
       → test_of v ≡ test
       → VisitsAll visits assignments v w
@@ -119,22 +119,22 @@ module _ {V Kept : Type 0} (Test : Type 0) (test_of : V → Test) (found_of : V 
       CollectsOutcomes-cons _ _ paths assignments _ _ (found_of w) h.1
       (CollectsOutcomes-all_visits test assignments mid w h.0 rest)
 
--- If there is only one order, what it collects is collected from all orders.
+-- If there is only one order, and its outcomes are collected, those of all orders are.
 pub CollectsOutcomes-only_order : {Kept : Type 0} (Ends : List ℕ → FinalState → Type 0) (Leads : Kept → FinalState → Type 0)
     (given : List (List ℕ)) (order : List ℕ) (es fs : OutcomesWith Kept)
     → given ≡ order ∷ []
     → CollectsOutcomes (Ends order) Leads es fs
     → CollectsOutcomes (OutcomesOfOne Ends given) Leads es fs
-CollectsOutcomes-only_order Ends Leads given order es fs one = CollectsOutcomes-weaker Leads (Ends order) _ es fs (λ o (x, c, e).
+CollectsOutcomes-only_order Ends Leads given order es fs one = CollectsOutcomes-mono Leads (Ends order) _ es fs (λ o (x, c, e).
     subst (λ (y : List ℕ). Ends y o) (Contains-singleton order x (subst (λ (xs : List (List ℕ)). Contains xs x) one c)) e)
 
--- The numbers of the range from 0 to n are below n.
+-- Each number of the range from 0 to n is below n.
 pub All-indices_below : (n : ℕ) → All (λ i. i < n) (indices 0 n)
 All-indices_below n =
     All-weaker (λ (j : ℕ). (0 ≤ j) × (j < 0 + n)) (λ (j : ℕ). j < n) (λ j h. omega (arith, h.1)) (indices 0 n)
     (All-indices_in_range 0 n)
 
--- A list of length 0 is empty.
+-- If the test b says that the length n of a list is 0, the list is empty.
 pub nil-if_length_zero : {X : Type 0} (xs : List X) (n : ℕ) (b : Bool) → b ≡ (n == 0) → b ≡ true → n ≡ length xs → xs ≡ []
 nil-if_length_zero [] n b e is len = refl
 nil-if_length_zero (x ∷ xs) n b e is len = let zero_is : n ≡ 0 = eqb-true n 0 (sym e ∙ is) in absurd (omega arith)

@@ -5,7 +5,7 @@ use Rattle.lw_finals.proofs.Common.{◌∙◌, subst, arith, get_or, drop-cons, 
 use Rattle.lw_finals.proofs.Common.{get_or_from_slice_get, FinalState, Item, item_at, ItemTransitionSystem}
 use Rattle.lw_finals.proofs.Common.{OrderRunsTo, FollowsPathsToEnd}
 
--- The item read at index n is `item_at` of n.
+-- If x was read at an index n in range, the item at n is x.
 item_at-of_read : (items : List Item) (n : ℕ) (x : Item) → n < length items → x ≡ get_or items n x → item_at items n ≡ x
 item_at-of_read items n x in_range e = get_or_from_slice_get items n x _ (slice_get-get_or items n x in_range ∙ ap Some (sym e))
 
@@ -36,7 +36,7 @@ module _ {State : Type 0} (system : ItemTransitionSystem State) (items : List It
       → drop k order ≡ n ∷ drop (suc k) order
   drop_order-cons_item order k n d in_range is = drop-cons order k d in_range ∙ ap (λ (i : ℕ). i ∷ drop (suc k) order) (sym is)
 
-  -- If the next item is not enabled, the order has no run.
+  -- If the runs of an order continue from `now`, and its next item x is not enabled there, the order has no run.
   pub not-Ran-if_not_enabled : (order : List ℕ) (k : ℕ) (x : Item) (now : State)
       → IsItemAt items order k x
       → ((next : State) → system.Carried x now next → ⊥)
@@ -50,7 +50,8 @@ module _ {State : Type 0} (system : ItemTransitionSystem State) (items : List It
       none m.0
       (subst (λ (y : Item). system.Carried y now m.0) (item_at-of_read items one.index x one.item_in_range one.is_item) m.1)
 
-  -- If the next item has exactly one successor state, one more item has reached it.
+  -- If the runs of an order continue from `now`, and its next item x leads from there to exactly one state `next`, they
+  -- continue from `next` after one more item.
   pub RunsContinueFrom-next : (order : List ℕ) (k : ℕ) (x : Item) (now next : State)
       → IsItemAt items order k x
       → system.Carried x now next
@@ -75,7 +76,7 @@ module _ {State : Type 0} (system : ItemTransitionSystem State) (items : List It
             r.whole_runs end (subst (λ (xs : List ℕ). Ran xs now end) (sym split) m);
       }
 
-  -- After the last item a run is at its end.
+  -- If the runs of an order continue from `now` after its last item, each of its runs ends at `now`.
   pub Ran-end_unique : (order : List ℕ) (k : ℕ) (now : State)
       → length order ≤ k
       → RunsContinueFrom order k now
@@ -84,14 +85,15 @@ module _ {State : Type 0} (system : ItemTransitionSystem State) (items : List It
       → end ≡ now
   Ran-end_unique order k now past r end o = subst (λ xs. Ran xs now end) (drop_all k order past) (r.rest_runs end o)
 
-  -- If all items of an order have reached a state, the order's run ends there.
+  -- If the runs of an order continue from `now` after its last item, the order leads from the start to `now`.
   pub Ran-if_all_ran : (order : List ℕ) (k : ℕ) (now : State)
       → length order ≤ k
       → RunsContinueFrom order k now
       → Ran order system.start now
   Ran-if_all_ran order k now past r = r.whole_runs now (subst (λ xs. Ran xs now now) (sym (drop_all k order past)) refl)
 
-  -- If all items of an order have reached a state, the order's only outcome is that state's, and the state is final.
+  -- If the runs of an order continue from `now` after its last item, and the order has the outcome o, then o is that of `now`,
+  -- which is final.
   pub outcome_at_end-unique : {order : List ℕ} {k : ℕ} {now : State}
       → length order ≤ k
       → RunsContinueFrom order k now
@@ -102,7 +104,8 @@ module _ {State : Type 0} (system : ItemTransitionSystem State) (items : List It
       let end : run.end ≡ now = Ran-end_unique order k now past r run.end run.ran in
       (run.outcome_is ∙ ap system.outcome_of end, subst (λ (s : State). IsTrue (system.is_final s)) end run.final)
 
-  -- If all items of an order have reached a final state, the order follows its paths and reaches that state's outcome.
+  -- If the runs of an order continue from `now` after its last item, and `now` is final, the order follows its paths and
+  -- reaches the outcome of `now`.
   pub FollowsPathsToEnd-if_final : {order : List ℕ} {k : ℕ} {now : State}
       → length order ≤ k
       → RunsContinueFrom order k now

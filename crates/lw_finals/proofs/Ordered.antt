@@ -15,7 +15,7 @@ use Rattle.lw_finals.proofs.Common.{IsItemOnPath-of_member, thread_rank-increasi
 use Rattle.lw_finals.proofs.Common.{ItemTransitionSystem, ItemsRunTo, IsAssignmentOutcome}
 use Rattle.lw_finals.proofs.PathOfRun.{MayPrecede, IsAhead, Completed, AreItemRuns, Completed-of_run}
 
--- An item of a list is found at an index below the list's length.
+-- If a list contains an item, the item's index is below the list's length.
 index_in-lt_length : (xs : List ℕ) (i : ℕ) → Contains xs i → index_in xs i < length xs
 index_in-lt_length [] i is_member = absurd (not-Contains-nil i is_member)
 index_in-lt_length (x ∷ xs) i is_member = elim (cases_eq x i) [
@@ -26,7 +26,7 @@ index_in-lt_length (x ∷ xs) i is_member = elim (cases_eq x i) [
   ]
 ]
 
--- A list computed by a function has the function's value at each index.
+-- If t is below n, the list of P's values at the n numbers from k up has P of k + t at index t.
 thread_code-of_function : (P : ℕ → List ℕ) (k n t : ℕ) → t < n → thread_code (map P (indices k n)) t ≡ P (k + t)
 thread_code-of_function P k zero t l = absurd (omega arith)
 thread_code-of_function P k (suc n) zero l = let e : k ≡ k + 0 = omega arith in ap P e
@@ -47,7 +47,7 @@ module _ {S : Type 0} (language : Language S) where
             subst (λ n. IsFlowPathFrom language (thread_code program t) 0 (P n)) next (each (suc t) (omega arith)))),
       )
 
-  -- A thread that has a statement is one of the program.
+  -- If a thread has a statement, it is one of the program.
   thread_in_range-of_instr : (program : List (List S)) (t j : ℕ) (i : S)
       → slice_get (thread_code program t) j ≡ Some i
       → t < length program
@@ -79,7 +79,7 @@ module _ {S : Type 0} (language : Language S) (program : List (List S)) (items :
         below = All-cons (λ i. i < length items) n.0 r.order n.1 r.below;
       }
 
-  -- What holds of each item of an order holds of item i, if i is in the order.
+  -- If P holds of each item of an order, and i is in the order, P holds of item i.
   All-at_index_in : (P : Item → Type 0) (xs : List ℕ) (i : ℕ) → All P (map it xs) → index_in xs i < length xs → P (it i)
   All-at_index_in P [] i h l = absurd (omega arith)
   All-at_index_in P (x ∷ xs) i h l = elim (cases_eq x i) [
@@ -87,7 +87,7 @@ module _ {S : Type 0} (language : Language S) (program : List (List S)) (items :
     | inr ne ↦ All-at_index_in P xs i (All-tail P (it x) (map it xs) h) (omega (arith, index_in-other x xs i ne))
   ]
 
-  -- The list has no duplicates.
+  -- If in an order no preserved pair orders two items the other way, the order has no duplicates.
   AreDistinct-of_right : (xs : List ℕ) → Pairwise (MayPrecede language program) (map it xs) → AreDistinct xs
   AreDistinct-of_right [] h = tt
   AreDistinct-of_right (x ∷ xs) h = (
@@ -98,7 +98,8 @@ module _ {S : Type 0} (language : Language S) (program : List (List S)) (items :
     AreDistinct-of_right xs h.1,
   )
 
-  -- If item j precedes item i in such an order, no preserved pair orders them the other way.
+  -- If in an order no preserved pair orders two items the other way, and j precedes i in it, then no preserved pair orders item
+  -- i before item j.
   MayPrecede-if_before : (xs : List ℕ) (j i : ℕ)
       → Pairwise (MayPrecede language program) (map it xs)
       → index_in xs j < index_in xs i
@@ -221,7 +222,7 @@ module _ {S : Type 0} (language : Language S) (program : List (List S)) {State :
               ordered)
         ]
 
-    -- The outcome is that of the order in which the run executes the items.
+    -- If the run ends in a final state, that state's outcome is one of a path assignment.
     OfAssignment-completed : (o : FinalState)
         → IsTrue (system.is_final end)
         → o ≡ system.outcome_of end
@@ -245,7 +246,7 @@ module _ {S : Type 0} (language : Language S) (program : List (List S)) {State :
       },
     )
 
-  -- The outcome of a run is one of a path assignment.
+  -- If events execute items, jumps go forward, and a run reaches a final state, the run's outcome is one of a path assignment.
   pub OfAssignment-of_run : (Done : Event → State → Result (Unit {0}) Stop → State → Type 0) (Sound : (ℕ → List ℕ)
       → State
       → Type 0)

@@ -6,12 +6,12 @@ use Rattle.lw_finals.proofs.Common.{refl, sym, ap, ◌∙◌, subst, arith, slic
 use Rattle.lw_finals.proofs.Common.{option_map, true≢false, eq-eqb, ne_eqb, option_map_or, cases_eq}
 use Rattle.lw_finals.proofs.Common.{cases_Bool, cond-true, cond-false, same_Some, slice_get-map, All-nil}
 use Rattle.lw_finals.proofs.Common.{All-cons, All-weaker, RunsTo, thread_code, Event, Stop}
-use Rattle.lw_finals.proofs.Common.{slice_get-in_range, get-map, Language, IsFlowSuccessor, IsFlowPathFrom}
-use Rattle.lw_finals.proofs.Common.{JumpsForward, Item, drained_location, statement_needs_empty_buffer}
-use Rattle.lw_finals.proofs.Common.{IsFlowSuccessor-in_range, Contains-head, Contains-tail, AreOrdered}
-use Rattle.lw_finals.proofs.Common.{IsMember, Pairwise, IsStoring, item, thread_rank, item_slot-increasing}
-use Rattle.lw_finals.proofs.Common.{item_slot-store_before_drain, IsAscendingFrom}
-use Rattle.lw_finals.proofs.Common.{IsAscendingFrom-lower_bound, IsAscendingFrom-flow_path}
+use Rattle.lw_finals.proofs.Common.{slice_get-in_range, slice_get-map_inv, Language, IsFlowSuccessor}
+use Rattle.lw_finals.proofs.Common.{IsFlowPathFrom, JumpsForward, Item, drained_location}
+use Rattle.lw_finals.proofs.Common.{statement_needs_empty_buffer, IsFlowSuccessor-in_range, Contains-head}
+use Rattle.lw_finals.proofs.Common.{Contains-tail, AreOrdered, IsMember, Pairwise, IsStoring, item}
+use Rattle.lw_finals.proofs.Common.{thread_rank, item_slot-increasing, item_slot-store_before_drain}
+use Rattle.lw_finals.proofs.Common.{IsAscendingFrom, IsAscendingFrom-lower_bound, IsAscendingFrom-flow_path}
 use Rattle.lw_finals.proofs.Common.{ItemTransitionSystem, ItemsRunTo}
 use Rattle.lw_finals.proofs.api.Waiting.{DrainsOldest, IsAscendingBetween, IsAscendingBetween-member}
 use Rattle.lw_finals.proofs.api.Waiting.{entry_location, waits_after, waits_after-cases}
@@ -26,11 +26,11 @@ module _ {X Y : Type 0} (starting : X → Y) (position : Y → ℕ) (at_first : 
       slice_get-map position (map starting xs) t
       ∙ (ap (option_map position) (slice_get-map starting xs t ∙ ap (option_map starting) x.1) ∙ ap Some (at_first x.0))
 
-  -- No thread starts elsewhere.
+  -- If a thread of the initial state is at position p, then p is 0.
   pub position-at_start_unique : (t p : ℕ) → slice_get (map position (map starting xs)) t ≡ Some p → p ≡ 0
   position-at_start_unique t p found_at =
-      let y = get-map position (map starting xs) t p found_at in
-      let x = get-map starting xs t y.0 y.1 in
+      let y = slice_get-map_inv position (map starting xs) t p found_at in
+      let x = slice_get-map_inv starting xs t y.0 y.1 in
       y.2 ∙ (ap position x.2 ∙ at_first x.0)
 
 module _ {S : Type 0} (language : Language S) (program : List (List S)) where
@@ -67,7 +67,7 @@ module _ {S : Type 0} (language : Language S) (program : List (List S)) where
     abbrev pub IsWithin : State → Type 0
     IsWithin s = (t p : ℕ) → position_of s t ≡ Some p → p ≤ length (thread_code program t)
 
-    -- If each thread is past its code, and no store waits, nothing remains to be executed.
+    -- If each thread is at or past the end of its code, and no store waits, nothing remains to be executed.
     pub Completed-at_end : (pending : ℕ → List ℕ) (s : State)
         → IsWithin s
         → ((t p : ℕ) → position_of s t ≡ Some p → (length (thread_code program t) ≤ p) × ((j : ℕ) → IsMember j (pending t) → ⊥))
@@ -109,22 +109,24 @@ module _ {S : Type 0} (language : Language S) (program : List (List S)) where
       pub oldest : DrainsOldest item.is_drain item.position (pending item.thread)
       pub store : item.is_drain ≡ true → IsStoring language statement
 
-    -- The path of an item's thread from the item on: a statement's position comes before the rest of the path, and a drain has none.
+    -- The path of an item's thread from the item on: the position j of a statement (`false`) comes before the rest of the path,
+    -- and a drain (`true`) has none.
     abbrev own_path : Bool → ℕ → List ℕ → List ℕ
     own_path true j path = path
     own_path false j path = j ∷ path
 
-    -- What is on the rest of the path is on the path from the item on.
+    -- If a position is on the rest of the path, it is on the path from the item on, which is a drain if b is `true`.
     IsMember-own_path : (b : Bool) (j k : ℕ) (path : List ℕ) → IsMember k path → IsMember k (own_path b j path)
     IsMember-own_path true j k path is_member = is_member
     IsMember-own_path false j k path is_member = inr is_member
 
-    -- A statement's position is on the path from the statement on.
+    -- If the item is a statement (b is `false`), its position is on the path from the item on.
     IsMember-own_position : (b : Bool) (j : ℕ) (path : List ℕ) → b ≡ false → IsMember j (own_path b j path)
     IsMember-own_position true j path f = absurd (true≢false f)
     IsMember-own_position false j path f = inl refl
 
-    -- A position on the path from an item on is that of the statement, or on the rest of the path.
+    -- If a position is on the path from the item on, it is that of the item, which is a statement (b is `false`), or is on the
+    -- rest of the path.
     own_path-cases : (b : Bool) (j k : ℕ) (path : List ℕ)
         → IsMember k (own_path b j path)
         → ((b ≡ false) × (j ≡ k)) ⊎ IsMember k path
@@ -184,7 +186,7 @@ module _ {S : Type 0} (language : Language S) (program : List (List S)) where
         | inr threads_differ ↦ within u q (sym (effect.others u threads_differ) ∙ e)
       ]
 
-      -- The thread is past the item's position, then.
+      -- After the item its thread is past the item's position.
       beyond : item_position < effect.new
       beyond = elim (cases_Bool item_is_drain) [
         | inl f ↦
@@ -206,7 +208,7 @@ module _ {S : Type 0} (language : Language S) (program : List (List S)) where
         | inl on ↦ not-on_path (subst (λ (u : ℕ). IsMember x.position (paths u)) (sym same) on)
         | inr (d, on) ↦
             elim (waits_after-cases language program pending executed effect.old effect.climbs effect.oldest x.thread _ on) [
-              | inl (w, ne) ↦ waiting d (ne same) (subst (λ (u : ℕ). IsMember x.position (pending u)) (sym same) w)
+              | inl (w, ne) ↦ not-waiting d (ne same) (subst (λ (u : ℕ). IsMember x.position (pending u)) (sym same) w)
               | inr (same, f, store, e) ↦
                   absurd (omega (arith, item_slot-store_before_drain item_is_drain x.is_drain item_position x.position f d e, le))
             ]
@@ -216,7 +218,7 @@ module _ {S : Type 0} (language : Language S) (program : List (List S)) where
           not-later : item_position < x.position → ⊥
           not-later less = absurd (omega (arith, item_slot-increasing item_is_drain x.is_drain item_position x.position less, le))
 
-          -- Positions on the remaining path are later.
+          -- The item x is not on the remaining path, since the positions there are later.
           not-on_path : IsMember x.position (paths item_thread) → ⊥
           not-on_path is_member =
               not-later (omega (
@@ -225,7 +227,7 @@ module _ {S : Type 0} (language : Language S) (program : List (List S)) where
                 IsAscendingFrom-lower_bound effect.new x.position (paths item_thread) up is_member,
               ))
 
-          -- So is a store that waits after the oldest.
+          -- The item x is not the drain of a store that waits after the oldest, since the position of such a store is later.
           not-newer : (rest : List ℕ)
               → IsAscendingBetween 0 (item_position ∷ rest) effect.old
               → x.position ≢ item_position
@@ -245,12 +247,12 @@ module _ {S : Type 0} (language : Language S) (program : List (List S)) where
           waits_at f (inl e) = absurd (true≢false (sym e ∙ f))
           waits_at f (inr e) = sym (ap (λ o. option_map_or (statement_needs_empty_buffer language) o false) effect.at) ∙ e
 
-          -- A store that was waiting cannot be ordered before the item: it is not the oldest, or no store may wait.
-          waiting : x.is_drain ≡ true
+          -- The item x is not the drain of a store that waits: it is not that of the oldest, or no store may wait.
+          not-waiting : x.is_drain ≡ true
               → (item_is_drain ≡ true → x.position ≢ item_position)
               → IsMember x.position (pending item_thread)
               → ⊥
-          waiting d ne is_member = elim (cases_Bool item_is_drain) [
+          not-waiting d ne is_member = elim (cases_Bool item_is_drain) [
             | inl f ↦
                 (let (rest, head) = effect.oldest f in
                 not-newer rest (subst (λ (ws : List ℕ). IsAscendingBetween 0 ws effect.old) head effect.climbs) (ne f)
@@ -258,7 +260,7 @@ module _ {S : Type 0} (language : Language S) (program : List (List S)) where
             | inr f ↦ effect.waited f (waits_at f (ordered d)) x.position is_member
           ]
 
-      -- The run from an item on.
+      -- If what remains after the item is completed up to `end`, so is what remains before it, with the item first.
       pub Completed-after_item : (end : State) → Completed after mid end → Completed pending s end
       Completed-after_item end r = record {
         paths = before;
@@ -282,7 +284,8 @@ module _ {S : Type 0} (language : Language S) (program : List (List S)) where
         ];
         drained = λ u p k h e on at store.
             let there = position-exists_after u p e in
-            ⊎_elim (λ g. not-on_path u there.0 k h there.1 at store g) (λ g. waiting u there.0 k h there.1 at store g) on;
+            ⊎_elim (λ g. Contains-drain_on_path u there.0 k h there.1 at store g)
+            (λ g. Contains-drain_waiting u there.0 k h there.1 at store g) on;
         right = (
           All-weaker (IsAhead r.paths after) (MayPrecede executed) (λ x h. MayPrecede-before_ahead r.paths x rest_is_ascending h)
               r.done r.ahead,
@@ -294,18 +297,18 @@ module _ {S : Type 0} (language : Language S) (program : List (List S)) where
           before : ℕ → List ℕ
           before u = if item_thread == u then own_path item_is_drain item_position (r.paths u) else r.paths u
 
-          -- For the item's thread this is its path from the item on.
+          -- The path of the item's thread from here on is its path from the item on.
           before-same_thread : (u : ℕ) → item_thread ≡ u → before u ≡ own_path item_is_drain item_position (r.paths u)
           before-same_thread u e =
               cond-true (item_thread == u) (own_path item_is_drain item_position (r.paths u)) (r.paths u) (eq-eqb item_thread u e)
 
-          -- For any other thread it is the rest of its path.
+          -- The path of any other thread from here on is the rest of its path.
           before-other_thread : (u : ℕ) → item_thread ≢ u → before u ≡ r.paths u
           before-other_thread u ne =
               cond-false (item_thread == u) (own_path item_is_drain item_position (r.paths u)) (r.paths u)
               (ne_eqb item_thread u ne)
 
-          -- They contain the rest, and the statement.
+          -- The paths from here on contain the rest of each path.
           before-contains_rest : (u k : ℕ) → IsMember k (r.paths u) → IsMember k (before u)
           before-contains_rest u k is_member = elim (cases_eq item_thread u) [
             | inl same_thread ↦
@@ -314,13 +317,14 @@ module _ {S : Type 0} (language : Language S) (program : List (List S)) where
             | inr threads_differ ↦ subst (IsMember k) (sym (before-other_thread u threads_differ)) is_member
           ]
 
-          -- If the item is a statement, its position is on its thread's path.
+          -- If the item is a statement, its position is on its thread's path from here on.
           before-contains_statement : (u : ℕ) → item_thread ≡ u → item_is_drain ≡ false → IsMember item_position (before u)
           before-contains_statement u same f =
               subst (IsMember item_position) (sym (before-same_thread u same))
               (IsMember-own_position item_is_drain item_position (r.paths u) f)
 
-          -- A position on a path from here on is the statement's, or one on the rest of the path.
+          -- If a position is on a path from here on, it is that of the item, which is a statement, or is on the rest of the
+          -- path.
           before-cases : (u k : ℕ)
               → IsMember k (before u)
               → ((item_thread ≡ u) × (item_is_drain ≡ false) × (item_position ≡ k)) ⊎ IsMember k (r.paths u)
@@ -332,13 +336,13 @@ module _ {S : Type 0} (language : Language S) (program : List (List S)) where
             | inr threads_differ ↦ inr (subst (IsMember k) (before-other_thread u threads_differ) is_member)
           ]
 
-          -- They are paths from the threads' positions.
+          -- The rest of the path of the item's thread is ascending from the thread's position after the item.
           rest_is_ascending : IsAscendingFrom effect.new (r.paths item_thread)
           rest_is_ascending =
               IsAscendingFrom-flow_path language (thread_code program item_thread) effect.new (r.paths item_thread)
               (forward item_thread) (r.flows item_thread effect.new effect.now)
 
-          -- The item's thread follows its path from the item on.
+          -- By whether the item is a drain (c): its thread follows its path from the item on.
           IsFlowPathFrom-own : (c : Bool)
               → item_is_drain ≡ c
               → IsFlowPathFrom language (thread_code program item_thread) effect.old
@@ -356,7 +360,7 @@ module _ {S : Type 0} (language : Language S) (program : List (List S)) where
                 r.flows item_thread effect.new effect.now,
               )
 
-          -- So it does from each position that it can have.
+          -- From each position that the item's thread can have, its path from here on is a flow path.
           IsFlowPathFrom-before : (q : ℕ)
               → position_of s item_thread ≡ Some q
               → IsFlowPathFrom language (thread_code program item_thread) q (before item_thread)
@@ -373,7 +377,7 @@ module _ {S : Type 0} (language : Language S) (program : List (List S)) where
             | inr threads_differ ↦ (p, effect.others u threads_differ ∙ e)
           ]
 
-          -- The item was still to be executed, and so were all later ones.
+          -- The item is on its thread's path from here on, or is the drain of a waiting store.
           on_here : IsMember item_position (before item_thread)
               ⊎ ((item_is_drain ≡ true) × IsMember item_position (pending item_thread))
           on_here = elim (cases_Bool item_is_drain) [
@@ -399,19 +403,20 @@ module _ {S : Type 0} (language : Language S) (program : List (List S)) where
             store = h.store;
           }
 
-          -- The item is the one with its thread, its position and its kind.
+          -- If u, k and d are the thread, the position and the kind of the executed item, it is the item with these.
           same_item : (u k : ℕ) (d : Bool) → item_thread ≡ u → item_position ≡ k → item_is_drain ≡ d → executed ≡ item u k d
           same_item u k d tu jk bd =
               ap (λ t. item t item_position item_is_drain) tu ∙ (ap (λ j. item u j item_is_drain) jk ∙ ap (λ b. item u k b) bd)
 
-          -- The drain of a store is executed if the store is on the path: if the store is the item itself, it waits from then on.
-          not-on_path : (u p k : ℕ) (h : S)
+          -- If a store is on a path from here on, its drain is executed: if the store is the item itself, it waits from then
+          -- on.
+          Contains-drain_on_path : (u p k : ℕ) (h : S)
               → position_of mid u ≡ Some p
               → slice_get (thread_code program u) k ≡ Some h
               → IsStoring language h
               → IsMember k (before u)
               → Contains (executed ∷ r.done) (item u k true)
-          not-on_path u p k h there found_at store is_member = elim (before-cases u k is_member) [
+          Contains-drain_on_path u p k h there found_at store is_member = elim (before-cases u k is_member) [
             | inl (same, f, e) ↦
                 (let is : h ≡ item_statement =
                 same_Some h item_statement
@@ -426,14 +431,14 @@ module _ {S : Type 0} (language : Language S) (program : List (List S)) where
             | inr g ↦ Contains-tail executed (item u k true) r.done (r.drained u p k h there (inl g) found_at store)
           ]
 
-          -- So it is if the store waits: the item is its drain, or the store keeps waiting.
-          waiting : (u p k : ℕ) (h : S)
+          -- If a store waits, its drain is executed: the item is this drain, or the store keeps waiting.
+          Contains-drain_waiting : (u p k : ℕ) (h : S)
               → position_of mid u ≡ Some p
               → slice_get (thread_code program u) k ≡ Some h
               → IsStoring language h
               → IsMember k (pending u)
               → Contains (executed ∷ r.done) (item u k true)
-          waiting u p k h there found_at store is_member = elim (cases_eq item_thread u) [
+          Contains-drain_waiting u p k h there found_at store is_member = elim (cases_eq item_thread u) [
             | inl same_thread ↦ elim (cases_eq item_position k) [
               | inl e ↦ elim (cases_Bool item_is_drain) [
                 | inl f ↦ Contains-head executed (item u k true) r.done (same_item u k true same_thread e f)
@@ -478,7 +483,7 @@ module _ {S : Type 0} (language : Language S) (program : List (List S)) where
 
     module _ (Done : Event → State → Result (Unit {0}) Stop → State → Type 0) (Sound : (ℕ → List ℕ) → State → Type 0)
         (runs : AreItemRuns Done Sound) (forward : (t : ℕ) → JumpsForward language (thread_code program t)) where
-      -- Every run to a final state has its paths and its items.
+      -- If events execute items, and lead from s to a final state, the run has its paths and its items.
       pub Completed-of_run : (es : List Event) (pending : ℕ → List ℕ) (s end : State)
           → IsWithin s
           → Sound pending s

@@ -14,7 +14,8 @@ use Rattle.lw_finals.proofs.SourceOutcomes.{outcomes_are_those_of_path_assignmen
 module _ (test : SourceTest) (well_scoped : IsWellScopedSource test) (complete : AreComplete) (program : X86Test)
     (same_outcomes : (o : FinalState) → IsMachineOutcome flat_memory program program.head.init_words o ↔ SourceOutcome test o)
     (are_flat : AreFlat program) where
-  -- The list of a well-scoped source test is complete, for these reasons.
+  -- A well-scoped source test can be listed: orders are complete, trace-equivalent ones have one outcome, and outcomes are
+  -- those of path assignments.
   CanBeListed-source : CanBeListed source_language test (source_item_system test) (SourceOutcome test) program
   CanBeListed-source = record {
     well_scoped = well_scoped;
@@ -25,7 +26,8 @@ module _ (test : SourceTest) (well_scoped : IsWellScopedSource test) (complete :
     program_is_flat = are_flat;
   }
 
-  -- What the orders of all path assignments collect is the complete list of the source test's outcomes.
+  -- If a source test is within the limits, what the orders of all path assignments collect is the complete list of its
+  -- outcomes.
   pub IsComplete-source_collected : {E : Type 0} (result : Result OutcomeEntries E)
       → IfOk result (IsCollected source_language test (source_item_system test) (ReplaysFlatTo program))
       → OnOk result (IsWithinLimits source_language test.threads)
@@ -33,7 +35,8 @@ module _ (test : SourceTest) (well_scoped : IsWellScopedSource test) (complete :
   IsComplete-source_collected =
       IsComplete-collected source_language test (source_item_system test) (SourceOutcome test) program CanBeListed-source
 
-  -- What is collected without schedules, by a runner of the test with its program over the test's code, is exactly the test's outcomes.
+  -- If a source test is within the limits, what a runner of the test, its program and its code collects without schedules is
+  -- exactly the test's outcomes.
   pub AreAllOutcomes-source_collected : {E : Type 0} (result : Result (OutcomesWith (Unit {0})) E) (t : CompiledSource)
       (threads : List (List Stmt))
       → t.source ≡ test

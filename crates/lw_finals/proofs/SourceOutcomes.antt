@@ -5,10 +5,10 @@ use Rattle.lw_finals.proofs.Common.{List, [], ◌∷◌, map, length, Option, So
 use Rattle.lw_finals.proofs.Common.{subst, inl, inr, slice_get, arith, ◌≢◌, ◌<◌, ap₂, ◌∙◌, ◌↔◌, IsTrue}
 use Rattle.lw_finals.proofs.Common.{true≢false, leb-true, get_or_past, cases_lt, cases_order}
 use Rattle.lw_finals.proofs.Common.{false_from_ne_true, FinalState, thread_code, Event, Step, Stop, at_index}
-use Rattle.lw_finals.proofs.Common.{get-map, list_all_zip-at_index, Stmt, IsFlowSuccessor, source_language}
-use Rattle.lw_finals.proofs.Common.{SourceTest, Thread, State, source_step, SourceRunsTo, InterleavesTo}
-use Rattle.lw_finals.proofs.Common.{is_source_final, initial_state, initial_thread, SourceOutcome}
-use Rattle.lw_finals.proofs.Common.{FollowsFlow, next_statement, FollowsFlow-source_step}
+use Rattle.lw_finals.proofs.Common.{slice_get-map_inv, list_all_zip-at_index, Stmt, IsFlowSuccessor}
+use Rattle.lw_finals.proofs.Common.{source_language, SourceTest, Thread, State, source_step, SourceRunsTo}
+use Rattle.lw_finals.proofs.Common.{InterleavesTo, is_source_final, initial_state, initial_thread}
+use Rattle.lw_finals.proofs.Common.{SourceOutcome, FollowsFlow, next_statement, FollowsFlow-source_step}
 use Rattle.lw_finals.proofs.Common.{source_step-other_position, StepsCommute-no_conflict}
 use Rattle.lw_finals.proofs.Common.{next_statement-at_position, IsPathAssignment, Item, items_of, item_at}
 use Rattle.lw_finals.proofs.Common.{statement_of, conflict_by, items_conflict, IsMember, item, IsItemOnPath}
@@ -31,7 +31,7 @@ record AreItemsOfTwoThreads (program : List (List Stmt)) (a b : Item) : Type 0 w
       (statement_of source_language program b)
       ≡ false
 
--- Two such items that can be executed in sequence can be executed in the other order, with the same state after both.
+-- If two items of different threads do not conflict, and lead in sequence from s to `end`, they do so in the other order too.
 SourceItemTransition-swap : (program : List (List Stmt)) (a b : Item) (s mid end : State)
     → AreItemsOfTwoThreads program a b
     → SourceItemTransition program a s mid
@@ -52,7 +52,7 @@ SourceItemTransition-swap program a b s mid end two (at_a, step_a) (at_b, step_b
       (source_step-other_position program b.thread a.thread s o.0 (λ e. two.threads_differ (sym e)) o.1 ∙ at_a, o.2),
     )
 
--- For items that are not drains, conflict of items is conflict of their statements.
+-- If neither of two items is a drain (b and c are `false`), they conflict if and only if their statements do.
 operations_conflict-no_drains : (b c : Bool) (o p : Option Stmt)
     → b ≡ false
     → c ≡ false
@@ -60,7 +60,7 @@ operations_conflict-no_drains : (b c : Bool) (o p : Option Stmt)
 operations_conflict-no_drains b c o p e f =
     operations_conflict-of_statements o p ∙ sym (ap₂ (λ (d f : Bool). conflict_by source_language d f o p) e f)
   where
-    -- The same of statements that are not drained.
+    -- By the two statements, each of which may be missing: none is drained.
     operations_conflict-of_statements : (o p : Option Stmt)
         → conflicts.operations_conflict source_language o p ≡ conflict_by source_language false false o p
     operations_conflict-of_statements None p = refl
@@ -79,7 +79,8 @@ module _ (program : List (List Stmt)) (paths : List (List ℕ)) where
       IsItemOnPath-of_member source_language program paths i in_range in
       false_from_ne_true (nth_item i).is_drain (λ d. none-some (r.store d).0 (r.store d).1)
 
-  -- Two adjacent items that neither conflict nor are preserved can be executed in the other order, with the same state after both.
+  -- If two adjacent items neither conflict nor are preserved, and lead in sequence from s to `end`, they do so in the other
+  -- order too.
   SourceItemTransition-swap_neighbours : (order : List ℕ) (k x y : ℕ)
       → Neighbours source_language program paths order k x y
       → (s mid end : State)
@@ -111,7 +112,7 @@ module _ (program : List (List Stmt)) (paths : List (List ℕ)) where
         | inr (inr more) ↦ n.second_is_free more (sym same) (λ d. absurd (true≢false (sym d ∙ y_step)))
       ]
 
--- Trace-equivalent orders of a source test's items reach the same outcome.
+-- If two orders of a source test's items that respect the preserved pairs are trace-equivalent, they reach the same outcome.
 pub trace_equivalent_orders_have_one_outcome : (s : SourceTest) (paths : List (List ℕ))
     → OrdersEndAlike source_language s.threads paths (source_item_system s)
 trace_equivalent_orders_have_one_outcome s paths =
@@ -124,14 +125,14 @@ trace_equivalent_orders_have_one_outcome s paths =
 
 -- ---- outcomes
 
--- In a final state each thread of a source test is past its code.
+-- If a state is final, each thread of the source test is at the end of its code or past it.
 position_past_end-if_final : (program : List (List Stmt)) (s : State) (t p : ℕ)
     → IsTrue (is_source_final program s)
     → thread_position s t ≡ Some p
     → length (thread_code program t) ≤ p
 position_past_end-if_final program s t p final e = elim (cases_lt t (length program)) [
   | inl l ↦
-      (let th = get-map (λ (x : Thread). x.position) s.threads t p e in
+      (let th = slice_get-map_inv (λ (x : Thread). x.position) s.threads t p e in
       let past = leb-true _ _ (list_all_zip-at_index _ program _ t _ th.0 final (at_index program t [] l) th.1) in
       omega (arith, past, th.2))
   | inr past ↦ subst (λ code. length code ≤ p) (sym (get_or_past program t [] past)) (omega arith)
@@ -160,7 +161,7 @@ module _ (test : SourceTest) where
       none_waits-of_statement true None = none u
       none_waits-of_statement true (Some i) = none u
 
-  -- A step executes a statement of its thread.
+  -- If no store waits, a step executes a statement of its thread.
   ExecutesItem-source_step : (t : ℕ) (pending : ℕ → List ℕ) (s mid : State)
       → NoneWaits pending s
       → source_step program t s ≡ Ok mid
@@ -172,7 +173,7 @@ module _ (test : SourceTest) where
       flow_step : FollowsFlow program t s mid
       flow_step = FollowsFlow-source_step program t s mid step
 
-      -- An item of a source test is no drain.
+      -- False is not true: so anything follows, since an item of a source test is no drain.
       absurd_if_true : {X : Type 0} → false ≡ true → X
       absurd_if_true e = absurd (true≢false (sym e))
 
@@ -228,7 +229,7 @@ module _ (test : SourceTest) where
         λ pending s none final t p e. (position_past_end-if_final program s t p final e, λ j h. subst (IsMember j) (none t) h);
   }
 
--- The steps of an order that follows its paths are enabled in sequence.
+-- If an order follows its paths from z to `end`, the steps of its items' threads lead from z to `end`.
 SourceRunsTo-of_order : (s : SourceTest) (items : List Item) (order : List ℕ) (z end : State)
     → OrderRunsTo (source_item_system s) items order z end
     → SourceRunsTo s.threads (map Step (threads_of items order)) z end
@@ -236,7 +237,7 @@ SourceRunsTo-of_order s items [] z end ran = ran
 SourceRunsTo-of_order s items (i ∷ order) z end (next, (at, step), ran) =
     (next, step, SourceRunsTo-of_order s _ order next end ran)
 
--- An order of any items that follows its paths reaches its outcome by interleaving.
+-- If an order of items follows its paths to an outcome, the steps of its items' threads reach the outcome by interleaving.
 pub InterleavesTo-of_order : (s : SourceTest) (items : List Item) (order : List ℕ) (o : FinalState)
     → SourceFollowsPathsToEnd s items order o
     → InterleavesTo s (threads_of items order) o
@@ -247,7 +248,7 @@ InterleavesTo-of_order s items order o r = record {
   outcome_is = r.outcome_is;
 }
 
--- The outcomes of a well-scoped test are those of its path assignments.
+-- An outcome of a well-scoped source test is one of a path assignment, and the reverse.
 pub outcomes_are_those_of_path_assignments : (s : SourceTest) (o : FinalState)
     → IsWellScopedSource s
     → SourceOutcome s o

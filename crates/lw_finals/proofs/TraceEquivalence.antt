@@ -81,7 +81,7 @@ module _ {S : Type 0} (language : Language S) (program : List (List S)) (paths :
     );
   }
     where
-      -- The two adjacent items have these indices in an order.
+      -- If an order is `front`, then x, y and the rest, the index of x is the length of `front`, and y is next.
       index_in-swapped_pair : (order front : List ℕ) (x y : ℕ) (rest : List ℕ)
           → IsOrder (length items) order
           → order ≡ front ++ x ∷ y ∷ rest
@@ -110,6 +110,7 @@ module _ {S : Type 0} (language : Language S) (program : List (List S)) (paths :
           × (index_in ys e.x ≡ suc (length e.front))
       indices_in_second = index_in-swapped_pair ys e.front e.y e.x e.rest iy.0 e.new
 
+      -- The two swapped items differ, since they have different indices.
       differ : e.x ≢ e.y
       differ same = omega (arith, ap (index_in xs) same, indices_in_first.2, indices_in_first.3)
 
@@ -152,7 +153,8 @@ module _ {S : Type 0} (language : Language S) (program : List (List S)) (paths :
       abbrev Ran : List ℕ → State → State → Type 0
       Ran = OrderRunsTo system items
 
-      -- After a swap of adjacent independent items an order's run has the same end.
+      -- If two orders that respect the preserved pairs differ by a swap of adjacent independent items, and the first leads to
+      -- `end`, so does the second.
       Ran-after_swap : (xs ys : List ℕ)
           → RespectsPreservedPairs xs
           → RespectsPreservedPairs ys
@@ -164,7 +166,7 @@ module _ {S : Type 0} (language : Language S) (program : List (List S)) (paths :
           subst (λ zs. Ran zs system.start end) (sym e.new)
           (Ran-up_to_swap [] e.front system.start e.old refl (can.first xs) (subst (λ zs. Ran zs system.start end) e.old ran))
         where
-          -- The run up to the two adjacent items.
+          -- By induction on the items before the two adjacent ones.
           Ran-up_to_swap : (before front : List ℕ) (s : State)
               → xs ≡ before ++ (front ++ e.x ∷ e.y ∷ e.rest)
               → before ++ front ≡ e.front
@@ -191,7 +193,8 @@ module _ {S : Type 0} (language : Language S) (program : List (List S)) (paths :
                     (subst (λ (k : ℕ). Holds xs k mid) more (can.next xs ix (length before) i o.0 there s mid holds one)) rest,
               )
 
-      -- Trace-equivalent orders reach the same outcome.
+      -- If adjacent items that neither conflict nor are preserved can be exchanged, trace-equivalent orders reach the same
+      -- outcome.
       pub OrdersEndAlike-if_swaps : OrdersEndAlike system
       OrdersEndAlike-if_swaps xs ys o ix iy alike r =
           let joined =

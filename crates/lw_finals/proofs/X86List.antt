@@ -10,7 +10,8 @@ use Rattle.lw_finals.proofs.X86TraceEquivalence.{OrdersEndAlike-x86}
 use Rattle.lw_finals.proofs.X86Outcomes.{IsMachineOutcome-iff_assignment}
 
 module _ (test : X86Test) (well_scoped : IsWellScopedProgram test) (complete : AreComplete) (are_flat : AreFlat test) where
-  -- The list of a well-scoped x86 test is complete, for these reasons.
+  -- A well-scoped x86 test can be listed: orders are complete, trace-equivalent ones have one outcome, and outcomes are those
+  -- of path assignments.
   CanBeListed-x86 : CanBeListed x86_language test (x86_item_system flat_memory test test.head.init_words)
       (IsMachineOutcome flat_memory test test.head.init_words) test
   CanBeListed-x86 = record {
@@ -22,7 +23,7 @@ module _ (test : X86Test) (well_scoped : IsWellScopedProgram test) (complete : A
     program_is_flat = are_flat;
   }
 
-  -- What the orders of all path assignments collect is the complete list of the x86 test's outcomes.
+  -- If an x86 test is within the limits, what the orders of all path assignments collect is the complete list of its outcomes.
   pub IsComplete-x86_collected : {E : Type 0} (result : Result OutcomeEntries E)
       → IfOk result (IsCollected x86_language test (x86_item_system flat_memory test test.head.init_words) (ReplaysFlatTo test))
       → OnOk result (IsWithinLimits x86_language test.threads)
@@ -31,7 +32,8 @@ module _ (test : X86Test) (well_scoped : IsWellScopedProgram test) (complete : A
       IsComplete-collected x86_language test (x86_item_system flat_memory test test.head.init_words)
       (IsMachineOutcome flat_memory test test.head.init_words) test CanBeListed-x86
 
-  -- What is collected without schedules, by a runner of the test over the test's code, is exactly the test's outcomes.
+  -- If an x86 test is within the limits, what a runner of the test and its code collects without schedules is exactly the
+  -- test's outcomes.
   pub AreAllOutcomes-x86_collected : {E : Type 0} (result : Result (OutcomesWith (Unit {0})) E) (t : X86Test)
       (threads : List (List Instr))
       → t ≡ test

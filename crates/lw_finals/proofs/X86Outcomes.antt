@@ -6,16 +6,17 @@ use Rattle.lw_finals.proofs.Common.{Some, None, Bool, true, false, Ok, refl, sym
 use Rattle.lw_finals.proofs.Common.{slice_get, length-set, ◌↔◌, IsTrue, nat_le, option_map, true≢false}
 use Rattle.lw_finals.proofs.Common.{leb-true, eqb-true, and_parts, length-map, nil_from_length, slice_get-map}
 use Rattle.lw_finals.proofs.Common.{slice_get_within, FinalState, thread_code, Event, Step, Drain, Evict}
-use Rattle.lw_finals.proofs.Common.{get-set_same, get-set_other, at_index, get-map, list_all_zip-at_index}
-use Rattle.lw_finals.proofs.Common.{flat_memory, Instr, IsSuccessor, x86_operation, x86_language, X86Test}
-use Rattle.lw_finals.proofs.Common.{step_effect, MachineState, position_of, MachineTransition, Processor}
-use Rattle.lw_finals.proofs.Common.{initial_processor, is_final, MachineRunsTo, ReplaysTo, IsMachineOutcome}
-use Rattle.lw_finals.proofs.Common.{initial_machine_state, EffectLeadsTo, EventOccurrence}
-use Rattle.lw_finals.proofs.Common.{EventOccurrence-of_event, not-EffectLeadsTo-evict_event}
-use Rattle.lw_finals.proofs.Common.{OperationTransition, JumpsForward, IsPathAssignment, Item, items_of}
-use Rattle.lw_finals.proofs.Common.{IsMember, IsStoring, item, JumpsForward-thread, OrderRunsTo, events_of}
-use Rattle.lw_finals.proofs.Common.{X86ItemTransition, position_of-in_range, x86_item_system}
-use Rattle.lw_finals.proofs.Common.{X86FollowsPathsToEnd, IsX86AssignmentOutcome}
+use Rattle.lw_finals.proofs.Common.{slice_get-slice_set_same, slice_get-slice_set_other, at_index}
+use Rattle.lw_finals.proofs.Common.{slice_get-map_inv, list_all_zip-at_index, flat_memory, Instr, IsSuccessor}
+use Rattle.lw_finals.proofs.Common.{x86_operation, x86_language, X86Test, step_effect, MachineState}
+use Rattle.lw_finals.proofs.Common.{position_of, MachineTransition, Processor, initial_processor, is_final}
+use Rattle.lw_finals.proofs.Common.{MachineRunsTo, ReplaysTo, IsMachineOutcome, initial_machine_state}
+use Rattle.lw_finals.proofs.Common.{EffectLeadsTo, EventOccurrence, EventOccurrence-of_event}
+use Rattle.lw_finals.proofs.Common.{not-EffectLeadsTo-evict_event, OperationTransition, JumpsForward}
+use Rattle.lw_finals.proofs.Common.{IsPathAssignment, Item, items_of, IsMember, IsStoring, item}
+use Rattle.lw_finals.proofs.Common.{JumpsForward-thread, OrderRunsTo, events_of, X86ItemTransition}
+use Rattle.lw_finals.proofs.Common.{position_of-in_range, x86_item_system, X86FollowsPathsToEnd}
+use Rattle.lw_finals.proofs.Common.{IsX86AssignmentOutcome}
 use Rattle.lw_finals.proofs.api.Waiting.{DrainsOldest, entry_location}
 use Rattle.lw_finals.proofs.Ordered.{OfAssignment-of_run}
 use Rattle.lw_finals.proofs.PathOfRun.{ExecutesItem, AreItemRuns, position-at_start, position-at_start_unique}
@@ -31,7 +32,7 @@ BufferHolds-oldest : (code : List Instr) (ws : List ℕ) (e : ℕ × ℕ) (newer
 BufferHolds-oldest code [] e newer h = absurd h
 BufferHolds-oldest code (j ∷ rest) e newer h = (j, rest, refl, h.0)
 
--- A statement that makes an entry for a location is a store.
+-- If an optional statement makes an entry for a location, it is there, and is a store into the store buffer.
 IsStoring-if_entry : (o : Option Instr) (x : ℕ)
     → entry_location x86_language o ≡ Some x
     → (i : Instr) × (o ≡ Some i) × IsStoring x86_language i
@@ -43,7 +44,8 @@ module _ (test : X86Test) where
   abbrev program : List (List Instr)
   program = test.threads
 
-  -- In a final state each thread is past its code, and no store waits in its buffer.
+  -- If a state is final, and the buffers hold the waiting stores, each thread is at the end of its code or past it, and no
+  -- store waits.
   nothing_waits-if_final : (pending : ℕ → List ℕ) (s : MachineState (List ℕ))
       → AllBuffersHoldStores program pending s
       → length s.processors ≡ length program
@@ -52,7 +54,7 @@ module _ (test : X86Test) where
       → position_of s t ≡ Some p
       → (length (thread_code program t) ≤ p) × ((j : ℕ) → IsMember j (pending t) → ⊥)
   nothing_waits-if_final pending s hold many final t p e =
-      let q = get-map (λ (x : Processor). x.position) s.processors t p e in
+      let q = slice_get-map_inv (λ (x : Processor). x.position) s.processors t p e in
       let l = slice_get_within s.processors t q.0 q.1 in
       let done = list_all_zip-at_index _ program _ t _ q.0 final (at_index program t [] (omega (arith, l, many))) q.1 in
       let both = and_parts (nat_le (length (thread_code program t)) q.0.position) (length q.0.buffer == 0) done in
@@ -62,7 +64,7 @@ module _ (test : X86Test) where
             (subst (BufferHolds (thread_code program t) (pending t)) empty (hold t q.0 q.1).waits),
       )
 
-  -- A step that is enabled has an instruction.
+  -- If a step is enabled, its processor has a next instruction.
   instr_exists-if_step : (o : Option Instr) (p q : Processor) (m n : List ℕ)
       → EffectLeadsTo m (step_effect o p) q n
       → (i : Instr) × (o ≡ Some i)
@@ -79,7 +81,8 @@ module _ (test : X86Test) where
     abbrev Carries : (ℕ → List ℕ) → MachineState (List ℕ) → MachineState (List ℕ) → Type 0
     Carries = ExecutesItem x86_language program (x86_item_system flat_memory test test.head.init_words) position_of IsSound
 
-    -- An item's transition executes that item, if a drain is that of the store that has waited longest.
+    -- If the waiting stores are known, and the item of thread t at j is executed, which as a drain (b is `true`) is that of the
+    -- store that has waited longest, then the waiting stores are known after it.
     Carries-item : (t j : ℕ) (b : Bool) (i : Instr) (pending : ℕ → List ℕ) (s mid : MachineState (List ℕ))
         → IsSound pending s
         → slice_get (thread_code program t) j ≡ Some i
@@ -99,12 +102,12 @@ module _ (test : X86Test) where
         now =
             position_of-in_range mid t
             (ap (λ (z : MachineState (List ℕ)). slice_get z.processors t) item_step.state_is
-            ∙ get-set_same s.processors t item_step.new item_step.old item_step.was);
+            ∙ slice_get-slice_set_same s.processors t item_step.new item_step.old item_step.was);
         others = λ u ne.
             slice_get-map (λ (x : Processor). x.position) mid.processors u
             ∙ (ap (option_map (λ (x : Processor). x.position))
             (ap (λ (z : MachineState (List ℕ)). slice_get z.processors u) item_step.state_is
-            ∙ get-set_other s.processors t u item_step.new ne)
+            ∙ slice_get-slice_set_other s.processors t u item_step.new ne)
             ∙ sym (slice_get-map (λ (x : Processor). x.position) s.processors u));
         climbs = buffer_holds.climbs;
         follows = λ f. (
@@ -128,7 +131,7 @@ module _ (test : X86Test) where
       };
     }
       where
-        -- What the item does.
+        -- The step or the drain that the item makes.
         item_step : ItemStep program t j b s mid
         item_step = ItemStep-of_transition program t j b s mid out
 
@@ -136,7 +139,7 @@ module _ (test : X86Test) where
         buffer_holds : HoldsStores (thread_code program t) (pending t) item_step.old
         buffer_holds = sound.hold t item_step.old item_step.was
 
-        -- A step executes the operation of its instruction.
+        -- If the item is a statement (d is `false`), its processor makes the transition of its operation.
         OperationTransition-of_step : (d : Bool)
             → d ≡ false
             → (c : ItemStep program t j d s mid)
@@ -144,12 +147,12 @@ module _ (test : X86Test) where
         OperationTransition-of_step true f c = absurd (true≢false f)
         OperationTransition-of_step false f c = OperationTransition-of_item program t j i s mid c found_at
 
-        -- A drain moves the buffer's oldest entry to memory.
+        -- If the item is a drain (d is `true`), its processor's oldest entry is removed.
         DrainShape-of_drain : (d : Bool) → d ≡ true → (c : ItemStep program t j d s mid) → DrainShape c.old c.new
         DrainShape-of_drain true f c = DrainShape-of_effect c.old c.new s.memory c.words c.does
         DrainShape-of_drain false f c = absurd (true≢false (sym f))
 
-    -- An event executes an item.
+    -- If the waiting stores are known, each enabled event executes an item, and the waiting stores are known after it.
     Carries-event : (e : Event) (pending : ℕ → List ℕ) (s mid : MachineState (List ℕ))
         → IsSound pending s
         → MachineTransition flat_memory program e s (Ok tt) mid
@@ -191,7 +194,7 @@ module _ (test : X86Test) where
       ended = λ pending s sound final. nothing_waits-if_final pending s sound.hold sound.processor_count final;
     }
 
--- The events of an order that follows its paths are enabled in sequence.
+-- If the items of an order lead from s to `end`, so do their events.
 MachineRunsTo-of_order : (test : X86Test) (items : List Item) (order : List ℕ) (s end : MachineState (List ℕ))
     → OrderRunsTo (x86_item_system flat_memory test test.head.init_words) items order s end
     → MachineRunsTo flat_memory test.threads (events_of items order) s end
@@ -199,7 +202,7 @@ MachineRunsTo-of_order test items [] s end ran = ran
 MachineRunsTo-of_order test _ (i ∷ order) s end (next, out, ran) =
     (next, out.done, MachineRunsTo-of_order test _ order next end ran)
 
--- An order of any items that follows its paths replays to its outcome.
+-- If an order of items follows its paths to an outcome, the events of its items replay to it over flat memory.
 pub ReplaysTo-of_order : (test : X86Test) (items : List Item) (order : List ℕ) (o : FinalState)
     → X86FollowsPathsToEnd flat_memory test test.head.init_words items order o
     → ReplaysTo flat_memory test test.head.init_words (events_of items order) o
@@ -210,7 +213,7 @@ ReplaysTo-of_order test items order o r = record {
   outcome_is = r.outcome_is;
 }
 
--- The outcomes of a well-scoped test are those of its path assignments.
+-- An outcome of a well-scoped x86 test over flat memory is one of a path assignment, and the reverse.
 pub IsMachineOutcome-iff_assignment : (test : X86Test) (o : FinalState)
     → IsWellScopedProgram test
     → IsMachineOutcome flat_memory test test.head.init_words o

@@ -11,7 +11,8 @@ use Rattle.lw_finals.proofs.Common.{x86_item_system, X86FollowsPathsToEnd}
 use Rattle.lw_finals.proofs.OrderSteps.{RunsContinueFrom, IsItemAt, not-Ran-if_not_enabled}
 use Rattle.lw_finals.proofs.OrderSteps.{RunsContinueFrom-next}
 
--- The thread of a step's item is at the item if and only if its position is the item's.
+-- If a thread is at position p, and q is the position of its item, which is no drain, then p is q if and only if the item's
+-- event is at its position.
 pub IsAtPosition-iff_item : {M : Type 0} (a : Item) (s : MachineState M) (p q : ℕ)
     → a.is_drain ≡ false
     → q ≡ a.position
@@ -21,19 +22,21 @@ IsAtPosition-iff_item a s p q step same at =
     subst (λ (d : Bool). IsTrue (p == q) ↔ IsAtPosition (event_by d a.thread) a.position s) (sym step)
     ((λ t. at ∙ ap Some (eqb-true p q t ∙ same)), (λ h. eq-eqb p q (same_Some p a.position (sym at ∙ h) ∙ sym same)))
 
--- An item's event is no eviction.
+-- An item's event, a drain (b is `true`) or a step, is no eviction.
 no_eviction : (b : Bool) (t : ℕ) → without_evictions (event_by b t ∷ []) ≡ event_by b t ∷ []
 no_eviction true t = refl
 no_eviction false t = refl
 
 module _ {M : Type 0} (mem : Memory M) where
-  -- A thread's position does not depend on the memory.
+  -- The event of an item, a drain (b is `true`) or a step, is at position j in a state if and only if it is so in the state
+  -- over flat memory.
   IsAtPosition-iff_flat : (b : Bool) (t j : ℕ) (s : MachineState M)
       → IsAtPosition (event_by b t) j s ↔ IsAtPosition (event_by b t) j (over_flat_memory mem s)
   IsAtPosition-iff_flat true t j s = ((λ h. h), (λ h. h))
   IsAtPosition-iff_flat false t j s = ((λ h. h), (λ h. h))
 
-  -- A machine may start on a memory that was reset to the test's initial words.
+  -- If a memory that satisfies its invariant was reset to the test's initial words, and has a processor for each thread, it is
+  -- an initial memory of the test.
   pub IsInitialMemory-after_reset : (test : X86Test) (m : M) (inv : Invariant M) {program threads : List (List Instr)}
       {words : List ℕ}
       → inv.sound m
@@ -68,7 +71,7 @@ module _ {M : Type 0} (mem : Memory M) where
         → MachineTransition flat_memory test.threads e (over_flat_memory mem s) answer (over_flat_memory mem after)
 
     module _ (over_flat : EventsAreFlat) where
-      -- An item's event is executed over flat memory too.
+      -- If a run over the memory reaches `now`, and the event of an item is done there, it is done over flat memory too.
       done_flat : (order : List ℕ) (k : ℕ) (item : Item) (now after : MachineState M) (answer : EventResult)
           → HasFlatRuns order k now
           → MachineTransition mem test.threads (event_of item) now answer after
@@ -77,7 +80,8 @@ module _ {M : Type 0} (mem : Memory M) where
       done_flat order k item now after answer r done =
           over_flat r.events now after (event_of item) answer r.reached (no_eviction item.is_drain item.thread) done
 
-      -- One more item is executed.
+      -- If the order's runs over flat memory continue from the content of `now`, and its next item leads from `now` to `next`,
+      -- they continue from the content of `next` after one more item.
       pub HasFlatRuns-next : (order : List ℕ) (k : ℕ) (item : Item) (now next : MachineState M)
           → IsItemAt items order k item
           → HasFlatRuns order k now
@@ -99,7 +103,8 @@ module _ {M : Type 0} (mem : Memory M) where
                 c.done done).1) r.first;
           }
 
-      -- An item that is not executed ends every run.
+      -- If the order's runs continue from the content of `now`, and its next item is refused there, or its thread is not at it,
+      -- the order has no outcome.
       pub not-outcome_if_refused : (order : List ℕ) (k : ℕ) (item : Item) (now after : MachineState M)
           → IsItemAt items order k item
           → HasFlatRuns order k now

@@ -3,15 +3,15 @@
 use Rattle.lw_finals.proofs.Common.{◌≡◌, ◌≢◌, ℕ, ◌<◌, Bool, true, false, List, [], ◌∷◌, length, Option, Some}
 use Rattle.lw_finals.proofs.Common.{None, refl, sym, ap, ◌∙◌, subst, inl, arith, slice_get, ◌||◌}
 use Rattle.lw_finals.proofs.Common.{if◌then◌else◌, eq-eqb, cond-false, and_from, or_left, or_right}
-use Rattle.lw_finals.proofs.Common.{false_from_ne_true, same_Some, none-some, thread_code, get-set_same}
-use Rattle.lw_finals.proofs.Common.{get-set_other, cpu_of, event_effect, operation_effect, step_effect}
-use Rattle.lw_finals.proofs.Common.{drain_effect, DoNotConflict, CommutesWithDrain, MayPassOldest}
-use Rattle.lw_finals.proofs.Common.{AreDrainAndPassing, AreIndependent, MachineState, Processor}
-use Rattle.lw_finals.proofs.Common.{OperationTransition, accessed_location-of_operation, Instr, Operation}
-use Rattle.lw_finals.proofs.Common.{Store, Load, is_same_location, is_store, location_of, writes}
-use Rattle.lw_finals.proofs.Common.{needs_empty_buffer, x86_operation, x86_language, Item, drained_location}
-use Rattle.lw_finals.proofs.Common.{statement_of, location_by, writes_by, conflict_by, items_conflict}
-use Rattle.lw_finals.proofs.Common.{event_by, event_of}
+use Rattle.lw_finals.proofs.Common.{false_from_ne_true, same_Some, none-some, thread_code}
+use Rattle.lw_finals.proofs.Common.{slice_get-slice_set_same, slice_get-slice_set_other, cpu_of, event_effect}
+use Rattle.lw_finals.proofs.Common.{operation_effect, step_effect, drain_effect, DoNotConflict}
+use Rattle.lw_finals.proofs.Common.{CommutesWithDrain, MayPassOldest, AreDrainAndPassing, AreIndependent}
+use Rattle.lw_finals.proofs.Common.{MachineState, Processor, OperationTransition}
+use Rattle.lw_finals.proofs.Common.{accessed_location-of_operation, Instr, Operation, Store, Load}
+use Rattle.lw_finals.proofs.Common.{is_same_location, is_store, location_of, writes, needs_empty_buffer}
+use Rattle.lw_finals.proofs.Common.{x86_operation, x86_language, Item, drained_location, statement_of}
+use Rattle.lw_finals.proofs.Common.{location_by, writes_by, conflict_by, items_conflict, event_by, event_of}
 use Rattle.lw_finals.proofs.api.Waiting.{DrainsOldest, IsAscendingBetween, IsAscendingBetween-member}
 use Rattle.lw_finals.proofs.api.Waiting.{own_waits, entry_location, waits_after, waits_after-same_thread}
 use Rattle.lw_finals.proofs.api.X86Waiting.{effect_by, ItemStep, OperationTransition-of_item, DrainShape}
@@ -24,14 +24,15 @@ use Rattle.lw_tso.specs.Independence as machine
 abbrev accessed_at_once : Operation → Option ℕ
 accessed_at_once o = if is_store o then None else location_of o
 
--- An operation that accesses memory at once is no buffered store.
+-- If the effect of an operation accesses memory, the operation is no buffered store.
 is_store-false_if_access : (o : Operation) (q : Processor) (z : ℕ)
     → machine.accessed_location (operation_effect o q) ≡ Some z
     → is_store o ≡ false
 is_store-false_if_access (Store x v) q z e = absurd (none-some z e)
 is_store-false_if_access o q z e = refl
 
--- A step accesses in memory only its operation's location, and writes it only if the operation does.
+-- If the effect of an operation accesses z, then z is the location that it accesses at once, and it writes z only if the
+-- operation writes.
 accessed_location-of_step : (o : Operation) (q : Processor) (z : ℕ)
     → machine.accessed_location (operation_effect o q) ≡ Some z
     → (accessed_at_once o ≡ Some z) × (machine.event_writes (operation_effect o q) ≡ true → writes o ≡ true)
@@ -39,7 +40,7 @@ accessed_location-of_step o q z e =
     let found = accessed_location-of_operation o q z e in
     (cond-false (is_store o) None _ (is_store-false_if_access o q z e) ∙ found.0, λ w. or_right (is_store o) _ (found.1 ∙ w))
 
--- If some store waits, the buffer has an oldest entry, made by the store that has waited longest.
+-- If the store at k has waited longest, the buffer has an oldest entry, for the location of that store.
 BufferHolds-oldest_entry : (code : List Instr) (k : ℕ) (ws : List ℕ) (b : List (ℕ × ℕ)) (h : Instr)
     → BufferHolds code (k ∷ ws) b
     → slice_get code k ≡ Some h
@@ -47,7 +48,7 @@ BufferHolds-oldest_entry : (code : List Instr) (k : ℕ) (ws : List ℕ) (b : Li
 BufferHolds-oldest_entry code k ws [] h w found_at = absurd w
 BufferHolds-oldest_entry code k ws (e ∷ b) h w found_at = (e, b, refl, sym (ap (entry_location x86_language) found_at) ∙ w.0)
 
--- A drain accesses in memory the location of the store that has waited longest.
+-- If the store at k has waited longest, and the effect of a drain accesses z, then z is the location of that store.
 accessed_location-of_drain : (code : List Instr) (k : ℕ) (ws : List ℕ) (b : List (ℕ × ℕ)) (q : Processor) {z : ℕ} {h : Instr}
     → BufferHolds code (k ∷ ws) b
     → slice_get code k ≡ Some h
@@ -56,8 +57,8 @@ accessed_location-of_drain : (code : List Instr) (k : ℕ) (ws : List ℕ) (b : 
 accessed_location-of_drain code k ws [] q w found_at e = absurd w
 accessed_location-of_drain code k ws (f ∷ b) q w found_at e = sym (ap (entry_location x86_language) found_at) ∙ (w.0 ∙ e)
 
--- While these stores wait, an item of thread t at position j is executed: the instruction i, or the drain of its entry, which is then that
--- of the store that has waited longest.
+-- While these stores wait, an item of thread t at position j is executed: the instruction i (b is `false`), or the drain of its
+-- entry (b is `true`), which is then that of the store that has waited longest.
 pub record ItemMoves (program : List (List Instr)) (pending : ℕ → List ℕ) (t j : ℕ) (b : Bool) (i : Instr)
     (s mid : MachineState (List ℕ)) : Type 0 where
   pub instr_at : slice_get (thread_code program t) j ≡ Some i
@@ -65,7 +66,8 @@ pub record ItemMoves (program : List (List Instr)) (pending : ℕ → List ℕ) 
   pub oldest : DrainsOldest b j (pending t)
   pub carried : ItemStep program t j b s mid
 
--- An item that is executed accesses in memory only its location, and writes it only if the item does.
+-- If the effect of an executed item, a drain (b is `true`) or an instruction, accesses z, then z is the item's location, and it
+-- writes z only if the item does.
 accessed_location-of_item : {program : List (List Instr)} {pending : ℕ → List ℕ} {t j : ℕ} (b : Bool) {i : Instr}
     {s mid : MachineState (List ℕ)} (x : ItemMoves program pending t j b i s mid) (z : ℕ)
     → machine.accessed_location (effect_by program t b x.carried.old) ≡ Some z
@@ -84,7 +86,7 @@ accessed_location-of_item {program = program} {t = t} false x z e =
     let r = accessed_location-of_step _ c.old z (ap (λ o. machine.accessed_location (step_effect o c.old)) (sym here) ∙ e) in
     (r.0, λ f. r.1 (ap (λ o. machine.event_writes (step_effect o c.old)) (sym here) ∙ f))
 
--- Items of the same location of which one writes conflict.
+-- If two items, drains if b and c say so, access the same location, and one of them writes, they conflict.
 conflict_by-same_location : (b c : Bool) (i h : Instr) (z : ℕ)
     → location_by x86_language b i ≡ Some z
     → location_by x86_language c h ≡ Some z
@@ -115,18 +117,18 @@ MayPassOldest-if_commutes : (b : List (ℕ × ℕ)) (o : Option Instr) (e : ℕ 
 MayPassOldest-if_commutes b o e newer i full at may =
     subst (λ c. MayPassOldest c o) (sym full) (subst (λ p. MayPassOldest (e ∷ newer) p) (sym at) may)
 
--- A statement preserves which waiting store is the oldest.
+-- If some stores wait, the oldest one is the same after a statement.
 own_waits-same_oldest : (o : Option ℕ) (j w k : ℕ) (ws rest : List ℕ) → own_waits false o j (w ∷ ws) ≡ k ∷ rest → w ≡ k
 own_waits-same_oldest (Some x) j w k ws rest e = cc
 own_waits-same_oldest None j w k ws rest e = cc
 
--- If no store waited, the only store that waits after a statement is its own.
+-- If no store waits, the only one that waits after a statement at j is its own.
 own_waits-only_own : (o : Option ℕ) (j k : ℕ) (rest : List ℕ) → own_waits false o j [] ≡ k ∷ rest → j ≡ k
 own_waits-only_own (Some x) j k rest e = cc
 own_waits-only_own None j k rest e = cc
 
--- The pairs of one thread's items that are not preserved: not two statements, nor two drains, nor a statement and its own drain, nor a drain
--- and a statement that waits for it.
+-- The pairs of one thread's items, at j and k, that are not preserved: not two statements, nor two drains, nor a statement and
+-- its own drain, nor a drain and a statement h that waits for it. The items are drains if b and c are `true`.
 pub record IsUnpreservedPair (b c : Bool) (h : Instr) (j k : ℕ) : Type 0 where
   pub kinds_differ : b ≡ c → ⊥
   pub others : b ≡ false → c ≡ true → j ≡ k → ⊥
@@ -137,8 +139,8 @@ module _ (program : List (List Instr)) (pending : ℕ → List ℕ) (s m1 m2 : M
   not-empty-if_entry : (b : List (ℕ × ℕ)) (e : ℕ × ℕ) (newer : List (ℕ × ℕ)) → b ≡ e ∷ newer → b ≡ [] → ⊥
   not-empty-if_entry b e newer f is_nil = cc
 
-  -- Two adjacent items of one thread that neither conflict nor are preserved: the statement i or its drain is executed, and then h or its
-  -- drain. What the first stores, if it does, is at o.
+  -- Two adjacent items of one thread that neither conflict nor are preserved: the statement i or its drain (b is `true`) is
+  -- executed, and then h or its drain (c is `true`). What the first stores, if it does, is at o.
   record AreItemsOfOneThread (t j k : ℕ) (b c : Bool) (i h : Instr) (o : Option ℕ) : Type 0 where
     moves : ItemMoves program pending t j b i s m1
     instr_at : slice_get (thread_code program t) k ≡ Some h
@@ -147,7 +149,8 @@ module _ (program : List (List Instr)) (pending : ℕ → List ℕ) (s m1 m2 : M
     free : conflict_by x86_language b c (Some i) (Some h) ≡ true → ⊥
     unpreserved : IsUnpreservedPair b c h j k
 
-  -- One of them is a drain, and the other commutes with the drain of the oldest entry.
+  -- If two adjacent items of one thread neither conflict nor are preserved, one of them is a drain (b or c), and the other
+  -- commutes with the drain of the oldest entry.
   AreDrainAndPassing-one_thread : (t j k : ℕ) (b c : Bool) (i h : Instr) (o : Option ℕ)
       (two : AreItemsOfOneThread t j k b c i h o)
       → AreDrainAndPassing program (event_by b t) (event_by c t) two.moves.carried.old
@@ -202,12 +205,13 @@ module _ (program : List (List Instr)) (pending : ℕ → List ℕ) (s m1 m2 : M
           let same : x.new ≡ two.next.old =
           same_Some x.new two.next.old
           (sym (ap (λ (z : MachineState (List ℕ)). slice_get z.processors t) x.state_is
-          ∙ get-set_same s.processors t x.new x.old x.was)
+          ∙ slice_get-slice_set_same s.processors t x.new x.old x.was)
           ∙ two.next.was) in
           ap (λ (z : Processor). z.position) (sym d.processor_is) ∙ (ap (λ z. z.position) same ∙ two.next.position_is refl)
   AreDrainAndPassing-one_thread t j k _ _ i h o two = absurd (two.unpreserved.kinds_differ refl)
 
-  -- Two adjacent items of different threads that do not conflict; and the processors that they find.
+  -- Two adjacent items of different threads t and u that do not conflict, which are drains if b and c are `true`; and the
+  -- processors p and q that they find. V are the stores that wait between them.
   record AreItemsOfTwoThreads (t u j k : ℕ) (b c : Bool) (i h : Instr) (V : ℕ → List ℕ) (p q : Processor) : Type 0 where
     threads_differ : t ≢ u
     first : ItemMoves program pending t j b i s m1
@@ -216,7 +220,7 @@ module _ (program : List (List Instr)) (pending : ℕ → List ℕ) (s m1 m2 : M
     first_processor : slice_get s.processors t ≡ Some p
     second_processor : slice_get s.processors u ≡ Some q
 
-  -- The effects of two adjacent items of different threads do not conflict if the items do not.
+  -- If two adjacent items of different threads, drains if b and c say so, do not conflict, neither do their effects.
   DoNotConflict-two_threads : (t u j k : ℕ) (b c : Bool) (i h : Instr) (V : ℕ → List ℕ) (p q : Processor)
       → AreItemsOfTwoThreads t u j k b c i h V p q
       → DoNotConflict (effect_by program t b p) (effect_by program u c q)
@@ -228,7 +232,7 @@ module _ (program : List (List Instr)) (pending : ℕ → List ℕ) (s m1 m2 : M
       same_Some y.old q
       (sym y.was
       ∙ (ap (λ (z : MachineState (List ℕ)). slice_get z.processors u) x.state_is
-      ∙ (get-set_other s.processors t u x.new two.threads_differ ∙ two.second_processor))) in
+      ∙ (slice_get-slice_set_other s.processors t u x.new two.threads_differ ∙ two.second_processor))) in
       let one = accessed_location-of_item b two.first z (ap (λ r. machine.accessed_location (effect_by program t b r)) xs ∙ az) in
       let other =
       accessed_location-of_item c two.second z (ap (λ r. machine.accessed_location (effect_by program u c r)) ys ∙ bz) in (
@@ -242,18 +246,18 @@ module _ (program : List (List Instr)) (pending : ℕ → List ℕ) (s m1 m2 : M
             (other.1 (ap (λ r. machine.event_writes (effect_by program u c r)) ys ∙ w))))),
       )
 
-  -- The effect of an item's event is that of its instruction, or of its drain.
+  -- The effect of an item's event is that of its drain (b is `true`), or of its instruction.
   event_effect-of_item : (locs t : ℕ) (b : Bool) (p : Processor)
       → event_effect program locs (event_by b t) p ≡ effect_by program t b p
   event_effect-of_item locs t true p = refl
   event_effect-of_item locs t false p = refl
 
-  -- The processor of an item's event is that of the item's thread.
+  -- The processor of an item's event, a drain (b is `true`) or a step, is that of the item's thread.
   cpu_of-item_event : (b : Bool) (t : ℕ) → cpu_of (event_by b t) ≡ t
   cpu_of-item_event true t = refl
   cpu_of-item_event false t = refl
 
-  -- The events of adjacent items that neither conflict nor are preserved are independent.
+  -- If two adjacent items neither conflict nor are preserved, their events are independent.
   pub AreIndependent-unpreserved_items : (a b : Item) (i h : Instr)
       → ItemMoves program pending a.thread a.position a.is_drain i s m1
       → ItemMoves program (waits_after x86_language program a pending) b.thread b.position b.is_drain h m1 m2

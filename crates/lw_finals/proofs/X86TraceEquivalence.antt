@@ -45,7 +45,8 @@ module _ (program : List (List Instr)) (forward : (u : ℕ) → JumpsForward x86
     pub head : DrainsOldest (nth_item i).is_drain (nth_item i).position (pending (nth_item i).thread)
     pub reached : HoldsWaitingStores order (suc k) (waits_after x86_language program (nth_item i) pending) mid
 
-  -- The transition of the item at index k of an order is the item's turn.
+  -- If the waiting stores are known after the first k items of an order, and its item i at index k leads from s to `mid`, this
+  -- is the item's turn.
   ItemTurn-of_transition : (order : List ℕ)
       → RespectsPreservedPairs order
       → (k i : ℕ)
@@ -75,7 +76,7 @@ module _ (program : List (List Instr)) (forward : (u : ℕ) → JumpsForward x86
         };
       }
 
-  -- Adjacent items of one thread are not preserved.
+  -- If two adjacent items of an order that neither conflict nor are preserved are of one thread, they are an unpreserved pair.
   IsUnpreservedPair-neighbours : (order : List ℕ) (k x y : ℕ)
       → Neighbours x86_language program paths order k x y
       → (h : Instr)
@@ -107,7 +108,8 @@ module _ (program : List (List Instr)) (forward : (u : ℕ) → JumpsForward x86
       not-ordered_neighbours less =
           n.first_is_free (index_lt-if_rank_lt x86_language program paths forward assignment x y n.x_below same less) same
 
-  -- Two adjacent items that neither conflict nor are preserved can be executed in the other order, with the same state after both.
+  -- If two adjacent items neither conflict nor are preserved, and lead in sequence from s to `end`, they do so in the other
+  -- order too.
   X86ItemTransition-swap : (order : List ℕ)
       → RespectsPreservedPairs order
       → (k x y : ℕ)
@@ -132,7 +134,8 @@ module _ (program : List (List Instr)) (forward : (u : ℕ) → JumpsForward x86
       EventsCommute-independent program (event_of (nth_item x)) (event_of (nth_item y)) s free (nth_item x).position
       (nth_item y).position mid end one two
 
--- Trace-equivalent orders of an x86 test's items reach the same outcome over flat memory.
+-- If two orders of a well-scoped x86 test's items that respect the preserved pairs are trace-equivalent, they reach the same
+-- outcome over flat memory.
 pub OrdersEndAlike-x86 : (test : X86Test) (paths : List (List ℕ))
     → IsWellScopedProgram test
     → IsPathAssignment x86_language test.threads paths

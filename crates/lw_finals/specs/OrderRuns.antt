@@ -6,8 +6,8 @@ use Rattle.lw_paths.specs.declared.item.Item.{Item}
 use Rattle.lw_litmus.specs.Languages.{Language}
 use Rattle.lw_paths.specs.Items.{item_at, items_of, constraints_of}
 
--- A transition system whose transitions execute items: the initial state, the transition of an item, which states are final, and the
--- outcome of each.
+-- A transition system whose transitions execute items: the initial state, the transition of an item (`Carried`), which states
+-- are final, and the outcome of each.
 pub record ItemTransitionSystem (State : Type 0) : Type 1 where
   pub start : State
   pub Carried : Item → State → State → Type 0

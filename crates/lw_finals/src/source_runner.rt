@@ -24,6 +24,7 @@ pub(crate) struct SourceRunner<'a, A: Allocator> {
     source: &'a Source<A>,
     compiled: &'a Compiled<A>,
     run: SourceRun<'a, A, A>,
+    /// The outcome of the last run that followed its paths; before that, room of its size.
     end: Outcome<A>,
 }
 

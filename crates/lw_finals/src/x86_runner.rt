@@ -24,6 +24,7 @@ pub(crate) struct X86Runner<'a, A: Allocator> {
     alloc: A,
     program: &'a Program<A>,
     machine: Machine<'a, Mesi<A>, A, A>,
+    /// The outcome of the last run that followed its paths; before that, room of its size.
     end: Outcome<A>,
 }
 
@@ -117,8 +118,8 @@ fn carry_out<M: MemorySystem, A: Allocator, B: Allocator>(
     machine.step(event_of(item)).is_ok()
 }
 
-/// Returns the initial registers and words of a program as an outcome.
-fn first_outcome<A: Allocator + Copy>(program: &Program<A>) -> Result<Outcome<A>, AllocError>
+/// Returns room for the outcome of a run, with the initial registers and words of the program: each run overwrites it.
+fn room_for_outcome<A: Allocator + Copy>(program: &Program<A>) -> Result<Outcome<A>, AllocError>
     ensures { IfOk result (λ o. o ≡ record { regs = program.now.head.init_regs; words = program.now.head.init_words }) }
 {
     Ok(Outcome {
@@ -133,7 +134,7 @@ impl<'a, A: Allocator + Copy> X86Runner<'a, A> {
         ensures test { IfOk result (λ r. r.test ≡ program_of program.now) }
     {
         empty_caches_are_coherent();
-        let end = first_outcome(program)?;
+        let end = room_for_outcome(program)?;
         let words = program.head.init_words.as_slice();
         let caches: Mesi<A> = Mesi::new(alloc, program.head.threads, words)?;
         let Ok(machine) = Machine::new(alloc, program, caches) else {

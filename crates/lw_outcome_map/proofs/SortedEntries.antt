@@ -21,10 +21,11 @@ use Rattle.lw_base.specs.Outcomes.{FinalState, final_state_cmp}
 use Rattle.lw_outcome_map.specs.Listings.{OutcomesWith, outcomes_of, IsStrictlySorted}
 use Rattle.lw_outcome_map.proofs.api.Listings.{final_eq, Decides-final_eq, IsEquivalence-final_eq, final_eq-is_cmp_equal, IsTotalOrder-final_state_cmp, IsStrictlySorted-of_distinct, Contains-entry_of_outcome}
 
--- No two of the results of a comparison are the same.
+-- The result `Less` of a comparison is not `Equal`.
 not-Less_eq_Equal : Less ≡ Equal → ⊥
 not-Less_eq_Equal e = absurd (true≢false (ap is_lt e))
 
+-- The result `Greater` of a comparison is not `Equal`.
 not-Greater_eq_Equal : Greater ≡ Equal → ⊥
 not-Greater_eq_Equal e = absurd (true≢false (sym (ap is_eq e)))
 
@@ -41,20 +42,20 @@ module _ {Kept : Type 0} where
   abbrev pub have_same_outcome : FinalState × Kept → FinalState × Kept → Bool
   have_same_outcome e f = final_eq e.0 f.0
 
-  -- The outcome at an index is that of the entry there.
+  -- If k is in range, the outcome at index k is that of the entry there.
   outcomes_of-at : (es : OutcomesWith Kept) (k : ℕ) (d : FinalState × Kept) (o : FinalState)
       → k < length es
       → get_or (outcomes_of es) k o ≡ (get_or es k d).0
   outcomes_of-at es k d o within = get_or-map (λ e. e.0) es k d o within
 
-  -- What holds of the outcome of each entry holds of each outcome.
+  -- If P holds of the outcome of each entry, it holds of each outcome.
   All-outcomes_of : (P : FinalState → Type 0) (es : OutcomesWith Kept) → All (λ e. P e.0) es → All P (outcomes_of es)
   All-outcomes_of P [] all k o lt = absurd (omega (arith, lt))
   All-outcomes_of P (e ∷ es) all k o lt =
       let within : k < length (e ∷ es) = omega (arith, lt, length-keys_of (e ∷ es)) in
       subst P (sym (outcomes_of-at (e ∷ es) k e o within)) (all k e within)
 
-  -- The outcome of an entry is listed.
+  -- If the entries contain e, the outcomes contain that of e.
   Contains-outcomes_of : (es : OutcomesWith Kept) (e : FinalState × Kept) → Contains es e → Contains (outcomes_of es) e.0
   Contains-outcomes_of es e h =
       (h.0, omega (arith, h.1, length-keys_of es), outcomes_of-at es h.0 e e.0 h.1 ∙ ap (λ (f : FinalState × Kept). f.0) h.2)
@@ -72,24 +73,24 @@ module _ {Kept : Type 0} where
       is_lt (final_state_cmp (outcomes_of-at es (k + 1) d d.0 within i) (outcomes_of-at es k d d.0 (omega (arith, within)) i)))
       ∙ up k d.0 low (omega (arith, within, length-keys_of es))
 
-  -- Entries whose outcomes are ascending step by step are strictly sorted.
-  IsStrictlySorted-of_steps : (es : OutcomesWith Kept) → IsStrictlySortedBy entry_cmp es → IsStrictlySorted es
+  -- Entries that are strictly sorted by their outcomes, each below all after it, are so by their indices (`IsStrictlySorted`).
+  IsStrictlySorted-of_recursion : (es : OutcomesWith Kept) → IsStrictlySortedBy entry_cmp es → IsStrictlySorted es
   unfolding IsStrictlySortedBy
-  IsStrictlySorted-of_steps [] h = λ i j d lt within. absurd (omega (arith, within))
-  IsStrictlySorted-of_steps (e ∷ es) h =
+  IsStrictlySorted-of_recursion [] h = λ i j d lt within. absurd (omega (arith, within))
+  IsStrictlySorted-of_recursion (e ∷ es) h =
       AllPairs-cons (λ o p. final_state_cmp o p ≡ Less) e.0 (outcomes_of es)
       (All-outcomes_of (λ o. final_state_cmp e.0 o ≡ Less) es (All-from_recursion (λ f. entry_cmp e f ≡ Less) es h.0))
-      (IsStrictlySorted-of_steps es h.1)
+      (IsStrictlySorted-of_recursion es h.1)
 
-  -- Sorted entries of which only the first with each outcome remains are strictly sorted.
+  -- If the outcomes of entries are sorted, the first entry with each outcome of them is strictly sorted with the others.
   pub IsStrictlySorted-dedup : (es : OutcomesWith Kept)
       → IsSorted final_state_cmp (outcomes_of es)
       → IsStrictlySorted (dedup have_same_outcome es)
   IsStrictlySorted-dedup es up =
-      IsStrictlySorted-of_steps (dedup have_same_outcome es)
+      IsStrictlySorted-of_recursion (dedup have_same_outcome es)
       (IsStrictlySortedBy-dedup IsTotalOrder-entry_cmp (λ e f. final_eq-is_cmp_equal e.0 f.0) es (IsSorted-entries es up))
 
-  -- Each outcome remains.
+  -- If an outcome is listed, it is listed after all entries but the first with each outcome are removed.
   pub Contains-outcomes_of_dedup : (es : OutcomesWith Kept) (o : FinalState)
       → Contains (outcomes_of es) o
       → Contains (outcomes_of (dedup have_same_outcome es)) o
@@ -99,7 +100,7 @@ module _ {Kept : Type 0} where
       subst (Contains (outcomes_of (dedup have_same_outcome es))) (sym ((Decides-final_eq (e.0).0 (rest.1).0).0 rest.4) ∙ e.2)
       (Contains-outcomes_of (dedup have_same_outcome es) rest.1 (rest.0, rest.2, rest.3))
 
-  -- A sorted permutation of entries whose outcomes are distinct is strictly sorted.
+  -- If the outcomes of es are distinct, and fs is a sorted permutation of es, then fs is strictly sorted.
   pub IsStrictlySorted-of_permutation : (es fs : OutcomesWith Kept)
       → IsDistinct final_eq (outcomes_of es)
       → IsPermutation es fs
@@ -112,7 +113,7 @@ module _ {Kept : Type 0} where
 
   -- ---- The search for an outcome.
 
-  -- In a strictly sorted list no outcome is less than the one before it.
+  -- If entries are strictly sorted, they are sorted.
   IsSorted-of_strictly_sorted : (es : OutcomesWith Kept) → IsStrictlySorted es → IsSorted entry_cmp es
   IsSorted-of_strictly_sorted es sorted k d low within =
       IsSorted-entries es (λ j o below inside.
@@ -120,7 +121,7 @@ module _ {Kept : Type 0} where
       ap is_lt (IsTotalOrder-final_state_cmp.antisymm (get_or (outcomes_of es) (j + 1) o) (get_or (outcomes_of es) j o))
       ∙ ap (λ c. is_lt (ordering_reverse c)) less) k d low within
 
-  -- The outcome of an entry that compares as equal to an outcome is at the entry's index.
+  -- If the entry at k compares as equal to the outcome o, the outcome at k is o.
   slice_get-of_equal : (es : OutcomesWith Kept) (o : FinalState) (k : ℕ)
       → k < length es
       → HoldsAt (λ e. final_state_cmp e.0 o ≡ Equal) es k
@@ -130,7 +131,7 @@ module _ {Kept : Type 0} where
       slice_get-get_or (outcomes_of (e ∷ es)) k o (omega (arith, within, length-keys_of (e ∷ es)))
       ∙ ap Some (outcomes_of-at (e ∷ es) k e o within ∙ eq-of_equal (get_or (e ∷ es) k e).0 o (equal e))
 
-  -- If each entry before an index has a smaller outcome, and each other one a greater outcome, the outcome is not listed.
+  -- If each entry before an index has a smaller outcome than o, and each other one a greater, o is not listed.
   not-Contains-if_partitioned : (es : OutcomesWith Kept) (o : FinalState) (i : ℕ)
       → IsPartitionPoint (λ e. final_state_cmp e.0 o ≡ Less) (λ e. final_state_cmp e.0 o ≡ Greater) es i
       → Contains (outcomes_of es) o
@@ -144,7 +145,7 @@ module _ {Kept : Type 0} where
       ⊎_elim (λ before. not-Less_eq_Equal (sym (split.0 h.0 e (omega arith) before) ∙ equal))
       (λ after. not-Greater_eq_Equal (sym (split.1 h.0 e after within) ∙ equal)) (cases_lt h.0 i)
 
-  -- The result r of a binary search by outcome is the index of the outcome, or `None` if it is not listed.
+  -- If entries are strictly sorted, the result r of a binary search for o is the index of o, or `None` if it is not listed.
   pub search-finds_outcome : (es : OutcomesWith Kept) (o : FinalState) (r : Result ℕ ℕ)
       → IsStrictlySorted es
       → IsSearchInRange r (length es)

@@ -5,7 +5,7 @@ use Rattle.lw_report.proofs.Common.{map, take, get_or, refl, sym, ap, ◌∙◌,
 use Rattle.lw_report.proofs.Common.{from_bool, length-map, length-filter_both, length-filter_more, positive}
 use Rattle.lw_report.proofs.Common.{negative, ProjectedState, ListedState, projection_of}
 
--- A truth value counts as at most one.
+-- If n counts a truth value, it is at most one.
 pub from_bool-le_one : (b : Bool) (n : ℕ) → n ≡ from_bool b → n ≤ 1
 from_bool-le_one true n e = omega (arith, e)
 from_bool-le_one false n e = omega (arith, e)
@@ -15,7 +15,8 @@ from_bool-cond : (b : Bool) → from_bool b ≡ cond b 1 0
 from_bool-cond true = refl
 from_bool-cond false = refl
 
--- Counting the state at k extends the count of the first k states to k + 1.
+-- If `count` is the number of the first k states in which the proposition is true, and n counts that of the state at k, then
+-- `count` + n is that of the first k + 1.
 pub count_true-suc : {s : ListedState} {b : Bool} {count n : ℕ} (states : List ListedState) (k : ℕ)
     → k < length states
     → s ≡ get_or states k s
@@ -50,7 +51,8 @@ pub count_all-positive : (states : List ListedState) (k count : ℕ)
 count_all-positive states k count le is =
     is ∙ ap (λ l. length (filter (λ (t : ListedState). t.holds) l)) (take_all k states le) ∙ count_true-positive states
 
--- The proposition is false in all states in which it is not true.
+-- If `count` is the number of states in which the proposition is true, the number of the others is that of those in which it is
+-- false.
 pub count_false-negative : (states : List ListedState) (count : ℕ)
     → count ≡ positive (map projection_of states)
     → length states - count ≡ negative (map projection_of states)

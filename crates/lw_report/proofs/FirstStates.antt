@@ -28,10 +28,11 @@ have_same_words s t = pointwise nat_eq s.words t.words
 abbrev NotAbove : ListedState → ListedState → Type 0
 NotAbove s t = (words_cmp s t ≡ Less) ⊎ ((s.words ≡ t.words) × (s.entry ≤ t.entry))
 
--- A state that is not sorted after another is not greater.
+-- If a state t is not sorted before s, then s is not greater than t.
 NotAbove-if_not_sorted_after : (s t : ListedState) → is_lt (state_cmp t s) ≡ false → NotAbove s t
 NotAbove-if_not_sorted_after s t h = go (words_cmp t s) refl
   where
+    -- By how the words of t and s compare.
     go : (o : Ordering) → words_cmp t s ≡ o → NotAbove s t
     go Less e = let clash : true ≡ false = rw e at h in absurd cc
     go Equal e = inr (
@@ -46,7 +47,7 @@ NotAbove-if_not_sorted_after s t h = go (words_cmp t s) refl
     )
     go Greater e = inl (nat_list_cmp_total.antisymm s.words t.words ∙ ap ordering_reverse e)
 
--- Of two states with the same words, the one before has the smaller or the same index of an outcome.
+-- If s is not greater than t, and both have the same words, the index of s is not greater.
 entry_le-if_not_above : (s t : ListedState) → NotAbove s t → t.words ≡ s.words → s.entry ≤ t.entry
 entry_le-if_not_above s t (inl less) e =
     absurd (words_less-irreflexive s.words (subst (λ (w : List ℕ). slice_cmp nat_cmp s.words w ≡ Less) e less))
@@ -62,7 +63,7 @@ IsTotalOrder-state_cmp =
     then_total IsTotalOrder-words_cmp
     (then_total (on_total (λ (s : ListedState). s.entry) nat_cmp_total) (on_total _ bool_cmp_total))
 
--- If states are ascending, their words are.
+-- If a comparison of words and then of indices is not `Less`, that of words is not `Less`.
 ordering_then-not_less : (o r : Ordering) → is_lt (ordering_then o r) ≡ false → is_lt o ≡ false
 ordering_then-not_less Less r h = h
 ordering_then-not_less _ r h = refl
@@ -73,7 +74,8 @@ ordering_then-not_less _ r h = refl
 abbrev IsSmallest : List ListedState → ListedState → Type 0
 IsSmallest all s = (t : ListedState) → Contains all t → t.words ≡ s.words → s.entry ≤ t.entry
 
--- If only the first of those with the same words remain of sorted states, each has the smallest index among those with its words.
+-- If k is not greater than the states xs, and of any two of these the first is not greater, then each state that remains of k
+-- and xs has the smallest index among those with its words.
 IsSmallest-dedup_from : (k : ListedState) (xs : List ListedState)
     → All (NotAbove k) xs
     → AllPairs NotAbove xs
@@ -117,7 +119,7 @@ IsSmallest-dedup_from k (x ∷ xs) first rest = elim (cases_Bool (have_same_word
       | inr there ↦ entry_le-if_not_above k t (All-contains (NotAbove k) (x ∷ xs) t first there) e
     ]
 
-    -- The state x has the words of k and is removed.
+    -- If x has the words of k, and s has the smallest index of k and xs, it has that of k, x and xs.
     IsSmallest-skip_same_words : x.words ≡ k.words → (s : ListedState) → IsSmallest (k ∷ xs) s → IsSmallest (k ∷ x ∷ xs) s
     IsSmallest-skip_same_words same s old t h e = elim (Contains-cons k t (x ∷ xs) h) [
       | inl is ↦ old t (0, omega arith, is) e
@@ -130,7 +132,8 @@ IsSmallest-dedup_from k (x ∷ xs) first rest = elim (cases_Bool (have_same_word
       ]
     ]
 
-    -- A state after k remains if its words are greater.
+    -- If x has other words than k, a state that remains of x and xs, and has the smallest index among these, has that of k, x
+    -- and xs.
     IsSmallest-keep_greater : (x.words ≡ k.words → ⊥)
         → (s : ListedState)
         → Contains (dedup_from have_same_words x xs) s
@@ -158,7 +161,7 @@ IsSmallest-dedup_from k (x ∷ xs) first rest = elim (cases_Bool (have_same_word
         above (inl less) (inl more) = nat_list_cmp_total.trans k.words x.words k.words less more
         above (inr p) (inl more) = absurd (other (sym p.0))
 
--- States whose words are ascending step by step are ascending in all pairs.
+-- States that are strictly sorted by their words, each below all after it, are so by their indices (`AllPairs`).
 AllPairs-of_strictly_sorted : (ks : List ListedState)
     → IsStrictlySortedBy words_cmp ks
     → AllPairs (λ s t. words_cmp s t ≡ Less) ks
@@ -168,7 +171,7 @@ AllPairs-of_strictly_sorted (k ∷ ks) h =
     AllPairs-cons (λ s t. words_cmp s t ≡ Less) k ks (All-from_recursion (λ t. words_cmp k t ≡ Less) ks h.0)
     (AllPairs-of_strictly_sorted ks h.1)
 
--- Removing all except the first of those with the same words from sorted states leaves the first states.
+-- If states are sorted, removing all except the first of those with the same words leaves the first states.
 pub AreFirstStates-dedup : (all : List ListedState) → IsSorted state_cmp all → AreFirstStates all (dedup have_same_words all)
 AreFirstStates-dedup all up = record {
   sorted =
@@ -187,6 +190,7 @@ AreFirstStates-dedup all up = record {
       (a.1, (a.0, a.2, a.3), sym (same_text t.words (a.1).words (sym a.4)));
 }
   where
+    -- By the cases of the list: the first state is not greater than all others.
     go : (all : List ListedState) → AllPairs NotAbove all → All (IsSmallest all) (dedup have_same_words all)
     go [] pairs = All-nil (IsSmallest [])
     go (k ∷ xs) pairs =

@@ -12,7 +12,7 @@ use Rattle.lw_report.proofs.Common.{kind_text, verdict_text, word_text, state_li
 use Rattle.lw_report.proofs.Common.{observation_line, claim_line, judgement_lines, report_text, Claim}
 use Rattle.lw_report.proofs.Common.{observed, ProjectedState, ListedState, projection_of}
 
--- A label and its word are the text of the name with its word.
+-- The label of a name with its word is the prefix and the text of the name with its word.
 labelled_word-label : (head : TestHead) (before : Bytes) (s : Seen) (w : ℕ)
     → labelled_word (label head before s, w) ≡ before ++ word_text head (s, w)
 labelled_word-label head before s w = simp append_assoc
@@ -35,7 +35,7 @@ labelled_words-joined head (s ∷ names) (w ∷ words) =
     ∙ ap (λ t. word_text head (s, w) ++ t) (labelled_words-after_first head names words)
 labelled_words-joined head _ _ = refl
 
--- The line of a state, from its labels.
+-- If `names` are the labels of the observed names, the words after these labels, and the line's end, are the state's line.
 pub state_line-of_labels : (head : TestHead) (names : List Bytes) (words : List ℕ)
     → names ≡ labels head (observed head)
     → labelled_words names words ++ codes "\n" ≡ state_line head words
@@ -53,7 +53,7 @@ state_line-written head names ws words out new written are same =
 
 -- ---- The text of a label.
 
--- The label of a register, as in `0:EAX=`.
+-- If the parts are those of a register, its label is the prefix and then these parts, as in `0:EAX=`.
 pub label-register : {register : Bytes} {index cpu reg : ℕ} {name : Seen} (head : TestHead) (before : Bytes)
     → index ≡ cpu
     → register ≡ register_name head.arch reg
@@ -65,7 +65,7 @@ label-register {register} {cpu} {reg} head before is_index is_register is =
     ∙ ap (λ (t : Bytes). before ++ t) (sym (append_assoc (decimal cpu) (codes ":" ++ register_name head.arch reg) (codes "=")))
     ∙ ap (label head before) (sym is)
 
--- The label of a location, as in `x=`.
+-- If a location has a name, its label is the prefix and then the name, as in `x=`.
 pub label-location : {text : Bytes} {loc : ℕ} {name : Seen} (head : TestHead) (before : Bytes)
     → slice_get head.locs loc ≡ Some text
     → name ≡ Location loc
@@ -76,7 +76,7 @@ label-location {text} {loc} head before at is =
 
 -- ---- One more label.
 
--- The labels of names with one more are those of the names, followed by its label.
+-- The labels of names and then x are the labels of the names, followed by that of x.
 labels-append_one : (head : TestHead) (names : List Seen) (x : Seen)
     → labels head (names ++ x ∷ []) ≡ labels head names ++ label head (gap (length names)) x ∷ []
 labels-append_one head [] x = refl
@@ -94,7 +94,8 @@ pub record LabelMade (head : TestHead) (names : List Seen) (k : ℕ) (texts new 
   pub is_label : text ≡ label head space name
   pub pushed : new ≡ texts ++ text ∷ []
 
--- Appending the label of the name at k extends the labels of the first k names to k + 1.
+-- If `texts` are the labels of the first k names, and the label of the name at k is appended, they are those of the first k +
+-- 1.
 pub labels-push : (head : TestHead) (names : List Seen) (k : ℕ) (texts new : List Bytes)
     → LabelMade head names k texts new
     → texts ≡ labels head (take k names)
@@ -109,14 +110,14 @@ labels-push head names k texts new one made =
     ∙ ap (λ (t : Bytes). labels head (take k names) ++ t ∷ []) here
     ∙ sym (ap (labels head) more ∙ labels-append_one head (take k names) x)
 
--- When as many labels are appended as there are names, they are the labels of all names.
+-- If `texts` are the labels of the first k names, and k is at least their number, they are the labels of all names.
 pub labels-all : (head : TestHead) (names : List Seen) (k : ℕ) (texts : List Bytes)
     → length names ≤ k
     → texts ≡ labels head (take k names)
     → texts ≡ labels head names
 labels-all head names k texts le made = made ∙ ap (labels head) (take_all k names le)
 
--- A space is before each label except the first.
+-- The gap before each label after the first is a space.
 pub gap-suc : (k : ℕ) → codes " " ≡ gap (k + 1)
 gap-suc k = let next : suc k ≡ k + 1 = omega arith in ap gap next
 
@@ -133,7 +134,7 @@ pub record WordWritten (names : List Bytes) (words : List ℕ) (k : ℕ) (out ne
   pub is_text : text ≡ name
   pub written : new ≡ out ++ (text ++ (decimal (get_or words k 0) ++ codes ";"))
 
--- Writing one more word preserves that what is written, followed by the remaining words, is the line.
+-- If what is written, followed by the words from k on, is the line, so it is after the k-th word is written.
 pub labelled_words-push : (names : List Bytes) (words : List ℕ) (k : ℕ) (out new whole : Bytes)
     → WordWritten names words k out new
     → out ++ flat_map labelled_word (drop k (zip names words)) ≡ whole
@@ -159,7 +160,7 @@ labelled_words-all names words k end out goal le least before =
 
 -- ---- The lines of all states.
 
--- The first lines of a report, as they are written: the title, and the number of states.
+-- The text that is written as the first lines of a report is its title line and the line of the number of states.
 pub title_line-as_written : (head : TestHead) (name kind : Bytes) (n : ℕ)
     → name ≡ head.name
     → kind ≡ kind_text head.quant
@@ -167,7 +168,7 @@ pub title_line-as_written : (head : TestHead) (name kind : Bytes) (n : ℕ)
     ≡ title_line head ++ count_line n
 title_line-as_written head name kind n is_name is_kind = rw (is_name, is_kind) (simp append_assoc)
 
--- The line of the observation, as it is written.
+-- The text that is written as the line of the observation, and what follows it, is that line and what follows it.
 pub observation_line-as_written : {name n word w claimed line : Bytes} (p q : ℕ)
     → name ≡ n
     → word ≡ w
@@ -178,7 +179,8 @@ pub observation_line-as_written : {name n word w claimed line : Bytes} (p q : �
     ++ (n ++ (codes " " ++ (w ++ (codes " " ++ (decimal p ++ (codes " " ++ (decimal q ++ codes "\n")))))))) ++ line
 observation_line-as_written p q is_name is_word is_line = rw (is_name, is_word, is_line) (simp append_assoc)
 
--- The lines after the states, as they are written: the verdict, the numbers and the condition.
+-- The text that is written after the states, of the verdict, the numbers and the condition, and then the observation and the
+-- claim, is the lines of the judgement.
 pub judgement_lines-as_written : (head : TestHead) (claim : Claim) (p q : ℕ) (verdict condition : Bytes)
     → verdict ≡ verdict_text (verdict_of claim head.quant p q)
     → condition ≡ condition_text head
@@ -213,7 +215,7 @@ pub record ReportParts (head : TestHead) (claim : Claim) (states : List ListedSt
   pub is_positive : p ≡ positive (map projection_of states)
   pub is_negative : q ≡ negative (map projection_of states)
 
--- The parts of a report in sequence are the report.
+-- If the parts of a report were written in sequence, their text is the report.
 pub report_text-of_parts : (head : TestHead) (claim : Claim) (states : List ListedState) (end : Bytes)
     → ReportParts head claim states end
     → end ≡ report_text head claim (map projection_of states)
@@ -239,7 +241,7 @@ report_text-of_parts head claim states end parts =
 
 -- ---- The lines of marked states.
 
--- A state's line after its mark, written part by part, is the marked line of its words.
+-- If a mark, and then the words after their labels, were written, they are the marked line of the state.
 pub marked_line-written : (head : TestHead) (names : List Bytes) (ws : List ℕ) (s : ProjectedState) (mark out mid new : Bytes)
     → mid ≡ out ++ mark
     → mark ≡ mark_text s.holds

@@ -14,7 +14,7 @@ use Rattle.lw_report.proofs.Truths.{is_true-same_observed_words}
 
 -- ---- The outcomes of entries.
 
--- If all outcomes of a listing have the test's threads and locations, so does the one at an index.
+-- If all outcomes of a listing have the test's numbers of threads and locations, so does the one at index k.
 pub HasOutcomeShape-of_entry : {Kept : Type 0} (head : TestHead) (entries : OutcomesWith Kept) (k : ℕ) (o : FinalState)
     → All (HasOutcomeShape head.threads (length head.locs)) (outcomes_of entries)
     → slice_get (outcomes_of entries) k ≡ Some o
@@ -26,20 +26,23 @@ HasOutcomeShape-of_entry head entries k o each at =
 -- ---- One state for each outcome.
 
 module _ (head : TestHead) (outcomes : List FinalState) where
-  -- Adding the state of the next outcome extends the states of the first `count` outcomes by one.
-  pub AreStatesOfFirst-push : (count : ℕ) (states after : List ListedState) (o : FinalState)
+  -- If the states are those of the first `count` outcomes, and o is the next one, appending its state gives those of one more.
+  pub AreStatesOfFirst-push : {count : ℕ} {states after : List ListedState} {o : FinalState}
       → AreStatesOfFirst head outcomes count states
       → slice_get outcomes count ≡ Some o
       → after ≡ states ++ state_at head count o ∷ []
       → AreStatesOfFirst head outcomes (count + 1) after
-  AreStatesOfFirst-push count states after o are at e = subst (AreStatesOfFirst head outcomes (count + 1)) (sym e) (record {
-    shows = All-push (Shows head outcomes) states x are.shows (record { outcome = o; at = at; shows = refl });
-    each = Contains-state_of_outcome;
-  })
+  AreStatesOfFirst-push {count = count} {states = states} {o = o} are at e =
+      subst (AreStatesOfFirst head outcomes (count + 1)) (sym e) (record {
+        shows = All-push (Shows head outcomes) states x are.shows (record { outcome = o; at = at; shows = refl });
+        each = Contains-state_of_outcome;
+      })
     where
+      -- The state of the next outcome.
       x : ListedState
       x = state_at head count o
 
+      -- The longer list has the state of each of the outcomes.
       Contains-state_of_outcome : (i : ℕ) (p : FinalState)
           → i < count + 1
           → slice_get outcomes i ≡ Some p
@@ -66,13 +69,13 @@ module _ (head : TestHead) (outcomes : List FinalState) where
 -- ---- The states without their indices.
 
 module _ (states : List ListedState) where
-  -- A state in the list is among the states without their indices.
+  -- If a list has a state, the list without indices has it without its index.
   Contains-projection : (s : ListedState) → Contains states s → Contains (map projection_of states) (projection_of s)
   Contains-projection s h =
       let within : h.0 < length (map projection_of states) = omega (arith, h.1, length-map states projection_of) in
       (h.0, within, get_or-map projection_of states h.0 s (projection_of s) h.1 ∙ ap projection_of h.2)
 
-  -- A state without its index comes from a state in the list.
+  -- If the list without indices has a state, the list has a state that is it, with an index.
   Contains-projection_inv : (s : ProjectedState)
       → Contains (map projection_of states) s
       → (t : ListedState) × Contains states t × (projection_of t ≡ s)
@@ -93,9 +96,9 @@ module _ (states : List ListedState) where
 -- ---- The first state with its words.
 
 module _ (head : TestHead) (outcomes : List FinalState) (all states : List ListedState)
-    (speaks : MentionsOnly head.threads (length head.locs) head.condition)
+    (speaks : MentionsOnly head.threads (length head.locs) head.proposition)
     (are : AreStatesOfFirst head outcomes (length outcomes) all) (firsts : AreFirstStates all states) where
-  -- The state of each outcome is that of one of the first states.
+  -- If an outcome is listed, its state is one of the first states.
   Contains-projection_of_outcome : (o : FinalState)
       → Contains outcomes o
       → Contains (map projection_of states) (project_state head o)
@@ -107,12 +110,12 @@ module _ (head : TestHead) (outcomes : List FinalState) (all states : List Liste
       All-contains (Shows head outcomes) all s are.shows (All-contains (λ t. Contains all t) states s firsts.among found.1) in
       let words : observed_words head from.outcome ≡ observed_words head o =
       ap (λ (t : ProjectedState). t.words) from.shows ∙ found.2 in
-      let truth : is_true head.condition from.outcome ≡ is_true head.condition o =
+      let truth : is_true head.proposition from.outcome ≡ is_true head.proposition o =
       is_true-same_observed_words head from.outcome o speaks words in
       let same : project_state head from.outcome ≡ project_state head o = cc in
       subst (Contains (map projection_of states)) (sym from.shows ∙ same) (Contains-projection states s found.1)
 
-  -- Each state of the list is that of an outcome.
+  -- If a state is in the list, it is that of the outcome at its index.
   Shows-each_state : (s : ListedState) → Contains states s → Shows head outcomes s
   Shows-each_state s h =
       All-contains (Shows head outcomes) all s are.shows (All-contains (λ t. Contains all t) states s firsts.among h)
@@ -133,7 +136,7 @@ module _ (head : TestHead) (outcomes : List FinalState) (all states : List Liste
         from.shows ∙ found.2,
       )
 
-  -- The index of each state is that of the first outcome with these words.
+  -- The index of each state is that of the first outcome with its words.
   IsFirstWithWords-each_state : All (IsFirstWithWords head outcomes) states
   IsFirstWithWords-each_state k d lt =
       let s : ListedState = get_or states k d in

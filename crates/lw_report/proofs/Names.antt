@@ -9,7 +9,7 @@ use Rattle.lw_report.proofs.Common.{most_threads, IsSeenInRange, Seen, thread_re
 use Rattle.lw_report.proofs.Common.{locations, AllByRecursion-filter, IsSeenInRange-all_seen, is_observed}
 use Rattle.lw_report.proofs.Common.{observed}
 
--- Each observed name is a register or a location of the test.
+-- Each observed name of a test is a register or a location of it.
 pub IsSeenInRange-observed : (head : TestHead) (names : List Seen)
     → names ≡ observed head
     → All (IsSeenInRange head.threads (length head.locs)) names
@@ -23,7 +23,7 @@ IsSeenInRange-observed head names e =
 
 module _ (p : Seen → Bool) (f : ℕ → Seen) (k : ℕ) (start names : List Seen)
     (before : names ≡ start ++ filter p (map f (range_with_len 0 k))) where
-  -- Appending the one at k, if it passes p, extends the list of those of the first k registers or locations that pass p to k + 1.
+  -- If `names` has those of the first k that pass p, appending the one at k, if it passes p, gives those of the first k + 1.
   pub filter_prefix-push : (len : ℕ) (all : List ℕ) (x d : ℕ) (new : List Seen)
       → all ≡ range_with_len 0 len
       → k < len
@@ -40,7 +40,7 @@ module _ (p : Seen → Bool) (f : ℕ → Seen) (k : ℕ) (start names : List Se
       ∙ ap (λ (y : ℕ). start ++ (done ++ filter p (f y ∷ []))) number
       ∙ ap (λ l. start ++ l) (sym more)
 
-  -- When k is n, all of the n registers or locations that pass p are listed.
+  -- If `names` has those of the first k that pass p, and k is n, it has all of n that pass p.
   pub filter_prefix-all : (n : ℕ) → k ≤ n → n ≤ k → names ≡ start ++ filter p (map f (range_with_len 0 n))
   filter_prefix-all n most least =
       let is : k ≡ n = omega (arith, most, least) in before ∙ ap (λ (m : ℕ). start ++ filter p (map f (range_with_len 0 m))) is
@@ -57,7 +57,7 @@ thread_registers-suc a (suc n) =
     ∙ sym (append_assoc (thread_registers a) done (thread_registers (a + 1 + n)))
     ∙ ap (λ t. (thread_registers a ++ done) ++ thread_registers t) is
 
--- The k-th of the first processors is processor k.
+-- The processor that is read at index k of the first processors is k.
 pub cpu_eq_index : (cpus : List ℕ) (threads k cpu : ℕ)
     → cpus ≡ range_with_len 0 most_threads
     → k < length (take threads cpus)
@@ -72,7 +72,7 @@ cpu_eq_index cpus threads k cpu all lt is =
     ∙ get_or-range_with_len 0 most_threads k cpu (omega (arith, lt, many, length-take threads cpus))
     ∙ zero-add k
 
--- Appending the registers of thread k that pass p extends those of the first k threads to k + 1.
+-- If `names` has the registers of the first k threads that pass p, appending those of thread k gives those of the first k + 1.
 pub all_registers-next_thread : (p : Seen → Bool) (k cpu : ℕ) (names new : List Seen)
     → cpu ≡ k
     → names ≡ filter p (all_registers k)
@@ -97,7 +97,7 @@ pub cpu_count-is_threads : (cpus : List ℕ) (threads k : ℕ)
 cpu_count-is_threads cpus threads k all few most least =
     let many : length cpus ≡ most_threads = ap length all in omega (arith, few, many, most, least, length-take threads cpus)
 
--- The observed registers of all threads, followed by the observed locations, are the observed names.
+-- If `names` has the observed registers of all threads, appending the observed locations gives the observed names.
 pub observed-registers_and_locations : (head : TestHead) (k : ℕ) (names new : List Seen)
     → k ≡ head.threads
     → names ≡ filter (is_observed head) (all_registers k)
@@ -113,7 +113,7 @@ observed-registers_and_locations head k names new is before added =
 -- ---- A value for each name.
 
 module _ {Y : Type 0} (f : Seen → Y) (names : List Seen) (k : ℕ) (made : List Y) (before : made ≡ map f (take k names)) where
-  -- Appending the value of f for the name at k extends the values for the first k names to k + 1.
+  -- If `made` has the values of f for the first k names, appending that for the name at k gives those for the first k + 1.
   pub map_prefix-push : (s : Seen) (x : Y) (new : List Y)
       → k < length names
       → s ≡ get_or names k s
@@ -127,6 +127,6 @@ module _ {Y : Type 0} (f : Seen → Y) (names : List Seen) (k : ℕ) (made : Lis
       ∙ ap (λ l. l ++ f s ∷ []) before
       ∙ sym (ap (map f) more ∙ map-append f (take k names) (s ∷ []))
 
-  -- When as many values are appended as there are names, they are the values of f for all names.
+  -- If `made` has the values of f for the first k names, and k is at least their number, it has those for all names.
   pub map_prefix-all : length names ≤ k → made ≡ map f names
   map_prefix-all le = before ∙ ap (map f) (take_all k names le)

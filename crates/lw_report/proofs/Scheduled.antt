@@ -10,7 +10,7 @@ use Rattle.lw_report.proofs.Common.{scheduled_lines, count_line, schedule_list_t
 use Rattle.lw_report.proofs.Common.{IsFirstWithWords, AreListedStates}
 use Rattle.lw_report.proofs.Lines.{state_line-of_labels}
 
--- The index of a state's first outcome is below the length of the listing.
+-- If a state has the index of its first outcome, that is below the length of the listing.
 entry_index_in_range : (head : TestHead) (entries : OutcomeEntries) (s : ListedState)
     → IsFirstWithWords head (outcomes_of entries) s
     → s.entry < length entries
@@ -51,7 +51,7 @@ pub record ScheduledParts (names : NameTable) (schedules : List (List Event)) (s
   pub at : slice_get schedules entry ≡ Some events
   pub is_text : text ≡ schedule_text names events
 
--- The line of a state and that of its schedule, as they are written.
+-- If words and text are those of a listed state and its schedule, the lines that are written from them are its two lines.
 pub scheduled_lines-of_parts : (names : NameTable) (schedules : List (List Event)) (labels : List Bytes) (s : ListedState)
     (words : List ℕ) (text : Bytes)
     → ScheduledParts names schedules s words text
@@ -80,7 +80,7 @@ scheduled_lines-of_scheduled head schedules [] = refl
 scheduled_lines-of_scheduled head schedules (s ∷ states) =
     ap (λ t. scheduled_lines head (scheduled schedules s) ++ t) (scheduled_lines-of_scheduled head schedules states)
 
--- The first lines of a list of schedules, as they are written: the test's name, and the number of states.
+-- The text that is written first in a list of schedules is the line of the test's name and that of the number of states.
 pub schedules_head-as_written : (name : Bytes) (n : ℕ) (h : Bytes) (m : ℕ)
     → name ≡ h
     → n ≡ m
@@ -104,7 +104,7 @@ pub record ListParts (head : TestHead) (schedules : List (List Event)) (states :
   pub is_name : name ≡ head.name
   pub is_count : count ≡ length states
 
--- The parts of a list of schedules in sequence are that list.
+-- If the parts of a list of schedules were written in sequence, their text is the list.
 pub schedule_list_text-of_parts : (head : TestHead) (schedules : List (List Event)) (states : List ListedState) (end : Bytes)
     → ListParts head schedules states end
     → end ≡ schedule_list_text head (map (scheduled schedules) states)

@@ -9,7 +9,7 @@ use Rattle.lw_report.proofs.Common.{has_seen, seen_eq-sound, seen_eq-refl, has_s
 use Rattle.lw_report.proofs.Common.{has_seen-append_right, has_seen-register, has_seen-location, is_named}
 use Rattle.lw_report.proofs.Common.{is_observed, observed_words, is_true}
 
--- If two functions give the same words for all names that pass a test, they agree on each of these names.
+-- If f and g give the same words for all names of a list that pass p, and s is in the list and passes p, they agree on s.
 map_filter-same_at_member : (f g : Seen → ℕ) (p : Seen → Bool) (us : List Seen) (s : Seen)
     → map f (filter p us) ≡ map g (filter p us)
     → has_seen us s ≡ true
@@ -19,6 +19,7 @@ map_filter-same_at_member f g p [] s e h k = absurd cc
 map_filter-same_at_member f g p (u ∷ us) s e h k =
     go (cases_Bool (p u)) (or_cases (seen_eq u s) (has_seen us s) h) (map_filter-same_at_member f g p us s)
   where
+    -- By whether the head passes p, and whether it is s.
     go : (p u ≡ true) ⊎ (p u ≡ false)
         → (seen_eq u s ≡ true) ⊎ (has_seen us s ≡ true)
         → (map f (filter p us) ≡ map g (filter p us) → has_seen us s ≡ true → p s ≡ true → f s ≡ g s)
@@ -37,7 +38,7 @@ map_filter-same_at_member f g p (u ∷ us) s e h k =
     go (inr t) (inr there) rest = let later = rw t at e in rest later there k
 
 module _ (threads locs : ℕ) (o p : FinalState) where
-  -- A formula has the same truth value in two outcomes that agree on all registers and locations that it names.
+  -- If two outcomes agree on all registers and locations that a formula names, it has the same truth value in both.
   is_true-same_words : (phi : Formula)
       → MentionsOnly threads locs phi
       → ((s : Seen)
@@ -64,13 +65,13 @@ module _ (threads locs : ℕ) (o p : FinalState) where
       rw ((is_true-same_words phi speaks.0 (λ s h k. same s h (rw k refl))), right) refl
   is_true-same_words _ speaks same = refl
 
--- Outcomes with the same observed words give the proposition the same truth value.
+-- If two outcomes have the same observed words, the test's proposition has the same truth value in both.
 pub is_true-same_observed_words : (head : TestHead) (o p : FinalState)
-    → MentionsOnly head.threads (length head.locs) head.condition
+    → MentionsOnly head.threads (length head.locs) head.proposition
     → observed_words head o ≡ observed_words head p
-    → is_true head.condition o ≡ is_true head.condition p
+    → is_true head.proposition o ≡ is_true head.proposition p
 is_true-same_observed_words head o p speaks e =
-    is_true-same_words head.threads (length head.locs) o p head.condition speaks (λ s h k.
+    is_true-same_words head.threads (length head.locs) o p head.proposition speaks (λ s h k.
     map_filter-same_at_member (final_word o) (final_word p) (is_observed head)
     (all_registers head.threads ++ locations (length head.locs)) s e h (rw k refl))
 
@@ -98,7 +99,7 @@ and-left_false false false q e h = refl
 and-left_false false true q e h = absurd (true≢false (sym h))
 and-left_false true p q e h = absurd (true≢false e)
 
--- The code's test of a register's word is the truth of the equation.
+-- If what is read is a register's word in the outcome, the code's test of it is the truth of the equation.
 pub is_true-register_test : {regs : List (List ℕ)} {i j t r : ℕ} (o : FinalState) (n : ℕ)
     → regs ≡ o.regs
     → i ≡ t
@@ -106,7 +107,7 @@ pub is_true-register_test : {regs : List (List ℕ)} {i j t r : ℕ} (o : FinalS
     → (slice_index (slice_index_or regs i []) j == n) ≡ is_true (Reg_is t r n) o
 is_true-register_test o n are is_thread is_register = rw (are, is_thread, is_register) refl
 
--- The code's test of a location's word is the truth of the equation.
+-- If what is read is a location's word in the outcome, the code's test of it is the truth of the equation.
 pub is_true-location_test : {words : List ℕ} {i x : ℕ} (o : FinalState) (n : ℕ)
     → words ≡ o.words
     → i ≡ x

@@ -39,6 +39,6 @@ observation_of Listed p q = if p == 0 then seen.Unknown else if q == 0 then seen
 
 -- What `Ok` means for all outcomes of a set, with p states in which the proposition is true and q in which it is false.
 pub record OkMeans (head : TestHead) (Has : FinalState → Type 0) (p q : ℕ) : Type 0 where
-  pub exists_some : verdict_of Exact Exists p q ≡ verdict.Ok ↔ ((o : FinalState) × Has o × (is_true head.condition o ≡ true))
-  pub exists_none : verdict_of Exact NotExists p q ≡ verdict.Ok ↔ ((o : FinalState) → Has o → is_true head.condition o ≡ false)
-  pub forall_all : verdict_of Exact Forall p q ≡ verdict.Ok ↔ ((o : FinalState) → Has o → is_true head.condition o ≡ true)
+  pub exists_some : verdict_of Exact Exists p q ≡ verdict.Ok ↔ ((o : FinalState) × Has o × (is_true head.proposition o ≡ true))
+  pub exists_none : verdict_of Exact NotExists p q ≡ verdict.Ok ↔ ((o : FinalState) → Has o → is_true head.proposition o ≡ false)
+  pub forall_all : verdict_of Exact Forall p q ≡ verdict.Ok ↔ ((o : FinalState) → Has o → is_true head.proposition o ≡ true)

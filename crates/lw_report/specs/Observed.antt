@@ -21,7 +21,7 @@ is_named (Or p q) s = is_named p s || is_named q s
 
 -- Tests whether a register or a location is in the condition or in the list.
 abbrev pub is_observed : TestHead → Seen → Bool
-is_observed head s = is_named head.condition s || list_any (λ l. seen_eq l s) head.listed
+is_observed head s = is_named head.proposition s || list_any (λ l. seen_eq l s) head.listed
 
 -- The observed names: registers by thread and index, then locations by index.
 abbrev pub observed : TestHead → List Seen

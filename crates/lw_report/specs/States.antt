@@ -16,7 +16,7 @@ pub record ProjectedState : Type 0 where
 
 -- The state of an outcome of the test.
 abbrev pub project_state : TestHead → FinalState → ProjectedState
-project_state head o = record { words = observed_words head o; holds = is_true head.condition o }
+project_state head o = record { words = observed_words head o; holds = is_true head.proposition o }
 
 -- The states of a set of outcomes: one for each list of observed words, sorted by the words.
 pub record AreStatesOf (head : TestHead) (Has : FinalState → Type 0) (states : List ProjectedState) : Type 0 where

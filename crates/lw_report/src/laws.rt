@@ -22,8 +22,8 @@ pub trait OutcomeSet {
 
 /// States that outcomes with the same words of the observed names agree on the test's proposition.
 pub fn outcomes_with_the_same_words_agree()
-    ensures { (head : TestHead) (o p : FinalState) → MentionsOnly head.threads (length head.locs) head.condition
-        → observed_words head o ≡ observed_words head p → is_true head.condition o ≡ is_true head.condition p }
+    ensures { (head : TestHead) (o p : FinalState) → MentionsOnly head.threads (length head.locs) head.proposition
+        → observed_words head o ≡ observed_words head p → is_true head.proposition o ≡ is_true head.proposition p }
 {}
 
 /// States that the states, and with them their numbers, the verdict and the report, depend only on the set of

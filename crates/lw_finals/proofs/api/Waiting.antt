@@ -6,18 +6,18 @@ use Rattle.lw_finals.proofs.Common.{⊎_elim, arith, eq-eqb, ne_eqb, true≢fals
 use Rattle.lw_finals.proofs.Common.{cond-true, cond-false, Language, Item, drained_location, statement_of}
 use Rattle.lw_finals.proofs.Common.{IsMember}
 
--- Appending a number preserves membership.
+-- If x is in a list, it is in the list with a number appended.
 IsMember-append_left : (x j : ℕ) (ws : List ℕ) → IsMember x ws → IsMember x (ws ++ j ∷ [])
 IsMember-append_left x j [] is_member = absurd is_member
 IsMember-append_left x j (w ∷ ws) (inl e) = inl e
 IsMember-append_left x j (w ∷ ws) (inr h) = inr (IsMember-append_left x j ws h)
 
--- The appended number is in the list.
+-- A list with j appended has j.
 IsMember-append_last : (j : ℕ) (ws : List ℕ) → IsMember j (ws ++ j ∷ [])
 IsMember-append_last j [] = inl refl
 IsMember-append_last j (w ∷ ws) = inr (IsMember-append_last j ws)
 
--- A member of a list with a number appended was a member, or is that number.
+-- If x is in a list with j appended, it is in the list, or is j.
 IsMember-append_inv : (x j : ℕ) (ws : List ℕ) → IsMember x (ws ++ j ∷ []) → IsMember x ws ⊎ (j ≡ x)
 IsMember-append_inv x j [] (inl e) = inr e
 IsMember-append_inv x j [] (inr h) = absurd h
@@ -29,12 +29,12 @@ abbrev pub IsAscendingBetween : ℕ → List ℕ → ℕ → Type 0
 IsAscendingBetween low [] high = low ≤ high
 IsAscendingBetween low (w ∷ ws) high = (low ≤ w) × IsAscendingBetween (suc w) ws high
 
--- The bounds are ascending.
+-- If numbers are ascending between `low` and `high`, then `low` ≤ `high`.
 IsAscendingBetween-bounds : (low high : ℕ) (ws : List ℕ) → IsAscendingBetween low ws high → low ≤ high
 IsAscendingBetween-bounds low high [] c = c
 IsAscendingBetween-bounds low high (w ∷ ws) c = omega (arith, c.0, IsAscendingBetween-bounds (suc w) high ws c.1)
 
--- Each number is within the bounds.
+-- If numbers are ascending between bounds, each of them is within the bounds.
 pub IsAscendingBetween-member : (low high x : ℕ) (ws : List ℕ)
     → IsAscendingBetween low ws high
     → IsMember x ws
@@ -45,7 +45,7 @@ IsAscendingBetween-member low high x (w ∷ ws) c (inl e) =
 IsAscendingBetween-member low high x (w ∷ ws) c (inr h) =
     let u = IsAscendingBetween-member (suc w) high x ws c.1 h in (omega (arith, c.0, u.0), u.1)
 
--- Ascending numbers are within wider bounds.
+-- If numbers are ascending between bounds, they are so between wider bounds.
 IsAscendingBetween-wider : (low l high h : ℕ) (ws : List ℕ)
     → l ≤ low
     → high ≤ h
@@ -55,19 +55,20 @@ IsAscendingBetween-wider low l high h [] a b c = omega arith
 IsAscendingBetween-wider _ l _ h (w ∷ ws) a b c =
     (omega (arith, c.0), IsAscendingBetween-wider (suc w) _ _ h ws (omega arith) b c.1)
 
--- Appending the upper bound preserves that numbers are ascending, below the next bound.
+-- If numbers are ascending below j, they are ascending below j + 1 with j appended.
 IsAscendingBetween-push : (low j : ℕ) (ws : List ℕ) → IsAscendingBetween low ws j → IsAscendingBetween low (ws ++ j ∷ []) (suc j)
 IsAscendingBetween-push low j [] c = (c, omega arith)
 IsAscendingBetween-push low j (w ∷ ws) c = (c.0, IsAscendingBetween-push (suc w) j ws c.1)
 
--- The stores of a thread that wait after a statement at j (with an entry, or without one), or after a drain.
+-- The stores of a thread that wait after its item at j, if ws waited before: after a drain (`true`) all but the first; after a
+-- statement (`false`) the same, and j too if it makes an entry (its location is given).
 abbrev pub own_waits : Bool → Option ℕ → ℕ → List ℕ → List ℕ
 own_waits true o j [] = []
 own_waits true o j (w ∷ ws) = ws
 own_waits false None j ws = ws
 own_waits false (Some x) j ws = ws ++ j ∷ []
 
--- The stores that wait after a drain are ascending, below their thread's position.
+-- If the waiting stores are ascending below a bound, so are those after a drain.
 pub IsAscendingBetween-after_drain : (o : Option ℕ) (ws : List ℕ) (j high : ℕ)
     → IsAscendingBetween 0 ws high
     → IsAscendingBetween 0 (own_waits true o j ws) high
@@ -75,7 +76,7 @@ IsAscendingBetween-after_drain o [] j high c = omega arith
 IsAscendingBetween-after_drain o (w ∷ ws) j high c =
     IsAscendingBetween-wider (suc w) 0 high high ws (omega arith) (omega arith) c.1
 
--- The stores that wait after a statement are ascending, below their thread's next position.
+-- If the waiting stores are ascending below j, those after the statement at j are ascending below each later position k.
 pub IsAscendingBetween-after_statement : (o : Option ℕ) (ws : List ℕ) (j k : ℕ)
     → j < k
     → IsAscendingBetween 0 ws j
@@ -84,15 +85,16 @@ IsAscendingBetween-after_statement None ws j k on c = IsAscendingBetween-wider 0
 IsAscendingBetween-after_statement (Some x) ws j k on c =
     IsAscendingBetween-wider 0 0 (suc j) k (ws ++ j ∷ []) (omega arith) on (IsAscendingBetween-push 0 j ws c)
 
--- If the item is a drain, it is that of the store that has waited longest.
+-- If the item is a drain (`true`), it is that of the store that has waited longest.
 abbrev pub DrainsOldest : Bool → ℕ → List ℕ → Type 0
 DrainsOldest b j ws = b ≡ true → (rest : List ℕ) × (ws ≡ j ∷ rest)
 
--- Equal lists have the same first number.
+-- If two lists are equal, their first numbers are equal.
 numbers-head_eq : (v j : ℕ) (ws vs : List ℕ) → v ∷ ws ≡ j ∷ vs → v ≡ j
 numbers-head_eq v j ws vs e = cc
 
--- A store that waits after an item waited before and is not drained, or is the item itself.
+-- If the drain, for which b is `true`, is that of the oldest store, a store that waits after an item waited before and is not
+-- drained, or is the item itself, which makes an entry.
 own_waits-member_cases : (b : Bool) (o : Option ℕ) (j w high : ℕ) (ws : List ℕ)
     → IsAscendingBetween 0 ws high
     → DrainsOldest b j ws
@@ -108,13 +110,13 @@ own_waits-member_cases false (Some x) j w high ws c head is_member =
     ⊎_elim (λ g. inl (g, λ f. absurd (true≢false (sym f)))) (λ e. inr (refl, (x, refl), e)) (IsMember-append_inv w j ws is_member)
 own_waits-member_cases false None j w high ws c head is_member = inl (is_member, λ f. absurd (true≢false (sym f)))
 
--- A store waits after its statement.
+-- If the item is a statement (b is `false`) that makes an entry, its store waits after it.
 own_waits-own_store : (b : Bool) (o : Option ℕ) (j x : ℕ) (ws : List ℕ) → b ≡ false → o ≡ Some x → IsMember j (own_waits b o j ws)
 own_waits-own_store true o j x ws f e = absurd (true≢false f)
 own_waits-own_store false (Some y) j x ws f e = IsMember-append_last j ws
 own_waits-own_store false None j x ws f e = absurd cc
 
--- A waiting store that is not drained keeps waiting.
+-- If a store waits, and the item is not its drain (b is `true` of a drain), it waits after the item.
 own_waits-still_waits : (b : Bool) (o : Option ℕ) (j w : ℕ) (ws : List ℕ)
     → DrainsOldest b j ws
     → (b ≡ true → w ≢ j)
@@ -169,7 +171,8 @@ module _ {S : Type 0} (language : Language S) where
     DrainsOldest-at_thread : (u : ℕ) → a.thread ≡ u → DrainsOldest a.is_drain a.position (pending u)
     DrainsOldest-at_thread u same_thread = subst (λ (v : ℕ). DrainsOldest a.is_drain a.position (pending v)) same_thread oldest
 
-    -- A store that waits then waited before, or is the item.
+    -- If a store waits after the item, it waited before and the item is not its drain, or it is the item's, which makes an
+    -- entry.
     pub waits_after-cases : (u k : ℕ)
         → IsMember k (after u)
         → (IsMember k (pending u) × (a.thread ≡ u → a.is_drain ≡ true → k ≢ a.position))
@@ -188,7 +191,7 @@ module _ {S : Type 0} (language : Language S) where
       )
     ]
 
-    -- A store that waited before keeps waiting, unless it is drained.
+    -- If a store waits, and the item is not its drain, it waits after the item.
     pub waits_after-still_waits : (u k : ℕ)
         → IsMember k (pending u)
         → (a.thread ≡ u → a.is_drain ≡ true → k ≢ a.position)
@@ -201,7 +204,7 @@ module _ {S : Type 0} (language : Language S) where
       | inr threads_differ ↦ subst (IsMember k) (sym (waits_after-other_thread program a pending u threads_differ)) is_member
     ]
 
-    -- A store waits after its own item.
+    -- If the item is a statement that makes an entry, its store waits after it.
     pub waits_after-contains_store : (u x : ℕ)
         → a.thread ≡ u
         → a.is_drain ≡ false

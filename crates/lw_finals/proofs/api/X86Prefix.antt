@@ -56,7 +56,8 @@ module _ (program : List (List Instr)) (forward : (t : ℕ) → JumpsForward x86
     abbrev Partner : ℕ → Bool → Type 0
     Partner i b = HasItem items (item (it i).thread (it i).position b)
 
-    -- Of two ordered items of a thread, the order has the one with the lower rank first.
+    -- If two items in range are of one thread, the first has the lower rank, and they are ordered, then the order has the first
+    -- before the second.
     Before-if_ordered_items : (i j : ℕ)
         → i < length items
         → j < length items
@@ -68,7 +69,7 @@ module _ (program : List (List Instr)) (forward : (t : ℕ) → JumpsForward x86
         HasOrdered-if_respected x86_language program paths order keeps.1 i j
         (index_lt-if_rank_lt x86_language program paths forward assignment i j li same less) lj same ordered
 
-    -- A store precedes its drain.
+    -- If an item is the drain of a store, the order has the store before it.
     Before-store_and_drain : (s d : ℕ)
         → s < length items
         → d < length items
@@ -82,7 +83,7 @@ module _ (program : List (List Instr)) (forward : (t : ℕ) → JumpsForward x86
         (item_slot-store_before_drain (it s).is_drain (it d).is_drain (it s).position (it d).position f g index_in)
         (λ e. absurd (true≢false (sym e ∙ f)))
 
-    -- Each drain has its store among the items, and the store precedes it.
+    -- If an item is a drain, its store is an item, and the order has the store before it.
     partner-of_drain : (d : ℕ) → d < length items → (it d).is_drain ≡ true → (s : Partner d false) × Before order s.0 d
     partner-of_drain d in_range f =
         let s =
@@ -93,7 +94,7 @@ module _ (program : List (List Instr)) (forward : (t : ℕ) → JumpsForward x86
               (ap (λ (a : Item). a.is_drain) s.2) f,
         )
 
-    -- Each store that makes an entry has its drain among the items, and the drain follows it.
+    -- If an item is a store that makes an entry, its drain is an item, and the order has it after the store.
     partner-of_store : (s x : ℕ)
         → s < length items
         → (it s).is_drain ≡ false
@@ -107,7 +108,8 @@ module _ (program : List (List Instr)) (forward : (t : ℕ) → JumpsForward x86
               (ap (λ (a : Item). a.position) (sym d.2)) f (ap (λ (a : Item). a.is_drain) d.2),
         )
 
-    -- When it is a drain's turn, its store is the oldest that waits.
+    -- If the waiting stores after the first k items are known, and the item at index k is a drain, it is that of the store that
+    -- has waited longest.
     pub DrainsOldest-at_turn : (k high i : ℕ) (pending : ℕ → List ℕ)
         → AreWaitingStores order k pending
         → IsAscendingBetween 0 (pending (it i).thread) high
@@ -115,10 +117,10 @@ module _ (program : List (List Instr)) (forward : (t : ℕ) → JumpsForward x86
         → index_in order i ≡ k
         → DrainsOldest (it i).is_drain (it i).position (pending (it i).thread)
     DrainsOldest-at_turn k high i pending w climbs in_range at f =
-        let s = partner-of_drain i in_range f in
+        let (store, before_drain) = partner-of_drain i in_range f in
         own_store_is_first (pending (it i).thread) climbs (λ v h. w.coming (it i).thread v h)
-        (w.waits s.0.0 i s.0.1 in_range (ap (λ (a : Item). a.thread) s.0.2) (ap (λ (a : Item). a.position) s.0.2)
-        (ap (λ (a : Item). a.is_drain) s.0.2) f (omega (arith, s.1, at)) (omega (arith, at)))
+        (w.waits store.0 i store.1 in_range (ap (λ (a : Item). a.thread) store.2) (ap (λ (a : Item). a.position) store.2)
+        (ap (λ (a : Item). a.is_drain) store.2) f (omega (arith, before_drain, at)) (omega (arith, at)))
       where
         -- The drained store is the first of those that wait, since each of them is drained before all later ones.
         own_store_is_first : (ws : List ℕ)
@@ -141,11 +143,12 @@ module _ (program : List (List Instr)) (forward : (t : ℕ) → JumpsForward x86
     index_in-order : (i : ℕ) → i < length items → index_in order i < length order
     index_in-order i in_range = omega (arith, keeps.0.1 i in_range, keeps.0.0)
 
-    -- Two items with the same index in the order are the same.
+    -- If i is in range, and d has the same index in the order, they are the same.
     index_in_order-injective : (i d : ℕ) → i < length items → index_in order i ≡ index_in order d → i ≡ d
     index_in_order-injective i d in_range e = index_in-injective order i d e (index_in-order i in_range)
 
-    -- One more item is executed.
+    -- If the waiting stores after the first k items are known, and i is the item at index k, those after k + 1 items are those
+    -- that wait after i.
     pub AreWaitingStores-next : (k high i : ℕ) (pending : ℕ → List ℕ)
         → AreWaitingStores order k pending
         → IsAscendingBetween 0 (pending (it i).thread) high
@@ -160,14 +163,14 @@ module _ (program : List (List Instr)) (forward : (t : ℕ) → JumpsForward x86
             ne (ap (λ d. (it d).thread) (sym e) ∙ c.thread) (subst (λ d. (it d).is_drain ≡ true) e c.is_drain)
             (sym c.position ∙ ap (λ d. (it d).position) e)))
         | inr (same, f, s, e) ↦
-            (let d = partner-of_store i s.0 in_range f s.1 in
+            (let (drain, after_store) = partner-of_store i s.0 in_range f s.1 in
             record {
-              index = d.0.0;
-              below = d.0.1;
-              thread = ap (λ (a : Item). a.thread) d.0.2 ∙ same;
-              position = ap (λ (a : Item). a.position) d.0.2 ∙ e;
-              is_drain = ap (λ (a : Item). a.is_drain) d.0.2;
-              later = omega (arith, d.1, at);
+              index = drain.0;
+              below = drain.1;
+              thread = ap (λ (a : Item). a.thread) drain.2 ∙ same;
+              position = ap (λ (a : Item). a.position) drain.2 ∙ e;
+              is_drain = ap (λ (a : Item). a.is_drain) drain.2;
+              later = omega (arith, after_store, at);
             })
       ];
       waits = λ s d ls ld c j f g before later. elim (cases_lt (index_in order s) k) [
@@ -186,7 +189,7 @@ module _ (program : List (List Instr)) (forward : (t : ℕ) → JumpsForward x86
       ];
     }
       where
-        -- A drain is that of the store that has waited longest.
+        -- If item i is a drain, it is that of the store that has waited longest.
         drains_oldest : DrainsOldest (it i).is_drain (it i).position (pending (it i).thread)
         drains_oldest f = DrainsOldest-at_turn k high i pending w climbs in_range at f
 

@@ -3,12 +3,13 @@
 use Rattle.lw_finals.proofs.Common.{◌≡◌, ℕ, Bool, true, false, if◌then◌else◌, List, [], ◌∷◌, ◌++◌, map}
 use Rattle.lw_finals.proofs.Common.{Option, Some, None, refl, sym, ap, ◌∙◌, subst, inl, inr, arith, slice_get}
 use Rattle.lw_finals.proofs.Common.{slice_set, option_map, true≢false, cases_eq, cond-true, cond-false}
-use Rattle.lw_finals.proofs.Common.{same_Some, slice_get-map, thread_code, get-set_same, get-set_other}
-use Rattle.lw_finals.proofs.Common.{get-map, flat_memory, Operation, Instr, IsFlowSuccessor, is_store}
-use Rattle.lw_finals.proofs.Common.{location_of, x86_operation, x86_language, X86Test, EventEffect}
-use Rattle.lw_finals.proofs.Common.{step_effect, drain_effect, TransitionAt, MachineState, Processor}
-use Rattle.lw_finals.proofs.Common.{initial_processor, initial_machine_state, state, EffectLeadsTo}
-use Rattle.lw_finals.proofs.Common.{EventOccurrence, EventOccurrence-of_event, Buffers, OperationTransition}
+use Rattle.lw_finals.proofs.Common.{same_Some, slice_get-map, thread_code, slice_get-slice_set_same}
+use Rattle.lw_finals.proofs.Common.{slice_get-slice_set_other, slice_get-map_inv, flat_memory, Operation}
+use Rattle.lw_finals.proofs.Common.{Instr, IsFlowSuccessor, is_store, location_of, x86_operation}
+use Rattle.lw_finals.proofs.Common.{x86_language, X86Test, EventEffect, step_effect, drain_effect}
+use Rattle.lw_finals.proofs.Common.{TransitionAt, MachineState, Processor, initial_processor}
+use Rattle.lw_finals.proofs.Common.{initial_machine_state, state, EffectLeadsTo, EventOccurrence}
+use Rattle.lw_finals.proofs.Common.{EventOccurrence-of_event, Buffers, OperationTransition}
 use Rattle.lw_finals.proofs.Common.{OperationTransition-of_effect, JumpsForward, Item, drained_location}
 use Rattle.lw_finals.proofs.Common.{statement_of, IsFlowSuccessor-in_range, IsMember, event_by}
 use Rattle.lw_finals.proofs.api.Waiting.{IsAscendingBetween, own_waits, IsAscendingBetween-after_drain}
@@ -32,7 +33,7 @@ pub record ItemStep (program : List (List Instr)) (t j : ℕ) (b : Bool) (s mid 
   pub does : EffectLeadsTo s.memory (effect_by program t b old) new words
   pub state_is : mid ≡ state (slice_set s.processors t new) words
 
--- An item's event that is executed is a step of its thread from the item's position, or a drain.
+-- If an item's event makes its transition at position j, it is a drain of thread t (b is `true`), or its step from j.
 pub ItemStep-of_transition : (program : List (List Instr)) (t j : ℕ) (b : Bool) (s mid : MachineState (List ℕ))
     → TransitionAt flat_memory program (event_by b t) j s mid
     → ItemStep program t j b s mid
@@ -79,7 +80,7 @@ pub record DrainShape (p q : Processor) : Type 0 where
   -- The processor after it has only the newer entries.
   pub processor_is : q ≡ record p { buffer = newer }
 
--- An enabled drain removes the oldest entry of a buffer that has one.
+-- If a drain of p, whose buffer is b, leads to q, then q is p without its oldest entry.
 DrainShape-of_buffer : (b : List (ℕ × ℕ)) (p q : Processor) (m n : List ℕ)
     → p.buffer ≡ b
     → EffectLeadsTo m (drain_effect b p) q n
@@ -87,7 +88,7 @@ DrainShape-of_buffer : (b : List (ℕ × ℕ)) (p q : Processor) (m n : List ℕ
 DrainShape-of_buffer [] p q m n e d = absurd d
 DrainShape-of_buffer (f ∷ b) p q m n e d = record { entry = f; newer = b; buffer_is = e; processor_is = d.0 }
 
--- A processor's drain removes its oldest entry, and leaves the newer ones.
+-- If a drain of p leads to q, then q is p without its oldest entry.
 pub DrainShape-of_effect : (p q : Processor) (m n : List ℕ) → EffectLeadsTo m (drain_effect p.buffer p) q n → DrainShape p q
 DrainShape-of_effect p q m n d = DrainShape-of_buffer p.buffer p q m n refl d
 
@@ -104,7 +105,7 @@ pub no_store-if_buffer_empty : (code : List Instr) (ws : List ℕ) → BufferHol
 no_store-if_buffer_empty code [] h j is_member = is_member
 no_store-if_buffer_empty code (w ∷ ws) h j is_member = h
 
--- A further store waits, with its entry after all others.
+-- If the buffer holds the stores ws, and j makes an entry for x, then with an entry for x appended it holds ws and j.
 BufferHolds-push : (code : List Instr) (ws : List ℕ) (b : List (ℕ × ℕ)) (j x w : ℕ)
     → BufferHolds code ws b
     → entry_location x86_language (slice_get code j) ≡ Some x
@@ -117,7 +118,7 @@ BufferHolds-push code _ _ j x w h e = absurd h
 abbrev pub entry_of_operation : Operation → Option ℕ
 entry_of_operation o = if is_store o then location_of o else None
 
--- After a step the buffer has the entries of the stores that wait then.
+-- If the buffer holds the stores ws, and the operation at j changes it to `after`, that holds the stores that wait after j.
 BufferHolds-after_step : (code : List Instr) (o : Operation) (ws : List ℕ) (b after : List (ℕ × ℕ)) (j : ℕ)
     → BufferHolds code ws b
     → entry_location x86_language (slice_get code j) ≡ entry_of_operation o
@@ -131,7 +132,7 @@ BufferHolds-after_step code o ws b after j h e (inr (entry, is, at, grown)) =
     subst (λ (entry : Option ℕ). BufferHolds code (own_waits false entry j ws) after) (sym makes)
     (subst (BufferHolds code (ws ++ j ∷ [])) (sym grown) (BufferHolds-push code ws b j entry.0 entry.1 h (e ∙ makes)))
 
--- After a drain the buffer has the entries of the stores that wait then.
+-- If the buffer with an oldest entry holds the stores ws, then without it it holds the stores that wait after the drain.
 BufferHolds-after_drain : (code : List Instr) (o : Option ℕ) (j : ℕ) (ws : List ℕ) (e : ℕ × ℕ) (b : List (ℕ × ℕ))
     → BufferHolds code ws (e ∷ b)
     → BufferHolds code (own_waits true o j ws) b
@@ -149,7 +150,7 @@ AllBuffersHoldStores program pending s =
     (t : ℕ) (p : Processor) → slice_get s.processors t ≡ Some p → HoldsStores (thread_code program t) (pending t) p
 
 module _ (program : List (List Instr)) where
-  -- The step of an item made its operation's transition.
+  -- If the item at j, a statement, has the instruction i, its processor makes the transition of i's operation.
   pub OperationTransition-of_item : (t j : ℕ) (i : Instr) (s mid : MachineState (List ℕ)) (c : ItemStep program t j false s mid)
       → slice_get (thread_code program t) j ≡ Some i
       → OperationTransition (x86_operation i) c.old c.new
@@ -159,7 +160,8 @@ module _ (program : List (List Instr)) where
       (subst (λ o. EffectLeadsTo s.memory (step_effect o c.old) c.new c.words) here c.does)
 
   module _ (forward : (t : ℕ) → JumpsForward x86_language (thread_code program t)) where
-    -- The item's processor, after the item is executed.
+    -- If the processor of an item, a drain (b is `true`) or a statement, holds the waiting stores of its thread, then after the
+    -- item it holds those that wait then.
     HoldsStores-after_item : (t j : ℕ) (i : Instr) (b : Bool) (ws : List ℕ) (s mid : MachineState (List ℕ))
         (c : ItemStep program t j b s mid)
         → slice_get (thread_code program t) j ≡ Some i
@@ -189,7 +191,7 @@ module _ (program : List (List Instr)) where
               (subst (IsAscendingBetween 0 ws) there h.climbs);
         }
 
-    -- Each item that is executed preserves `AllBuffersHoldStores`.
+    -- If all buffers hold the waiting stores, they do so after an item that is executed.
     pub AllBuffersHoldStores-after_item : (a : Item) (i : Instr) (pending : ℕ → List ℕ) (s mid : MachineState (List ℕ))
         → CarriedItem program a s mid
         → statement_of x86_language program a ≡ Some i
@@ -203,7 +205,7 @@ module _ (program : List (List Instr)) where
           | inr threads_differ ↦
               subst (λ ws. HoldsStores (thread_code program t) ws q)
               (sym (waits_after-other_thread x86_language program a pending t threads_differ))
-              (h t q (sym (get-set_other s.processors a.thread t c.new threads_differ) ∙ got))
+              (h t q (sym (slice_get-slice_set_other s.processors a.thread t c.new threads_differ) ∙ got))
         ]
       where
         -- After the item the buffer of its thread holds the stores that wait.
@@ -219,7 +221,7 @@ module _ (program : List (List Instr)) where
             ap (λ o. own_waits a.is_drain (entry_location x86_language o) a.position (pending a.thread)) (sym at)
             ∙ sym (waits_after-same_thread x86_language program a pending a.thread refl)
 
-        -- The same of a processor of this thread.
+        -- Each processor of the item's thread holds the stores that wait after the item.
         HoldsStores-own_thread : (t : ℕ) (q : Processor)
             → a.thread ≡ t
             → slice_get (slice_set s.processors a.thread c.new) t ≡ Some q
@@ -227,7 +229,7 @@ module _ (program : List (List Instr)) where
         HoldsStores-own_thread t q same_thread found_at =
             let e : c.new ≡ q =
             same_Some c.new q
-            (sym (get-set_same s.processors a.thread c.new c.old c.was)
+            (sym (slice_get-slice_set_same s.processors a.thread c.new c.old c.was)
             ∙ subst (λ k. slice_get (slice_set s.processors a.thread c.new) k ≡ Some q) (sym same_thread) found_at) in
             subst (λ k. HoldsStores (thread_code program k) (waits_after x86_language program a pending k) q) same_thread
             (subst (λ ws. HoldsStores (thread_code program a.thread) ws q) own_waits-waits_after
@@ -239,5 +241,5 @@ module _ (program : List (List Instr)) where
 pub AllBuffersHoldStores-start : (test : X86Test) (words : List ℕ)
     → AllBuffersHoldStores test.threads (λ t. []) (initial_machine_state test words)
 AllBuffersHoldStores-start test words t p e =
-    let from = get-map initial_processor test.head.init_regs t p e in
+    let from = slice_get-map_inv initial_processor test.head.init_regs t p e in
     subst (HoldsStores (thread_code test.threads t) []) (sym from.2) (record { waits = tt; climbs = omega arith })

@@ -6,7 +6,7 @@ use Rattle.lw_paths.specs.declared.item.Item.{Item}
 use Rattle.lw_paths.specs.AssignmentLists.{path_assignments}
 use Rattle.lw_litmus.specs.Languages.{Language}
 use Rattle.lw_paths.specs.Items.{items_of}
-use Rattle.lw_paths.specs.TransitiveReduction.{transitive_reduction}
+use Rattle.lw_paths.specs.ReducedPairs.{reduced_constraints_of}
 use Rattle.lw_outcome_map.specs.Listings.{OutcomesWith, outcomes_of}
 
 -- What a contract sees of a runner: a test, and the outcome of its last run.
@@ -14,7 +14,7 @@ pub record RunnerState (Test : Type 0) : Type 0 where
   pub test : Test
   pub end : FinalState
 
--- The result of a run: if it followed its paths to a final state, its end is exactly the outcome of the order; if not, the order has none.
+-- The result of a run: if it is `true`, `end` is an outcome of the order, and its only one; if `false`, the order has none.
 abbrev pub RunResult : (FinalState → Type 0) → Bool → FinalState → Type 0
 RunResult Ends true end = Ends end × ((o : FinalState) → Ends o → o ≡ end)
 RunResult Ends false end = (o : FinalState) → Ends o → ⊥
@@ -33,7 +33,7 @@ OutcomesOfOne {X} Ends xs o = (x : X) × Contains xs x × Ends x o
 module _ {S : Type 0} (language : Language S) (Ends : List Item → List ℕ → FinalState → Type 0) (program : List (List S)) where
   -- The outcomes of the enumerated orders of items.
   abbrev pub OutcomesOfItems : List Item → FinalState → Type 0
-  OutcomesOfItems items = OutcomesOfOne (Ends items) (orders (transitive_reduction language program items))
+  OutcomesOfItems items = OutcomesOfOne (Ends items) (orders (reduced_constraints_of language program items))
 
   -- The outcomes of the enumerated orders of a path assignment's items.
   abbrev pub OutcomesOfAssignment : List (List ℕ) → FinalState → Type 0

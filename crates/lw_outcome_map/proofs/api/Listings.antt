@@ -72,7 +72,7 @@ Contains-if_lookup : {Kept : Type 0} (es : OutcomesWith Kept) (o : FinalState)
     → Contains (outcomes_of es) o
 Contains-if_lookup es o h = Contains-keys_from_lookup (λ x y. (Decides-final_eq x y).0) o es h
 
--- Each listed outcome is that of an entry.
+-- If an outcome is listed, it is that of an entry.
 pub Contains-entry_of_outcome : {Kept : Type 0} (entries : OutcomesWith Kept) (o : FinalState)
     → Contains (outcomes_of entries) o
     → (entry : FinalState × Kept) × Contains entries entry × (entry.0 ≡ o)
@@ -90,12 +90,12 @@ pub lookup-iff_Contains : {Kept : Type 0} (es : OutcomesWith Kept) (o : FinalSta
 lookup-iff_Contains es o b e =
     ((λ t. Contains-if_lookup es o (sym e ∙ t)), (λ i. e ∙ IsSome-lookup_from_Contains IsEquivalence-final_eq o es i))
 
--- An option without a value is `None`.
+-- If an option has no value, it is `None`.
 None-if_not_some : {X : Type 0} (o : Option X) → (is_some o ≡ true → ⊥) → o ≡ None
 None-if_not_some None h = refl
 None-if_not_some (Some x) h = absurd (h refl)
 
--- Inserting an outcome that is not listed appends it with its value.
+-- If an outcome is not listed, inserting it appends it with its value.
 pub insert_entry-appends : {Kept : Type 0} (es fs : OutcomesWith Kept) (o : FinalState) (s : Kept)
     → (Contains (outcomes_of es) o → ⊥)
     → fs ≡ insert_entry final_eq es o s
@@ -105,7 +105,7 @@ insert_entry-appends es fs o s new e =
     ∙ insert_entry-new final_eq (hash_map es (tt {0}) 0) o s
     (None-if_not_some (lookup (final_eq o) es) (λ h. new (Contains-if_lookup es o h)))
 
--- An outcome that is neither greater than another nor equal to it is less.
+-- If an outcome is neither greater than another nor equal to it, it is less.
 final_state_cmp-Less : (o p : FinalState) (c : Ordering)
     → c ≡ final_state_cmp o p
     → is_lt (ordering_reverse c) ≡ false
@@ -116,7 +116,7 @@ final_state_cmp-Less o p Equal e up other =
     absurd (other ((Decides-final_eq o p).0 (final_eq-is_cmp_equal o p ∙ sym (ap is_eq e))))
 final_state_cmp-Less o p Greater e up other = absurd (true≢false up)
 
--- A list sorted by `cmp`, without duplicates, is strictly ascending.
+-- If a list is sorted by `cmp`, and its outcomes are distinct, it is strictly ascending.
 pub IsStrictlySorted-of_distinct : {Kept : Type 0} (es : OutcomesWith Kept)
     → IsSorted final_state_cmp (outcomes_of es)
     → IsDistinct final_eq (outcomes_of es)
@@ -139,7 +139,7 @@ Contains-permuted_outcomes es fs o same =
     let keys : IsPermutation (outcomes_of es) (outcomes_of fs) = IsPermutation-map (λ e. e.0) es fs same in
     (Contains-permutation _ _ o keys, Contains-permutation _ _ o (IsPermutation-sym _ _ keys))
 
--- In a strictly ascending list an outcome does not occur again at a later index.
+-- If a list is strictly ascending, an outcome at index i is not at a later index j.
 not-listed_later : {Kept : Type 0} (es : OutcomesWith Kept) (i j : ℕ) (o : FinalState)
     → IsStrictlySorted es
     → slice_get (outcomes_of es) i ≡ Some o
@@ -153,7 +153,7 @@ not-listed_later es i j o sorted at to lt =
     sym (λ k. final_state_cmp (first k) (later k)) ∙ sorted i j o lt (slice_get_within (outcomes_of es) j o to) in
     true≢false (ap is_lt (sym less ∙ tied_itself IsTotalOrder-final_state_cmp o))
 
--- In a strictly ascending list an outcome is at one index.
+-- If a list is strictly ascending, and an outcome is at the indices i and j, they are the same.
 pub outcome_index-unique : {Kept : Type 0} (es : OutcomesWith Kept) (i j : ℕ) (o : FinalState)
     → IsStrictlySorted es
     → slice_get (outcomes_of es) i ≡ Some o

@@ -62,11 +62,12 @@ module _ {X : Type 0} (R : X → X → Type 0) (strict : (x y : X) → R x y →
 
 -- ---- states
 
--- The order of word lists is irreflexive.
+-- No list of words is less than itself.
 pub words_less-irreflexive : (xs : List ℕ) → slice_cmp nat_cmp xs xs ≡ Less → ⊥
 words_less-irreflexive xs h = let e = tied_itself nat_list_cmp_total xs in cc
 
--- The order of states by their words is asymmetric.
+-- The order of states by their words is asymmetric: if the words of one state are less than those of another, the reverse does
+-- not hold.
 pub words_less-asymmetric : (first later : ProjectedState)
     → slice_cmp nat_cmp first.words later.words ≡ Less
     → slice_cmp nat_cmp later.words first.words ≡ Less
@@ -75,7 +76,7 @@ words_less-asymmetric first later h k =
     words_less-irreflexive first.words (nat_list_cmp_total.trans first.words later.words first.words h k)
 
 module _ (head : TestHead) (Has Also : FinalState → Type 0) (same : (o : FinalState) → Has o ↔ Also o) where
-  -- A set of outcomes determines its list of states.
+  -- If two sets have the same outcomes, they have the same list of states.
   pub AreStatesOf-unique : (states others : List ProjectedState)
       → AreStatesOf head Has states
       → AreStatesOf head Also others
@@ -86,7 +87,7 @@ module _ (head : TestHead) (Has Also : FinalState → Type 0) (same : (o : Final
       (λ s h. let e = (a.exactly s).0 h in (b.exactly s).1 (e.0, (same e.0).0 e.1, e.2))
       (λ s h. let e = (b.exactly s).0 h in (a.exactly s).1 (e.0, (same e.0).1 e.1, e.2))
 
-  -- A set of outcomes determines its report.
+  -- If two sets have the same outcomes, they have the same report.
   pub IsReport-unique : (claim : Claim) (text other : List ℕ)
       → IsReport head Has claim text
       → IsReport head Also claim other

@@ -14,7 +14,7 @@ use Rattle.lw_report.specs.Truth.{is_true}
 
 -- The state of an outcome: its observed words, its index in the listing, and whether the proposition is true in it.
 abbrev pub state_at : TestHead → ℕ → FinalState → ListedState
-state_at head entry o = record { words = observed_words head o; entry = entry; holds = is_true head.condition o }
+state_at head entry o = record { words = observed_words head o; entry = entry; holds = is_true head.proposition o }
 
 -- The outcome at the state's index in the listing has this state.
 pub record Shows (head : TestHead) (outcomes : List FinalState) (s : ListedState) : Type 0 where

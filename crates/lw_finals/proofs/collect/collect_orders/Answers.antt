@@ -6,6 +6,7 @@ use Rattle.lw_finals.proofs.Common.{Progress, Contains-head}
 use Rattle.lw_finals.proofs.Gathering.{CollectedUpTo-next}
 use Rattle.lw_finals.proofs.collect.collect_orders.Goals as goal
 
+-- The next order is one of those that the iterator had at first, so its items are in range.
 pub collect_order-requires : goal.collect_order-requires
 collect_order-requires g c =
     let IsWithin : List ℕ → Type 0 = λ order. All (λ i. i < length c.args.items.now) order in
@@ -18,6 +19,7 @@ collect_order-requires g c =
     let is_member : Contains all c.in-Some.order = c.loop-order.invariant.run.among c.in-Some.order first in
     subst IsWithin (sym c.as_slice.ensures) (All-contains IsWithin all _ each is_member)
 
+-- The outcome of one more order is collected.
 pub loop-order-preserved : goal.loop-order-preserved
 loop-order-preserved g c =
     let ends = g.R.OrderRunner.ends (g.R.OrderRunner.test c.args.runner.now) c.args.items.now in

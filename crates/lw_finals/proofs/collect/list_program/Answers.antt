@@ -26,11 +26,12 @@ collector_view g = record {
   refuses = λ v paths e. LimitFaultOfAssignment g.S.Statement.language v.program.now 0 paths e;
 }
 
--- The collector of outcomes states causes that hold, as a visitor that counts nothing.
+-- As a visitor that counts nothing, the collector of outcomes states causes of failure that hold.
 GivesReasons-collector : (g : Over) → GivesReasons g.S.Statement.language (collector_view g)
 GivesReasons-collector g =
     record { preserves_program = λ v paths w h. h.0; at_most = λ v paths w h. omega arith; cause_holds = λ v paths e h. h }
 
+-- The cause with which a visit failed is a limit's, and true.
 pub returns-in_err-visit_assignments-clause-err : goal.returns-in_err-visit_assignments-clause-err
 returns-in_err-visit_assignments-clause-err g c =
     let p =
@@ -42,6 +43,7 @@ returns-in_err-visit_assignments-clause-err g c =
     (LimitFaultIsTrue-of_assignments g.S.Statement.language c.args.program.now c.requires.forward
     c.in_ok-check_limits.ensures.within.0 _ told)
 
+-- What the visits collected, sorted, has the outcomes of all path assignments.
 pub returns-clause-gathered : goal.returns-clause-gathered
 returns-clause-gathered g c =
     let leads = g.R.OrderRunner.leads (g.R.OrderRunner.test c.args.runner.now) in

@@ -9,6 +9,7 @@ use Rattle.lw_finals.proofs.list.list_compiled_outcomes.Goals as goal
 pub list_program-requires : goal.list_program-requires
 list_program-requires g c = rw c.as_slice.ensures (IsVisitable-well_formed _ _ c.args.source.now.well_formed (omega arith))
 
+-- What was collected without schedules has exactly the test's outcomes.
 pub returns-clause-whole : goal.returns-clause-whole
 returns-clause-whole g c =
     let source = c.args.source.now in

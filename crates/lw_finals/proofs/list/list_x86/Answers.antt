@@ -8,7 +8,7 @@ use Rattle.lw_finals.proofs.list.list_x86.Given.{Over}
 use Rattle.lw_finals.proofs.list.list_x86.Goals.{After-drop-runner-inside-4}
 use Rattle.lw_finals.proofs.list.list_x86.Goals as goal
 
--- The list is complete, if there is one.
+-- If `list_program` returns a list, it is complete.
 IsComplete-list : (g : Over) (c : After-drop-runner-inside-4 g)
     → let program = program_of c.args.program.now in
     IfOk c.list_program.result (IsComplete (IsMachineOutcome flat_memory program program.head.init_words) program)

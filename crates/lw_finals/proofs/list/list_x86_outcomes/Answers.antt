@@ -9,7 +9,7 @@ use Rattle.lw_finals.proofs.list.list_x86_outcomes.Given.{Over}
 use Rattle.lw_finals.proofs.list.list_x86_outcomes.Goals.{After-drop-outcomes-4}
 use Rattle.lw_finals.proofs.list.list_x86_outcomes.Goals as goal
 
--- The list is complete, if there is one.
+-- If `list_program` returns a list, its outcomes are all of the program's.
 AreAllOutcomes-list : (g : Over) (c : After-drop-outcomes-4 g)
     → let program = program_of c.args.program.now in
     IfOk c.list_program.result

@@ -13,6 +13,7 @@ label_of-requires g c =
 pub loop-name-init : goal.loop-name-init
 loop-name-init g c = record { made = c.new-texts.ensures; first = refl }
 
+-- The label of one more name is appended.
 pub loop-name-preserved : goal.loop-name-preserved
 loop-name-preserved g c = record {
   made =

@@ -6,6 +6,7 @@ use Rattle.lw_report.proofs.Common.{string_bytes, Bytes, written-two_parts, OnOk
 use Rattle.lw_report.proofs.Lines.{labelled_words-push, labelled_words-all}
 use Rattle.lw_report.proofs.line.write_state.Goals as goal
 
+-- One more label was written, with its word.
 pub loop-index-preserved : goal.loop-index-preserved
 loop-index-preserved g c =
     let rest = decimal (get_or c.args.words.now c.loop-index.index 0) ++ codes ";" in

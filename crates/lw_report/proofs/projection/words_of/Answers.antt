@@ -4,6 +4,7 @@ use Rattle.lw_report.proofs.Common.{◌∙◌, length, subst, sym, All-get_or, I
 use Rattle.lw_report.proofs.Names.{map_prefix-push, map_prefix-all}
 use Rattle.lw_report.proofs.projection.words_of.Goals as goal
 
+-- Each name is in range of the outcome.
 pub word_of-requires : goal.word_of-requires
 word_of-requires g c =
     let outcome = c.args.outcome.now in

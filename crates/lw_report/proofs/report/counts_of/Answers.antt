@@ -9,6 +9,7 @@ use Rattle.lw_report.proofs.report.counts_of.Goals as goal
 pub loop-state-init : goal.loop-state-init
 loop-state-init g c = record { counted = refl; bounded = omega arith }
 
+-- One more state is counted.
 pub loop-state-preserved : goal.loop-state-preserved
 loop-state-preserved g c = record {
   counted =

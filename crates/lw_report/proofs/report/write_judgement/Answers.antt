@@ -7,6 +7,7 @@ use Rattle.lw_report.proofs.report.write_judgement.Goals as goal
 pub write_condition-requires : goal.write_condition-requires
 write_condition-requires g c = c.requires
 
+-- The lines that were written in sequence are those of the judgement.
 pub returns : goal.returns
 returns g c =
     let head = head_of c.args.head.now in

@@ -4,6 +4,7 @@ use Rattle.lw_report.proofs.Common.{◌∙◌, head_of, string_bytes}
 use Rattle.lw_report.proofs.Lines.{report_text-of_parts}
 use Rattle.lw_report.proofs.report.write_report.Goals as goal
 
+-- Title, states and judgement, written in sequence into an empty text, are the report.
 pub returns : goal.returns
 returns g c = c.from.ensures ∙ report_text-of_parts (head_of c.args.head.now) _ _ _ (record {
   first = string_bytes c.new-out.result;

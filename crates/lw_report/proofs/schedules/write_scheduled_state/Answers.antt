@@ -14,6 +14,7 @@ pub write_schedule-requires : goal.write_schedule-requires
 write_schedule-requires g c =
     IsEvent-schedule_of_entry (head_of c.args.head.now) c.args.listing.now _ _ c.requires.schedules c.schedule.ensures
 
+-- The four parts that were written in sequence are the state's line and that of its schedule.
 pub returns : goal.returns
 unfolding lib.Utf8.encode
 returns g c =

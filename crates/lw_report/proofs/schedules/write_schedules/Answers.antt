@@ -9,6 +9,7 @@ pub write_scheduled_states-requires-clause-within : goal.write_scheduled_states-
 write_scheduled_states-requires-clause-within g c =
     rw c.as_slice.ensures (entry_indices_in_range _ c.args.listing.now c.args.states.now c.requires.states)
 
+-- The title, and the lines of each state, written in sequence into an empty text, are the list of schedules.
 pub returns : goal.returns
 returns g c =
     c.from.ensures ∙ schedule_list_text-of_parts (head_of c.args.head.now) (schedules_of c.args.listing.now) _ _ (record {

@@ -12,7 +12,7 @@ state_of-requires-clause-outcome g c =
 
 pub loop-entry-preserved : goal.loop-entry-preserved
 loop-entry-preserved g c =
-    AreStatesOfFirst-push _ _ _ _ _ _ c.loop-entry.invariant c.outcome.ensures
+    AreStatesOfFirst-push _ _ c.loop-entry.invariant c.outcome.ensures
     (c.in_ok-push.ensures.items ∙ ap (λ (s : ListedState). c.loop-entry.states.items ++ s ∷ []) c.in_ok-state_of.ensures)
 
 pub returns : goal.returns

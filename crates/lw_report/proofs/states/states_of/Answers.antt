@@ -5,6 +5,7 @@ use Rattle.lw_report.proofs.Common.{ℕ, length, sym, subst, length-map, head_of
 use Rattle.lw_report.proofs.ListedStates.{AreStatesOfFirst-sorted, AreListedStates-first_states}
 use Rattle.lw_report.proofs.states.states_of.Goals as goal
 
+-- The states of all outcomes, sorted, of which the first with each list of words remain, are those of the report.
 pub returns : goal.returns
 returns g c =
     let head = head_of c.args.head.now in

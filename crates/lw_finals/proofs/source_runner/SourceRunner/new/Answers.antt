@@ -4,6 +4,7 @@
 use Rattle.lw_finals.proofs.Common.{arith, ap, ◌∙◌, ◌≡◌, length, length-map, FinalState, common_steps}
 use Rattle.lw_finals.proofs.source_runner.SourceRunner.new.Goals as goal
 
+-- The run is of the source's code and starts in its initial state, and the room for an outcome has the source's size.
 pub invariant_of-result : goal.invariant_of-result
 invariant_of-result g c =
     let run = c.in_ok-run.ensures in

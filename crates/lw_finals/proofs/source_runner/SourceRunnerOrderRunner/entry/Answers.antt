@@ -17,6 +17,7 @@ schedule_of_items-requires-clause-has_statements g c =
     (sym (ap (λ (r : RunnerState CompiledSource). r.test.source) c.self.view_is)) c.requires.ran in
     HasStatementAt-all_executed (source_of source) items order (initial_state (source_of source)) run.end run.ran
 
+-- The events of the order's items are a schedule of the compiled program that reaches the outcome.
 pub returns-clause-leads : goal.returns-clause-leads
 returns-clause-leads g c =
     let source = c.self.inside.source.now in

@@ -6,6 +6,7 @@ use Rattle.lw_finals.proofs.Common.{ReplaysFlatTo, RunnerState, CompiledSource, 
 use Rattle.lw_finals.proofs.SourceRunners.{ReplaysTo-item_events}
 use Rattle.lw_finals.proofs.source_runner.SourceRunnerOrderRunner.has_kept.Goals as goal
 
+-- The events of the order's items, which are not computed, reach the outcome.
 pub returns : goal.returns
 returns g c =
     let source = c.self.inside.source.now in

@@ -10,21 +10,21 @@ use Rattle.lw_finals.proofs.OrderSteps.{not-Ran-if_not_enabled, RunsContinueFrom
 use Rattle.lw_finals.proofs.OrderSteps.{FollowsPathsToEnd-if_final}
 use Rattle.lw_finals.proofs.source_runner.SourceRunnerOrderRunner.run.Goals as goal
 
--- An item has at most one successor state.
+-- If an item leads from a state to two states, they are the same.
 SourceItemTransition-unique : (program : List (List Stmt)) (item : Item) (now next other : State)
     → SourceItemTransition program item now next
     → SourceItemTransition program item now other
     → other ≡ next
 SourceItemTransition-unique program item now next other one two = let both : Ok other ≡ Ok next = sym two.1 ∙ one.1 in cc
 
--- The outcome of a run, for this test and outcome.
-RunResult-same_outcome : (items : List Item) (order : List ℕ) (test given : SourceTest) (o end : FinalState)
+-- If `given` is the test, and `end` is o, the order's only outcome by the test, then `end` is its only outcome by `given`.
+outcome-unique : (items : List Item) (order : List ℕ) (test given : SourceTest) (o end : FinalState)
     → test ≡ given
     → end ≡ o
     → SourceFollowsPathsToEnd test items order o
     → ((p : FinalState) → SourceFollowsPathsToEnd test items order p → p ≡ o)
     → SourceFollowsPathsToEnd given items order end × ((p : FinalState) → SourceFollowsPathsToEnd given items order p → p ≡ end)
-RunResult-same_outcome items order test given o end same is run alone = (
+outcome-unique items order test given o end same is run alone = (
   subst (λ (t : SourceTest). SourceFollowsPathsToEnd t items order end) same
       (subst (λ (p : FinalState). SourceFollowsPathsToEnd test items order p) (sym is) run),
   λ p h. alone p (subst (λ (t : SourceTest). SourceFollowsPathsToEnd t items order p) (sym same) h) ∙ sym is,
@@ -33,6 +33,7 @@ RunResult-same_outcome items order test given o end same is run alone = (
 pub bounds-items-from : goal.bounds-items-from
 bounds-items-from g c = rw c.from.ensures (c.requires c.loop-index.index-index 0 c.loop-index-test.true)
 
+-- One more item was executed.
 pub loop-index-preserved : goal.loop-index-preserved
 loop-index-preserved g c =
     let source = c.self.inside.source.now in
@@ -74,6 +75,7 @@ returns-then-not-is_final-clause-ends g c o stays =
     (sym c.loop-index.invariant.program) at_end.1 in
     true≢false (sym final ∙ sym c.is_final.ensures ∙ c.if-not-is_final.true)
 
+-- All items were executed and the state is final, so its outcome is the order's only one.
 pub returns-clause-ends : goal.returns-clause-ends
 returns-clause-ends g c =
     let source = source_of c.self.inside.source.now in
@@ -81,7 +83,7 @@ returns-clause-ends g c =
     let final =
     subst (λ (p : List (List Stmt)). is_source_final p now ≡ true) c.loop-index.invariant.program
     (sym c.is_final.ensures ∙ c.if-not-is_final.false) in
-    RunResult-same_outcome _ _ source _ (source_outcome now) _ (ap (λ r. r.test.source) c.self.view_is) c.write_outcome.ensures
+    outcome-unique _ _ source _ (source_outcome now) _ (ap (λ r. r.test.source) c.self.view_is) c.write_outcome.ensures
     (FollowsPathsToEnd-if_final (source_item_system source) c.args.items.now c.loop-index-test.false c.loop-index.invariant.ran
     final) (λ o run. (outcome_at_end-unique _ _ c.loop-index-test.false c.loop-index.invariant.ran o run).0)
 
@@ -147,6 +149,7 @@ write_outcome-requires-clause-words g c = rw c.loop-index.invariant.end (c.self.
 pub offset_bounds-items-from : goal.offset_bounds-items-from
 offset_bounds-items-from g c = omega (arith, c.from.ensures, c.type_inv.order c.loop-index.index-index)
 
+-- Before the first item the run is in its initial state.
 pub loop-index-init : goal.loop-index-init
 loop-index-init g c =
     let run = c.restart.ensures in

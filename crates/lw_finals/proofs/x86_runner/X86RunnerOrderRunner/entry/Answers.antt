@@ -5,6 +5,7 @@ use Rattle.lw_finals.proofs.Common.{events_of, ReplaysFlatTo}
 use Rattle.lw_finals.proofs.X86Outcomes.{ReplaysTo-of_order}
 use Rattle.lw_finals.proofs.x86_runner.X86RunnerOrderRunner.entry.Goals as goal
 
+-- The events of the order's items replay over flat memory to the outcome.
 pub returns-clause-leads : goal.returns-clause-leads
 returns-clause-leads g c =
     let test = c.args.self.now.test in

@@ -11,15 +11,15 @@ use Rattle.lw_finals.proofs.OrderSteps.{outcome_at_end-unique, FollowsPathsToEnd
 use Rattle.lw_finals.proofs.X86Runners.{IsInitialMemory-after_reset, HasFlatRuns-next, not-outcome_if_refused}
 use Rattle.lw_finals.proofs.x86_runner.X86RunnerOrderRunner.run.Goals as goal
 
--- The outcome of a run, for this test and outcome.
-RunResult-same_outcome : (items : List Item) (order : List ℕ) (test given : X86Test) (o end : FinalState)
+-- If `given` is the test, and `end` is o, the order's only outcome by the test, then `end` is its only outcome by `given`.
+outcome-unique : (items : List Item) (order : List ℕ) (test given : X86Test) (o end : FinalState)
     → test ≡ given
     → end ≡ o
     → X86FollowsPathsToEnd flat_memory test test.head.init_words items order o
     → ((p : FinalState) → X86FollowsPathsToEnd flat_memory test test.head.init_words items order p → p ≡ o)
     → X86FollowsPathsToEnd flat_memory given given.head.init_words items order end
     × ((p : FinalState) → X86FollowsPathsToEnd flat_memory given given.head.init_words items order p → p ≡ end)
-RunResult-same_outcome items order test given o end same is run alone = (
+outcome-unique items order test given o end same is run alone = (
   subst (λ (t : X86Test). X86FollowsPathsToEnd flat_memory t t.head.init_words items order end) same
       (subst (λ (p : FinalState). X86FollowsPathsToEnd flat_memory test test.head.init_words items order p) (sym is) run),
   λ p h. alone p (subst (λ t. X86FollowsPathsToEnd flat_memory t t.head.init_words items order p) (sym same) h) ∙ sym is,
@@ -106,6 +106,7 @@ returns-then-not-is_final-clause-ends g c o stays =
     (sym c.loop-index.invariant.threads) at_end.1 in
     true≢false (sym final ∙ sym c.is_final.ensures ∙ c.if-not-is_final.true)
 
+-- All items were executed and the state is final, so its outcome is the order's only one.
 pub returns-clause-ends : goal.returns-clause-ends
 returns-clause-ends g c =
     let test = program_of c.self.inside.program.now in
@@ -114,7 +115,7 @@ returns-clause-ends g c =
     let final =
     subst (λ (p : List (List Instr)). is_final p now ≡ true) c.loop-index.invariant.threads
     (sym c.is_final.ensures ∙ c.if-not-is_final.false) in
-    RunResult-same_outcome _ _ test _ _ _ (ap (λ r. r.test) c.self.view_is) c.write_outcome.ensures
+    outcome-unique _ _ test _ _ _ (ap (λ r. r.test) c.self.view_is) c.write_outcome.ensures
     (FollowsPathsToEnd-if_final system _ c.loop-index-test.false c.loop-index.invariant.ran.first final)
     (λ o run. (outcome_at_end-unique system c.args.items.now c.loop-index-test.false c.loop-index.invariant.ran.first o run).0)
 
