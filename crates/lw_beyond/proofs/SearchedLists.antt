@@ -22,7 +22,8 @@ IsListOf-searched_source list test (Ok s) ok sorted exactly lists of =
     IsListOf-source_entries test (list s) ok sorted exactly lists of
 IsListOf-searched_source list test (Err e) ok sorted exactly lists of = tt
 
--- The same of an x86 test, whose outcomes and schedules are over caches of each protocol.
+-- If a search of an x86 test succeeds, and its list is sorted and has exactly the test's outcomes over caches of each protocol,
+-- each with a schedule, the list is the test's.
 pub IsListOf-searched_x86 : {S E : Type 0} (list : S → OutcomeEntries)
     → CachesAreFlat
     → (test : X86Test) (r : Result S E)
@@ -36,7 +37,8 @@ IsListOf-searched_x86 list caches test (Ok s) ok sorted exactly replays of =
     IsListOf-x86_entries caches test (list s) ok sorted exactly replays of
 IsListOf-searched_x86 list caches test (Err e) ok sorted exactly replays of = tt
 
--- If a search of a source test succeeds, and its list shows the test's outcomes at the observed names, it shows the outcomes of the test.
+-- If a search of a source test succeeds, its outcomes are outcomes of the test, and each outcome of the test has the observed
+-- words of one of them, then they are the test's observed outcomes.
 pub AreObservedOutcomesOf-source_search : {S E Kept : Type 0} (list : S → OutcomesWith Kept) (test : SourceTest)
     (names : List Seen) (r : Result S E)
     → names ≡ observed test.head
@@ -51,7 +53,8 @@ AreObservedOutcomesOf-source_search list test names (Ok s) same reached covered 
 }
 AreObservedOutcomesOf-source_search list test names (Err e) same reached covered shapes = tt
 
--- The same of an x86 test, whose outcomes are over caches of each protocol.
+-- If a search of an x86 test succeeds, its outcomes are outcomes over caches of each protocol, and each such outcome has the
+-- observed words of one of them, then they are the test's observed outcomes.
 pub AreObservedOutcomesOf-x86_search : {S E Kept : Type 0} (list : S → OutcomesWith Kept)
     → CachesAreFlat
     → (test : X86Test) (names : List Seen) (r : Result S E)
@@ -68,6 +71,7 @@ AreObservedOutcomesOf-x86_search list caches test names (Ok s) ok same reached c
   shapes = shapes;
 }
   where
+    -- The outcomes of the test are those over MESI caches.
     over : (o : FinalState) → OutcomeOverCaches Mesi test o ↔ OutcomeOf (Of_x86 test) o
     over o = caches Mesi test o (IsWellScoped-well_formed x86_language ok) ok.head.bounded
 AreObservedOutcomesOf-x86_search list caches test names (Err e) ok same reached covered shapes = tt

@@ -29,7 +29,7 @@ pub fn command_of(words: &[&str]) -> Option<Command> {
                 let [number, after @ ..] = others else {
                     return None;
                 };
-                budget = Some(budget_of(number)?);
+                budget = Some(parse_budget(number)?);
                 rest = after;
                 continue;
             }
@@ -37,7 +37,7 @@ pub fn command_of(words: &[&str]) -> Option<Command> {
         }
         rest = others;
     }
-    let output = output_of(rest)?;
+    let output = parse_output(rest)?;
     let request = Request {
         output,
         search,
@@ -50,7 +50,7 @@ pub fn command_of(words: &[&str]) -> Option<Command> {
 }
 
 /// Parses a word of digits as a number. Returns `None` for any other word and for a number that does not fit.
-fn budget_of(word: &str) -> Option<usize> {
+fn parse_budget(word: &str) -> Option<usize> {
     if !word.bytes().all(|byte| byte.is_ascii_digit()) {
         return None;
     }
@@ -58,7 +58,7 @@ fn budget_of(word: &str) -> Option<usize> {
 }
 
 /// Returns the output that the only word names. Returns `None` if it names none, or there is not exactly one word.
-fn output_of(words: &[&str]) -> Option<Output> {
+fn parse_output(words: &[&str]) -> Option<Output> {
     let [word] = words else {
         return None;
     };

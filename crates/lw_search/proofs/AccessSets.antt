@@ -5,8 +5,9 @@ use Rattle.lw_search.proofs.Common.{slice_get, Some, Instr, access_bit, Lacks, w
 use Rattle.lw_search.proofs.Common.{bit_at_set_same, bit_at_set_other, bit_at-lt, and_pow, one_shl, pow_pos}
 use Rattle.lw_search.proofs.Common.{bit_and, nat_eq, unsigned_Decides, refl, Outlook, Outlooks, Processor, []}
 use Rattle.lw_search.proofs.Common.{◌∷◌, ◌++◌, take, if◌then◌else◌, slice_get-append_cases, DescribeRows}
-use Rattle.lw_search.proofs.Common.{DescribeThread, length-append, length-take-le, slice_set, get-set_same}
-use Rattle.lw_search.proofs.Common.{get-set_other, le-max_left, le-max_right, slice_get_within}
+use Rattle.lw_search.proofs.Common.{DescribeThread, length-append, length-take-le, slice_set}
+use Rattle.lw_search.proofs.Common.{slice_get-slice_set_same, slice_get-slice_set_other, le-max_left}
+use Rattle.lw_search.proofs.Common.{le-max_right, slice_get_within}
 
 -- If a set lacks an access after one more access was added, it lacked it before.
 pub Lacks-before : (set k x : ℕ) (w : Bool) → k < 32 → Lacks (bit_or set (1 * 2 ^ k % 4294967296)) x w → Lacks set x w
@@ -18,7 +19,7 @@ Lacks-before set k x w within lacks = elim (cases_eq (access_bit x w) k) [
   | inr apart ↦ sym (bit_at_set_other w32 set k within (access_bit x w) apart) ∙ lacks
 ]
 
--- A set has the access that is added.
+-- In a set to which an access was added, the access's bit is not 0.
 pub not-Lacks-added : (set k : ℕ) → k < 32 → bit_at (bit_or set (1 * 2 ^ k % 4294967296)) k ≡ 0 → ⊥
 not-Lacks-added set k within none = let one = bit_at_set_same w32 set k within in omega (arith, one, none)
 
@@ -42,6 +43,7 @@ bit_at-zero_if_tested set k within test =
     let none : bit_and set (2 ^ k) ≡ 0 = ap (bit_and set) (sym (one_shl k 32 within)) ∙ (unsigned_Decides _ _).0 test in
     go (bit_at set k) (bit_at-lt set k) (sym (and_pow set k) ∙ none)
   where
+    -- A binary digit that is 0 when it is shifted is 0.
     go : (b : ℕ) → b < 2 → b * 2 ^ k ≡ 0 → b ≡ 0
     go zero lt e = refl
     go (suc zero) lt e = absurd (let positive = pow_pos k in omega (arith, e, positive))
@@ -63,10 +65,10 @@ module _ (Holds : ℕ → Outlook → Type 0) where
   HoldsOfFirst-set outlooks n old new at first holds u lt = elim (cases_eq u n) [
     | inl same ↦
         subst (λ v. (o : Outlook) × (slice_get (slice_set outlooks n new) v ≡ Some o) × Holds v o) (sym same)
-        (new, get-set_same outlooks n new old at, holds)
+        (new, slice_get-slice_set_same outlooks n new old at, holds)
     | inr apart ↦
         let before = first u (omega (arith, lt, apart)) in
-        (before.0, get-set_other outlooks n u new (λ e. apart (sym e)) ∙ before.1, before.2)
+        (before.0, slice_get-slice_set_other outlooks n u new (λ e. apart (sym e)) ∙ before.1, before.2)
   ]
 
 -- ---- rows of outlooks
@@ -90,12 +92,15 @@ pub DescribeRows-appended : (program : List (List Instr)) (states new : List Pro
 DescribeRows-appended program states new rows p row is_known is before describes =
     record { enough = subst (λ n. length new ≤ n) (sym size) (at_most is_known is); describe = describe is_known is }
   where
+    -- As many rows remain as states were known.
     length_of_taken : length (take (length states) rows) ≡ length states
     length_of_taken = length-take-le (length states) rows before.enough
 
+    -- With the appended row there is one row more than known states.
     size : length (take (length states) rows ++ row ∷ []) ≡ length states + 1
     size = length-append (take (length states) rows) (row ∷ []) ∙ ap (λ n. n + 1) length_of_taken
 
+    -- There is at most one new state more than known states; b says that the state is known.
     at_most : (b : Bool) → new ≡ (if b then states else (states ++ p ∷ [])) → length new ≤ length states + 1
     at_most true e = let l = ap length e in omega (arith, l)
     at_most false e = let l = ap length e ∙ length-append states (p ∷ []) in omega (arith, l)
@@ -110,6 +115,7 @@ DescribeRows-appended program states new rows p row is_known is before describes
       | inr new ↦ absurd (let lt = slice_get_within states i q at in omega (arith, lt, new.0, length_of_taken))
     ]
 
+    -- By whether the state is known: the row at the index of each new state describes it.
     describe : (b : Bool)
         → new ≡ (if b then states else (states ++ p ∷ []))
         → (i : ℕ) (q : Processor) (r : Outlooks)

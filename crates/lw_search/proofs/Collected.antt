@@ -108,7 +108,7 @@ module _ (program : List (List Instr)) (tables : Components) (key : List ℕ) wh
 
 -- ---- schedules
 
--- The start needs no events; it is the state whose parent is not before it.
+-- A state whose parent is not before it is the start, which is reached without events.
 pub ReachesIndex-start : (visited : FoundStates) (index : ℕ) (origin : Origin)
     → slice_get visited.origins index ≡ Some origin
     → index ≤ origin.parent
@@ -118,11 +118,11 @@ ReachesIndex-start visited zero origin at not program start tables found closed 
 ReachesIndex-start visited (suc i) origin at not program start tables found closed s invariant there =
     let predecessor = invariant.predecessor i origin s at there in absurd (omega (arith, predecessor.before, not))
 
--- A number without a row has no events.
+-- A number of a run without a row has no events.
 pub events_at-none : (runs : List (List (ℕ × Bool))) (n : ℕ) → slice_get runs n ≡ None → events_at runs n ≡ []
 events_at-none runs n none = ap events_of (get_or_past runs n [] (length-past runs n none))
 
--- There is no state past the end of the table.
+-- An index past the end of the table has no state, and is reached without events.
 pub ReachesIndex-past : (visited : FoundStates) (index : ℕ)
     → slice_get visited.origins index ≡ None
     → ReachesIndex visited index []
@@ -212,6 +212,7 @@ module _ (program : List (List Instr)) (tables : Components) (visited : FoundSta
         (All-push (LeadsTo IsScheduleOf program start) es (o, schedule) a to);
   }
     where
+      -- The outcomes of the new entries are those of the old ones, followed by o.
       keys : outcomes_of fs ≡ outcomes_of es ++ o ∷ []
       keys = ap outcomes_of grown ∙ map-append _ es ((o, schedule) ∷ [])
 

@@ -29,11 +29,12 @@ pub use Rattle.std.specs.Option.{option_or}
 pub use mathlib.Core.Bool.{beq}
 pub use Rattle.lw_base.proofs.Common.{ContainsWordsOf, FinalState, HasOutcomeShape, IsDuplicateFree}
 pub use Rattle.lw_base.proofs.Common.{IsListedOutcome, final_word, final_words, most_locations, thread_code}
-pub use Rattle.lw_base.proofs.api.Lists.{get-append_middle, get-set_other, get-set_same, set-get_same}
-pub use Rattle.lw_base.proofs.api.Lists.{slice_get-append_cases, slice_get-in_range, take-suc}
+pub use Rattle.lw_base.proofs.api.Lists.{set-get_same, slice_get-append_cases, slice_get-append_middle}
+pub use Rattle.lw_base.proofs.api.Lists.{slice_get-in_range, slice_get-slice_set_other}
+pub use Rattle.lw_base.proofs.api.Lists.{slice_get-slice_set_same, take-suc}
 pub use Rattle.lw_base.proofs.api.Members.{Contains-cons, Contains-head, Contains-tail, not-Contains-nil}
 pub use Rattle.lw_base.proofs.api.Replays.{RunsTo-append}
-pub use Rattle.lw_base.proofs.api.Zips.{get-map, list_all_zip-at_index, list_all_zip-of_each}
+pub use Rattle.lw_base.proofs.api.Zips.{list_all_zip-at_index, list_all_zip-of_each, slice_get-map_inv}
 pub use Rattle.lw_base.specs.declared.event.Event.{Event}
 pub use Rattle.lw_base.specs.declared.event.Event.TheVariants.{Drain, Evict, Step}
 pub use Rattle.lw_base.specs.declared.head.Seen.{Seen}

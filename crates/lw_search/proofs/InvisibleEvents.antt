@@ -4,23 +4,23 @@
 use Rattle.lw_search.proofs.Common.{◌≡◌, ◌≢◌, ℕ, suc, ◌<◌, ◌≤◌, inl, inr, ⊎_elim, Bool, true, false}
 use Rattle.lw_search.proofs.Common.{true≢false, Option, Some, None, Ok, List, [], ◌∷◌, length, refl, sym, ap}
 use Rattle.lw_search.proofs.Common.{ap₂, if◌then◌else◌, ◌∙◌, subst, arith, slice_get, slice_set, slice_index}
-use Rattle.lw_search.proofs.Common.{IsTrue, and_parts, leb-true, nat_le, nat_lt, ◌==◌, set-set, get-set_same}
-use Rattle.lw_search.proofs.Common.{get-set_other, cases_eq, same_Some, slice_get_within, length-set}
-use Rattle.lw_search.proofs.Common.{slice_get-in_range, get_or_from_slice_get, list_all_zip-at_index}
-use Rattle.lw_search.proofs.Common.{get_or-set_same, get_or-set_other, option_or, Event, Step, Drain, Evict}
-use Rattle.lw_search.proofs.Common.{thread_code, flat_memory, Instr, x86_operation, Operation, NoLocation}
-use Rattle.lw_search.proofs.Common.{Set, Sum, Compare, Store, Load, FetchAdd, Branch, location_of, is_store}
-use Rattle.lw_search.proofs.Common.{is_locked, Processor, EventEffect, LocalStep, MemoryAccess, Refused}
-use Rattle.lw_search.proofs.Common.{Eviction, cpu_of, event_effect, step_effect, drain_effect}
-use Rattle.lw_search.proofs.Common.{operation_effect, load_effect, newest_buffered, MachineTransition}
-use Rattle.lw_search.proofs.Common.{MachineRunsTo, has_terminated, is_final, accessed_location, event_writes}
-use Rattle.lw_search.proofs.Common.{DoNotConflict, AreIndependent, TransitionAt, IsAtPosition, eq-eqb, state}
-use Rattle.lw_search.proofs.Common.{EffectLeadsTo, EventOccurrence, MachineTransition-of_effect}
-use Rattle.lw_search.proofs.Common.{EventOccurrence-of_event, MachineTransition-deterministic}
-use Rattle.lw_search.proofs.Common.{not-EffectLeadsTo-evict_event, EventsCommute-independent}
-use Rattle.lw_search.proofs.Common.{position_of-in_range, OperationTransition, Buffers}
-use Rattle.lw_search.proofs.Common.{accessed_location-of_operation, OperationTransition-of_effect, Swap}
-use Rattle.lw_search.proofs.Common.{writes, slice_get-append_cases, ◌||◌, eqb-true, operation_access}
+use Rattle.lw_search.proofs.Common.{IsTrue, and_parts, leb-true, nat_le, nat_lt, ◌==◌, set-set}
+use Rattle.lw_search.proofs.Common.{slice_get-slice_set_same, slice_get-slice_set_other, cases_eq, same_Some}
+use Rattle.lw_search.proofs.Common.{slice_get_within, length-set, slice_get-in_range, get_or_from_slice_get}
+use Rattle.lw_search.proofs.Common.{list_all_zip-at_index, get_or-set_same, get_or-set_other, option_or}
+use Rattle.lw_search.proofs.Common.{Event, Step, Drain, Evict, thread_code, flat_memory, Instr, x86_operation}
+use Rattle.lw_search.proofs.Common.{Operation, NoLocation, Set, Sum, Compare, Store, Load, FetchAdd, Branch}
+use Rattle.lw_search.proofs.Common.{location_of, is_store, is_locked, Processor, EventEffect, LocalStep}
+use Rattle.lw_search.proofs.Common.{MemoryAccess, Refused, Eviction, cpu_of, event_effect, step_effect}
+use Rattle.lw_search.proofs.Common.{drain_effect, operation_effect, load_effect, newest_buffered}
+use Rattle.lw_search.proofs.Common.{MachineTransition, MachineRunsTo, has_terminated, is_final}
+use Rattle.lw_search.proofs.Common.{accessed_location, event_writes, DoNotConflict, AreIndependent}
+use Rattle.lw_search.proofs.Common.{TransitionAt, IsAtPosition, eq-eqb, state, EffectLeadsTo, EventOccurrence}
+use Rattle.lw_search.proofs.Common.{MachineTransition-of_effect, EventOccurrence-of_event}
+use Rattle.lw_search.proofs.Common.{MachineTransition-deterministic, not-EffectLeadsTo-evict_event}
+use Rattle.lw_search.proofs.Common.{EventsCommute-independent, position_of-in_range, OperationTransition}
+use Rattle.lw_search.proofs.Common.{Buffers, accessed_location-of_operation, OperationTransition-of_effect}
+use Rattle.lw_search.proofs.Common.{Swap, writes, slice_get-append_cases, ◌||◌, eqb-true, operation_access}
 use Rattle.lw_search.proofs.Common.{step_access, drain_access, event_access, NeverConflicts, IsUncontended}
 use Rattle.lw_search.proofs.Common.{IsInvisible, IsForward, State, Covers}
 use Rattle.lw_memory.specs.declared.request.Access.TheVariants as to
@@ -43,13 +43,13 @@ EffectLeadsTo-other_memory (LocalStep next) m n k q d = (next, k, (refl, refl))
 EffectLeadsTo-other_memory (MemoryAccess x access next) m n k q d = (_, _, (refl, refl))
 EffectLeadsTo-other_memory _ m n k q d = absurd d
 
--- A step that is enabled has an instruction.
+-- The optional instruction is present, and its operation leads from the processor p and the words m to q and n.
 record HasInstr (o : Option Instr) (p q : Processor) (m n : List ℕ) : Type 0 where
   instr : Instr
   instr_is : o ≡ Some instr
   does : EffectLeadsTo m (operation_effect (x86_operation instr) p) q n
 
--- A step that is enabled has an instruction.
+-- If the effect of a step leads from p and m to q and n, there is an instruction whose operation does so.
 HasInstr-of_step : (o : Option Instr) (p q : Processor) (m n : List ℕ)
     → EffectLeadsTo m (step_effect o p) q n
     → HasInstr o p q m n
@@ -75,6 +75,7 @@ record DrainEffect (p q : Processor) (m n : List ℕ) : Type 0 where
 DrainEffect-of_drain : (p q : Processor) (m n : List ℕ) → EffectLeadsTo m (drain_effect p.buffer p) q n → DrainEffect p q m n
 DrainEffect-of_drain p q m n does = go p.buffer refl does
   where
+    -- By whether the store buffer has an entry.
     go : (b : List (ℕ × ℕ)) → p.buffer ≡ b → EffectLeadsTo m (drain_effect b p) q n → DrainEffect p q m n
     go [] e d = absurd d
     go (entry ∷ newer) e d = record {
@@ -94,7 +95,9 @@ record PassesDrain (entry : ℕ × ℕ) (o : Operation) (rest q : Processor) (m 
   memory_unchanged : n ≡ m
   does : EffectLeadsTo (slice_set m entry.0 entry.1) (operation_effect o rest) new (slice_set m entry.0 entry.1)
 
--- A load beside the drain of an entry: `found` is the newest word of the other entries, `same` says whether the entry is for the location.
+-- If a load leads from the processor with the entry as its oldest to q, then q has this entry as its oldest too, memory is
+-- unchanged, and over memory after the drain the load leads from the processor without the entry to q without it. `found` is
+-- the newest word of the other entries, and `same` says whether the entry is for the location.
 load_effect-after_drain : (entry : ℕ × ℕ) (x : ℕ) (next : ℕ → Processor) (q : Processor) (m n : List ℕ) (found : Option ℕ)
     (same : Bool)
     → (entry.0 == x) ≡ same
@@ -129,8 +132,8 @@ PassesDrain-local entry o rest next q m n act is memory_unchanged = record {
   does = subst (λ a. EffectLeadsTo (slice_set m entry.0 entry.1) a next (slice_set m entry.0 entry.1)) (sym act) (refl, refl);
 }
 
--- An operation that does not wait commutes with the drain of the oldest entry: a load of the entry's own location is forwarded the
--- word before the drain, and reads it from memory after it.
+-- An operation that can be executed while the entry is in the buffer commutes with the drain of the oldest entry, if the entry's
+-- location exists when the operation loads it: the load is forwarded the word before the drain, and reads it from memory after it.
 PassesDrain-operation : (entry : ℕ × ℕ) (o : Operation) (rest q : Processor) (m n : List ℕ)
     → ((x : ℕ) → operation_access o ≡ Some (x, false) → entry.0 ≡ x → x < length m)
     → EffectLeadsTo m (operation_effect o (with_oldest entry rest)) q n
@@ -151,7 +154,7 @@ PassesDrain-operation entry _ rest q m n range does = absurd does
 
 -- ---- accesses
 
--- The location that an effect accesses is that of its operation's access, and the effect writes it only if the access does.
+-- The location that an effect accesses is that of its operation's access, and the effect writes it if and only if the access does.
 operation_access-of_effect : (o : Operation) (p : Processor) (x : ℕ)
     → accessed_location (operation_effect o p) ≡ Some x
     → operation_access o ≡ Some (x, event_writes (operation_effect o p))
@@ -171,14 +174,14 @@ step_access-of_effect : (o : Option Instr) (p : Processor) (x : ℕ)
 step_access-of_effect None p x at = absurd cc
 step_access-of_effect (Some i) p x at = operation_access-of_effect (x86_operation i) p x at
 
--- The location that a drain accesses is that of the oldest entry, and it is written.
+-- If a drain's effect accesses a location, so does the access of the oldest entry, and it writes if and only if the effect does.
 drain_access-of_effect : (b : List (ℕ × ℕ)) (p : Processor) (x : ℕ)
     → accessed_location (drain_effect b p) ≡ Some x
     → drain_access b ≡ Some (x, event_writes (drain_effect b p))
 drain_access-of_effect [] p x at = absurd cc
 drain_access-of_effect (entry ∷ newer) p x at = ap (λ z. Some (z, true)) (same_Some entry.0 x at)
 
--- The effect of an eviction event accesses no location.
+-- The effect of an eviction event, whether the location exists (b) or not, accesses no location.
 no_access-of_eviction : (b : Bool) (x y : ℕ) → accessed_location (if b then Eviction x else Refused NoLocation) ≡ Some y → ⊥
 no_access-of_eviction true x y at = cc
 no_access-of_eviction false x y at = cc
@@ -191,6 +194,7 @@ is_locked-false_if_no_conflict : (written : Bool) (o : Operation)
 is_locked-false_if_no_conflict true o never = absurd (never refl)
 is_locked-false_if_no_conflict false o never = (refl, go (is_store o) (is_locked o) never)
   where
+    -- If a disjunction is not true, its second part is false.
     go : (a b : Bool) → ((a || b) ≡ true → ⊥) → b ≡ false
     go true b n = absurd (n refl)
     go false true n = absurd (n refl)
@@ -219,6 +223,7 @@ module _ (program : List (List Instr)) (forward : IsForward program) where
       → (written ≡ false) × (event_writes (event_effect program locs f p) ≡ false)
   not_written-if_never_conflicts locs (Step t) p x written never at = go (slice_get (thread_code program t) p.position) refl at
     where
+      -- By whether the thread has an instruction at its position.
       go : (o : Option Instr)
           → slice_get (thread_code program t) p.position ≡ o
           → accessed_location (step_effect o p) ≡ Some x
@@ -231,6 +236,7 @@ module _ (program : List (List Instr)) (forward : IsForward program) where
           (n.0, sym h.1 ∙ n.1)
   not_written-if_never_conflicts locs (Drain t) p x written never at = go p.buffer refl at
     where
+      -- By whether the store buffer has an entry.
       go : (b : List (ℕ × ℕ))
           → p.buffer ≡ b
           → accessed_location (drain_effect b p) ≡ Some x
@@ -248,9 +254,11 @@ module _ (program : List (List Instr)) (forward : IsForward program) where
   NeverConflicts-step t p q i x written at went never =
       record { entries = λ k entry is. entries went.buffers k entry is; instructions = instructions }
     where
+      -- The step advances the position.
       position_lt : p.position < q.position
       position_lt = forward t p.position q.position i at went.leads
 
+      -- No entry of the store buffer after the step is for x: each is an entry from before, or that of the instruction.
       entries : Buffers (x86_operation i) p.buffer q.buffer
           → (k : ℕ) (entry : ℕ × ℕ)
           → slice_get q.buffer k ≡ Some entry
@@ -262,6 +270,7 @@ module _ (program : List (List Instr)) (forward : IsForward program) where
           (conflicts-if_store written (x86_operation i) added.1))
           (slice_get-append_cases p.buffer added.0 entry k (ap (λ b. slice_get b k) (sym added.3) ∙ is))
 
+      -- No instruction from the new position on conflicts with the access, since it is one from the old position on.
       instructions : (j : ℕ) (k : Instr)
           → q.position ≤ j
           → slice_get (thread_code program t) j ≡ Some k
@@ -309,6 +318,7 @@ module _ (program : List (List Instr)) (forward : IsForward program) where
     others = others;
   }
     where
+      -- No other thread in `mid` conflicts with the access, now or later.
       others : (u : ℕ) (p : Processor)
           → u ≢ t
           → slice_get mid.processors u ≡ Some p
@@ -317,7 +327,7 @@ module _ (program : List (List Instr)) (forward : IsForward program) where
         | inl same ↦
             let is : d.to ≡ p =
             same_Some d.to p
-            (sym (get-set_same s.processors (cpu_of f) d.to d.from d.was)
+            (sym (slice_get-slice_set_same s.processors (cpu_of f) d.to d.from d.was)
             ∙ ap (λ v. slice_get (slice_set s.processors (cpu_of f) d.to) v) (sym same)
             ∙ ap (λ (z : State). slice_get z.processors u) (sym d.state_is)
             ∙ at) in
@@ -329,7 +339,7 @@ module _ (program : List (List Instr)) (forward : IsForward program) where
             (subst (λ r. NeverConflicts (thread_code program (cpu_of f)) r access.0 access.1) is after)
         | inr apart ↦
             free.others u p ne
-            (sym (get-set_other s.processors (cpu_of f) u d.to (λ e. apart (sym e)))
+            (sym (slice_get-slice_set_other s.processors (cpu_of f) u d.to (λ e. apart (sym e)))
             ∙ ap (λ (z : State). slice_get z.processors u) (sym d.state_is)
             ∙ at)
       ]
@@ -344,7 +354,7 @@ module _ (program : List (List Instr)) (forward : IsForward program) where
     f_enabled : MachineTransition flat_memory program f first (Ok tt) end
     invisible_in_mid : IsInvisible program e mid
 
-  -- The position of a thread whose next instruction is to be executed.
+  -- If a state has the thread of an event, the event is at some position in this state.
   IsAtPosition-exists : (e : Event) (s : State) (p : Processor)
       → slice_get s.processors (cpu_of e) ≡ Some p
       → (j : ℕ) × IsAtPosition e j s
@@ -385,12 +395,12 @@ module _ (program : List (List Instr)) (forward : IsForward program) where
   module _ (e f : Event) (s first mid : State) (enabled : MachineTransition flat_memory program e s (Ok tt) first)
       (invisible : IsInvisible program e s) (done : MachineTransition flat_memory program f s (Ok tt) mid) where
     -- The occurrence of e in the state s.
-    d : EventOccurrence program e s first
-    d = EventOccurrence-of_event program e s first enabled
+    e_occurs : EventOccurrence program e s first
+    e_occurs = EventOccurrence-of_event program e s first enabled
 
     -- The occurrence of f in the state s.
-    g : EventOccurrence program f s mid
-    g = EventOccurrence-of_event program f s mid done
+    f_occurs : EventOccurrence program f s mid
+    f_occurs = EventOccurrence-of_event program f s mid done
 
     -- The effects of an invisible event and of another thread's event do not conflict.
     do_not_conflict : cpu_of f ≢ cpu_of e
@@ -409,48 +419,55 @@ module _ (program : List (List Instr)) (forward : IsForward program) where
     -- An invisible event can be exchanged with an event of another thread, and is invisible after it.
     AreExchangedInvisibly-other_thread : cpu_of f ≢ cpu_of e → AreExchangedInvisibly e f first mid
     AreExchangedInvisibly-other_thread ne = record {
-      end = z.0;
-      e_enabled = z.1;
-      f_enabled = subst (λ o. MachineTransition flat_memory program f o (Ok tt) z.0) other_is_first x.2.done;
+      end = e_in_mid.0;
+      e_enabled = e_in_mid.1;
+      f_enabled = subst (λ o. MachineTransition flat_memory program f o (Ok tt) e_in_mid.0) other_is_first other_order.2.done;
       invisible_in_mid =
-          λ p access at is. IsUncontended-after f s mid (cpu_of e) access g (invisible p access (thread_in_s p at) is);
+          λ p access at is. IsUncontended-after f s mid (cpu_of e) access f_occurs (invisible p access (thread_in_s p at) is);
     }
       where
         -- The thread of e has in s the state that it has in `mid`, after an event of another thread.
         thread_in_s : (p : Processor) → slice_get mid.processors (cpu_of e) ≡ Some p → slice_get s.processors (cpu_of e) ≡ Some p
         thread_in_s p at =
-            sym (get-set_other s.processors (cpu_of f) (cpu_of e) g.to ne)
-            ∙ ap (λ (y : State). slice_get y.processors (cpu_of e)) (sym g.state_is)
+            sym (slice_get-slice_set_other s.processors (cpu_of f) (cpu_of e) f_occurs.to ne)
+            ∙ ap (λ (y : State). slice_get y.processors (cpu_of e)) (sym f_occurs.state_is)
             ∙ at
 
-        -- And in `mid` the one that it has in s.
-        thread_in_mid : slice_get mid.processors (cpu_of e) ≡ Some d.from
+        -- The thread of e has in `mid` the state that it has in s.
+        thread_in_mid : slice_get mid.processors (cpu_of e) ≡ Some e_occurs.from
         thread_in_mid =
-            ap (λ (y : State). slice_get y.processors (cpu_of e)) g.state_is
-            ∙ get-set_other s.processors (cpu_of f) (cpu_of e) g.to ne
-            ∙ d.was
+            ap (λ (y : State). slice_get y.processors (cpu_of e)) f_occurs.state_is
+            ∙ slice_get-slice_set_other s.processors (cpu_of f) (cpu_of e) f_occurs.to ne
+            ∙ e_occurs.was
 
-        z : (end : State) × MachineTransition flat_memory program e mid (Ok tt) end
-        z = MachineTransition-same_thread e s first mid d.from enabled d.was thread_in_mid
+        -- The event e is enabled in `mid`.
+        e_in_mid : (end : State) × MachineTransition flat_memory program e mid (Ok tt) end
+        e_in_mid = MachineTransition-same_thread e s first mid e_occurs.from enabled e_occurs.was thread_in_mid
 
+        -- The events f and e are independent in s.
         independent : AreIndependent program f e s
         independent = record { of_two = λ n r p at and. do_not_conflict ne r p at and; of_one = λ same. absurd (ne same) }
 
-        j : (j : ℕ) × IsAtPosition f j s
-        j = IsAtPosition-exists f s g.from g.was
+        -- The event f is at some position in s.
+        f_position : (j : ℕ) × IsAtPosition f j s
+        f_position = IsAtPosition-exists f s f_occurs.from f_occurs.was
 
-        k : (k : ℕ) × IsAtPosition e k mid
-        k = IsAtPosition-exists e mid d.from thread_in_mid
+        -- The event e is at some position in `mid`.
+        e_position : (k : ℕ) × IsAtPosition e k mid
+        e_position = IsAtPosition-exists e mid e_occurs.from thread_in_mid
 
         -- The same two events in the other order, from s through `other`.
-        x : (other : State) × TransitionAt flat_memory program e k.0 s other × TransitionAt flat_memory program f j.0 other z.0
-        x =
-            EventsCommute-independent program f e s independent j.0 k.0 mid z.0 (record { is_at_position = j.1; done = done })
-            (record { is_at_position = k.1; done = z.1 })
+        other_order : (other : State)
+            × TransitionAt flat_memory program e e_position.0 s other
+            × TransitionAt flat_memory program f f_position.0 other e_in_mid.0
+        other_order =
+            EventsCommute-independent program f e s independent f_position.0 e_position.0 mid e_in_mid.0
+            (record { is_at_position = f_position.1; done = done }) (record { is_at_position = e_position.1; done = e_in_mid.1 })
 
         -- The state `other` is that after e, since an event has one result.
-        other_is_first : x.0 ≡ first
-        other_is_first = (MachineTransition-deterministic program e s x.0 first (Ok tt) (Ok tt) x.1.done enabled).1
+        other_is_first : other_order.0 ≡ first
+        other_is_first =
+            (MachineTransition-deterministic program e s other_order.0 first (Ok tt) (Ok tt) other_order.1.done enabled).1
 
   -- ---- the step and the drain of one thread
 
@@ -478,79 +495,105 @@ module _ (program : List (List Instr)) (forward : IsForward program) where
       → MachineTransition flat_memory program (Drain t) s (Ok tt) drained
       → StepDrainDiamond t s stepped drained
   StepDrainDiamond-of_thread t s stepped drained range step drain = record {
-    entry = b.entry;
-    rest = b.rest;
-    new = i.new;
+    entry = drained_entry.entry;
+    rest = drained_entry.rest;
+    new = after_drain.new;
     was = was;
     stepped_at =
         ap (λ (z : State). slice_get z.processors t) stepped_is
-        ∙ get-set_same s.processors t held (with_oldest b.entry b.rest) was;
+        ∙ slice_get-slice_set_same s.processors t stepped_processor (with_oldest drained_entry.entry drained_entry.rest) was;
     drained_at =
         ap (λ (z : State). slice_get z.processors t) drained_is
-        ∙ get-set_same s.processors t b.rest (with_oldest b.entry b.rest) was;
-    end = state (slice_set s.processors t i.new) written;
+        ∙ slice_get-slice_set_same s.processors t drained_entry.rest (with_oldest drained_entry.entry drained_entry.rest) was;
+    end = state (slice_set s.processors t after_drain.new) drained_words;
     drains =
-        subst (λ z. MachineTransition flat_memory program (Drain t) z (Ok tt) (state (slice_set s.processors t i.new) written))
-        (sym stepped_is)
+        subst (λ z.
+        MachineTransition flat_memory program (Drain t) z (Ok tt)
+        (state (slice_set s.processors t after_drain.new) drained_words)) (sym stepped_is)
         (subst (λ ps.
-        MachineTransition flat_memory program (Drain t) (state (slice_set s.processors t held) s.memory) (Ok tt)
-        (state ps written)) (set-set s.processors t held i.new)
-        (MachineTransition-of_effect program (Drain t) (slice_set s.processors t held) held i.new s.memory written
-        (get-set_same s.processors t held (with_oldest b.entry b.rest) was) (refl, refl)));
+        MachineTransition flat_memory program (Drain t) (state (slice_set s.processors t stepped_processor) s.memory) (Ok tt)
+        (state ps drained_words)) (set-set s.processors t stepped_processor after_drain.new)
+        (MachineTransition-of_effect program (Drain t) (slice_set s.processors t stepped_processor) stepped_processor
+        after_drain.new s.memory drained_words
+        (slice_get-slice_set_same s.processors t stepped_processor (with_oldest drained_entry.entry drained_entry.rest) was)
+        (refl, refl)));
     steps =
-        subst (λ z. MachineTransition flat_memory program (Step t) z (Ok tt) (state (slice_set s.processors t i.new) written))
+        subst (λ z.
+        MachineTransition flat_memory program (Step t) z (Ok tt) (state (slice_set s.processors t after_drain.new) drained_words))
         (sym drained_is)
         (subst (λ ps.
-        MachineTransition flat_memory program (Step t) (state (slice_set s.processors t b.rest) written) (Ok tt)
-        (state ps written)) (set-set s.processors t b.rest i.new)
-        (MachineTransition-of_effect program (Step t) (slice_set s.processors t b.rest) b.rest i.new written written
-        (get-set_same s.processors t b.rest (with_oldest b.entry b.rest) was)
-        (subst (λ o. EffectLeadsTo written (step_effect o b.rest) i.new written) (sym instr.instr_is) i.does)));
+        MachineTransition flat_memory program (Step t) (state (slice_set s.processors t drained_entry.rest) drained_words) (Ok tt)
+        (state ps drained_words)) (set-set s.processors t drained_entry.rest after_drain.new)
+        (MachineTransition-of_effect program (Step t) (slice_set s.processors t drained_entry.rest) drained_entry.rest
+        after_drain.new drained_words drained_words
+        (slice_get-slice_set_same s.processors t drained_entry.rest (with_oldest drained_entry.entry drained_entry.rest) was)
+        (subst (λ o. EffectLeadsTo drained_words (step_effect o drained_entry.rest) after_drain.new drained_words)
+        (sym instr.instr_is) after_drain.does)));
   }
     where
-      x : EventOccurrence program (Step t) s stepped
-      x = EventOccurrence-of_event program (Step t) s stepped step
+      -- The occurrence of the step in s.
+      step_occurs : EventOccurrence program (Step t) s stepped
+      step_occurs = EventOccurrence-of_event program (Step t) s stepped step
 
-      y : EventOccurrence program (Drain t) s drained
-      y = EventOccurrence-of_event program (Drain t) s drained drain
+      -- The occurrence of the drain in s.
+      drain_occurs : EventOccurrence program (Drain t) s drained
+      drain_occurs = EventOccurrence-of_event program (Drain t) s drained drain
 
-      same : y.from ≡ x.from
-      same = same_Some y.from x.from (sym y.was ∙ x.was)
+      -- Both begin with the same state of the thread.
+      same_start : drain_occurs.from ≡ step_occurs.from
+      same_start = same_Some drain_occurs.from step_occurs.from (sym drain_occurs.was ∙ step_occurs.was)
 
-      b : DrainEffect x.from y.to s.memory y.words
-      b =
-          DrainEffect-of_drain x.from y.to s.memory y.words
-          (subst (λ (r : Processor). EffectLeadsTo s.memory (drain_effect r.buffer r) y.to y.words) same y.does)
+      -- The drain takes the oldest entry of the thread's store buffer.
+      drained_entry : DrainEffect step_occurs.from drain_occurs.to s.memory drain_occurs.words
+      drained_entry =
+          DrainEffect-of_drain step_occurs.from drain_occurs.to s.memory drain_occurs.words
+          (subst (λ (r : Processor). EffectLeadsTo s.memory (drain_effect r.buffer r) drain_occurs.to drain_occurs.words)
+          same_start drain_occurs.does)
 
-      was : slice_get s.processors t ≡ Some (with_oldest b.entry b.rest)
-      was = x.was ∙ ap Some b.processor_is
+      -- In s the thread has the processor `rest` with the entry as its oldest.
+      was : slice_get s.processors t ≡ Some (with_oldest drained_entry.entry drained_entry.rest)
+      was = step_occurs.was ∙ ap Some drained_entry.processor_is
 
-      instr : HasInstr (slice_get (thread_code program t) b.rest.position) (with_oldest b.entry b.rest) x.to s.memory x.words
+      -- The step executes an instruction.
+      instr : HasInstr (slice_get (thread_code program t) drained_entry.rest.position)
+          (with_oldest drained_entry.entry drained_entry.rest) step_occurs.to s.memory step_occurs.words
       instr =
-          HasInstr-of_step (slice_get (thread_code program t) b.rest.position) (with_oldest b.entry b.rest) x.to s.memory x.words
-          (subst
-          (λ (r : Processor). EffectLeadsTo s.memory (step_effect (slice_get (thread_code program t) r.position) r) x.to x.words)
-          b.processor_is x.does)
+          HasInstr-of_step (slice_get (thread_code program t) drained_entry.rest.position)
+          (with_oldest drained_entry.entry drained_entry.rest) step_occurs.to s.memory step_occurs.words
+          (subst (λ (r : Processor).
+          EffectLeadsTo s.memory (step_effect (slice_get (thread_code program t) r.position) r) step_occurs.to step_occurs.words)
+          drained_entry.processor_is step_occurs.does)
 
-      i : PassesDrain b.entry (x86_operation instr.instr) b.rest x.to s.memory x.words
-      i =
-          PassesDrain-operation b.entry (x86_operation instr.instr) b.rest x.to s.memory x.words (λ l access e.
-          range (with_oldest b.entry b.rest) l was (ap step_access instr.instr_is ∙ access) (ap (λ z. Some (z, true)) e))
-          instr.does
+      -- The instruction can be executed after the drain.
+      after_drain :
+          PassesDrain drained_entry.entry (x86_operation instr.instr) drained_entry.rest step_occurs.to s.memory step_occurs.words
+      after_drain =
+          PassesDrain-operation drained_entry.entry (x86_operation instr.instr) drained_entry.rest step_occurs.to s.memory
+          step_occurs.words (λ l access e.
+          range (with_oldest drained_entry.entry drained_entry.rest) l was (ap step_access instr.instr_is ∙ access)
+          (ap (λ z. Some (z, true)) e)) instr.does
 
-      held : Processor
-      held = with_oldest b.entry i.new
+      -- The processor after the step, which still has the entry.
+      stepped_processor : Processor
+      stepped_processor = with_oldest drained_entry.entry after_drain.new
 
-      written : List ℕ
-      written = slice_set s.memory b.entry.0 b.entry.1
+      -- Memory after the drain.
+      drained_words : List ℕ
+      drained_words = slice_set s.memory drained_entry.entry.0 drained_entry.entry.1
 
-      stepped_is : stepped ≡ state (slice_set s.processors t held) s.memory
-      stepped_is = x.state_is ∙ ap₂ (λ q m. state (slice_set s.processors t q) m) i.processor_is i.memory_unchanged
+      -- The step leads to the state with that processor and the words of s.
+      stepped_is : stepped ≡ state (slice_set s.processors t stepped_processor) s.memory
+      stepped_is =
+          step_occurs.state_is
+          ∙ ap₂ (λ q m. state (slice_set s.processors t q) m) after_drain.processor_is after_drain.memory_unchanged
 
-      drained_is : drained ≡ state (slice_set s.processors t b.rest) written
-      drained_is = y.state_is ∙ ap₂ (λ q m. state (slice_set s.processors t q) m) b.end_processor_is b.words
+      -- The drain leads to the state with the processor `rest` and memory after the drain.
+      drained_is : drained ≡ state (slice_set s.processors t drained_entry.rest) drained_words
+      drained_is =
+          drain_occurs.state_is
+          ∙ ap₂ (λ q m. state (slice_set s.processors t q) m) drained_entry.end_processor_is drained_entry.words
 
-  -- The step is invisible, and the drain comes first.
+  -- An invisible step of a thread can be exchanged with a drain of the same thread, and is invisible after it.
   AreExchangedInvisibly-own_drain : (t : ℕ) (s first mid : State)
       → MachineTransition flat_memory program (Step t) s (Ok tt) first
       → IsInvisible program (Step t) s
@@ -571,7 +614,7 @@ module _ (program : List (List Instr)) (forward : IsForward program) where
             (ap (λ (r : Processor). step_access (slice_get (thread_code program t) r.position)) same ∙ is));
       }
 
-  -- The drain is invisible, and the step comes first.
+  -- An invisible drain of a thread can be exchanged with a step of the same thread, and is invisible after it.
   AreExchangedInvisibly-own_step : (t : ℕ) (s first mid : State)
       → MachineTransition flat_memory program (Drain t) s (Ok tt) first
       → IsInvisible program (Drain t) s
@@ -592,14 +635,14 @@ module _ (program : List (List Instr)) (forward : IsForward program) where
 
   -- ---- runs
 
-  -- A run that is at most as long.
+  -- Some run leads from the state `from` to `end`, and has at most as many events as these.
   record ShorterRun (events : List Event) (from end : State) : Type 0 where
     more : List Event
     no_longer : length more ≤ length events
     ran : MachineRunsTo flat_memory program more from end
 
   module _ (es : List Event) (s first mid end : State) (ran : MachineRunsTo flat_memory program es mid end) where
-    -- If the run's first event is the invisible one, the rest of the run starts after it, and is shorter.
+    -- If the run's first event is the invisible one, the rest of the run starts after it, and is no longer.
     ShorterRun-same_event : (e : Event)
         → MachineTransition flat_memory program e s (Ok tt) first
         → MachineTransition flat_memory program e s (Ok tt) mid
@@ -612,7 +655,8 @@ module _ (program : List (List Instr)) (forward : IsForward program) where
           (MachineTransition-deterministic program e s mid first (Ok tt) (Ok tt) done enabled).1 ran;
     }
 
-    -- If the run's first event can be exchanged with the invisible one, and the claim holds for the rest of the run, it holds for the run.
+    -- If the run's first event f can be exchanged with the invisible event e, and for the rest of the run there is a run that
+    -- is no longer from the state after e, so there is for the whole run.
     ShorterRun-exchanged : (e f : Event)
         → ((next : State)
         → MachineTransition flat_memory program e mid (Ok tt) next
@@ -624,7 +668,8 @@ module _ (program : List (List Instr)) (forward : IsForward program) where
         let r = rest both.end both.e_enabled both.invisible_in_mid in
         record { more = f ∷ r.more; no_longer = omega (arith, r.no_longer); ran = (both.end, both.f_enabled, r.ran) }
 
-    -- The run's first event, if the claim holds for the rest of the run.
+    -- If e is invisible, and for the rest of the run there is a run that is no longer from the state after e, so there is for
+    -- the run that begins with f.
     ShorterRun-of_event : (e f : Event)
         → MachineTransition flat_memory program e s (Ok tt) first
         → IsInvisible program e s
@@ -639,6 +684,7 @@ module _ (program : List (List Instr)) (forward : IsForward program) where
       | inl same ↦ ShorterRun-own_thread e f same enabled invisible done rest
     ]
       where
+        -- If the rest of a run has, after e, a run that is no longer, so has the rest with an event f of e's thread before it.
         ShorterRun-own_thread : (e f : Event)
             → cpu_of f ≡ cpu_of e
             → MachineTransition flat_memory program e s (Ok tt) first
@@ -688,6 +734,7 @@ module _ (program : List (List Instr)) (forward : IsForward program) where
       let parts = and_parts (nat_le (length code.0) d.from.position) (length d.from.buffer == 0) done in
       go e d (subst (λ c. length c ≤ d.from.position) (sym is) (leb-true (length code.0) d.from.position parts.0)) parts.1
     where
+      -- By the kind of the event: a step has an instruction, and a drain an entry, which a terminated thread lacks.
       go : (e : Event) (a : EventOccurrence program e s first)
           → length (thread_code program (cpu_of e)) ≤ a.from.position
           → (length a.from.buffer == 0) ≡ true

@@ -84,7 +84,7 @@ All-appended_entry P old new o grown all one = subst (λ es. All P es) (sym grow
 -- ---- one state
 
 module _ (names : List Seen) (program : List (List Instr)) (tables : Components) (visited : FoundStates) where
-  -- The state at an index is not final, so nothing changes.
+  -- If the state at an index is not final, to observe it changes nothing.
   pub ObservesState-not_final : (at : ℕ) (key : List ℕ) (observed : ObservedWords)
       → slice_get visited.keys at ≡ Some key
       → ((s : State) → Represents tables key s → length s.processors ≡ length program → IsTrue (is_final program s) → ⊥)
@@ -97,7 +97,7 @@ module _ (names : List Seen) (program : List (List Instr)) (tables : Components)
     each_leads = λ start found closed invariant all. all;
   }
 
-  -- The words of the state at an index are observed already, so nothing changes.
+  -- If the words of the state at an index are observed already, to observe it changes nothing.
   pub ObservesState-known : (at : ℕ) (key words : List ℕ) (is_new : Bool) (old new : ObservedWords)
       → slice_get visited.keys at ≡ Some key
       → ((s : State)
@@ -125,7 +125,7 @@ module _ (names : List Seen) (program : List (List Instr)) (tables : Components)
             subst (λ es. All (LeadsTo IsOfSomeRun program start) es) (sym inserts.outcomes) all;
       }
 
-  -- The outcome of the state at an index is inserted, with its words.
+  -- If the state at an index is final, and its outcome is inserted with its words, the state is observed.
   pub ObservesState-new : (at : ℕ) (key words : List ℕ) (o : FinalState) (old new : ObservedWords)
       → slice_get visited.keys at ≡ Some key
       → ((s : State)
@@ -156,9 +156,11 @@ module _ (names : List Seen) (program : List (List Instr)) (tables : Components)
         All-appended_entry (LeadsTo IsOfSomeRun program start) old.outcomes new.outcomes o inserts.outcomes all to;
   }
     where
+      -- The new outcomes have o.
       added : Contains (outcomes_of new.outcomes) o
       added = Contains-appended_outcome old.outcomes new.outcomes o inserts.outcomes
 
+      -- The index has a state of those found, which its key represents.
       state_at : (start : State) (found : List State) (closed : ℕ)
           (invariant : SearchInvariant program start tables visited found closed)
           → (s : State) × Represents tables key s × (length s.processors ≡ length program) × (slice_get found at ≡ Some s)

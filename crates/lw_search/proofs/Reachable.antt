@@ -12,11 +12,11 @@ use Rattle.lw_search.proofs.Collected.{MachineRunsTo-found}
 -- ---- members and indices
 
 -- A member of a list has an index.
-Contains-index : {X : Type 0} (xs : List X) (x : X) → Contains xs x → (i : ℕ) × (slice_get xs i ≡ Some x)
-Contains-index [] x c = absurd (not-Contains-nil x c)
-Contains-index (y ∷ xs) x c = elim (Contains-cons y x xs c) [
+index-Contains : {X : Type 0} (xs : List X) (x : X) → Contains xs x → (i : ℕ) × (slice_get xs i ≡ Some x)
+index-Contains [] x c = absurd (not-Contains-nil x c)
+index-Contains (y ∷ xs) x c = elim (Contains-cons y x xs c) [
   | inl e ↦ (0, λ i. Some (e i))
-  | inr r ↦ (let found = Contains-index xs x r in (suc found.0, found.1))
+  | inr r ↦ (let found = index-Contains xs x r in (suc found.0, found.1))
 ]
 
 -- An item at an index is a member.
@@ -24,6 +24,7 @@ Contains-of_slice_get : {X : Type 0} (xs : List X) (i : ℕ) (x : X) → slice_g
 Contains-of_slice_get [] i x at = absurd cc
 Contains-of_slice_get (y ∷ xs) zero x at = Contains-head y x xs (Some-injective y x at)
   where
+    -- Items are equal if they are equal as values of `Some`.
     Some-injective : {X : Type 0} (y x : X) → Some y ≡ Some x → y ≡ x
     Some-injective y x e = cc
 Contains-of_slice_get (y ∷ xs) (suc i) x at = Contains-tail y x xs (Contains-of_slice_get xs i x at)
@@ -33,7 +34,7 @@ IsDuplicateFree-of_unique_indices : {X : Type 0} (xs : List X) → HasUniqueIndi
 IsDuplicateFree-of_unique_indices [] distinct = tt
 IsDuplicateFree-of_unique_indices (x ∷ xs) distinct = (
   λ c.
-      (let again = Contains-index xs x c in
+      (let again = index-Contains xs x c in
       let e = distinct 0 (suc again.0) x refl again.1 in
       absurd (omega (arith, e))),
   IsDuplicateFree-of_unique_indices xs (λ i j y at and. let e = distinct (suc i) (suc j) y at and in omega (arith, e)),

@@ -58,6 +58,7 @@ pub HasUniqueIndices-append : {X : Type 0} (xs : List X) (x : X)
 HasUniqueIndices-append {X} xs x absent distinct i j y at and =
     go (slice_get-append_cases xs x y i at) (slice_get-append_cases xs x y j and)
   where
+    -- By whether each of the two indices is one of the list or that of the new item.
     go : (slice_get xs i ≡ Some y) ⊎ ((i ≡ length xs) × (x ≡ y)) → (slice_get xs j ≡ Some y) ⊎ ((j ≡ length xs) × (x ≡ y)) → i ≡ j
     go (inl a) (inl b) = distinct i j y a b
     go (inr a) (inr b) = a.0 ∙ sym b.0
@@ -80,6 +81,7 @@ pub HasUniqueIndices-insert : {X : Type 0} (eq : X → X → Bool)
     → HasUniqueIndices new
 HasUniqueIndices-insert {X} eq decides ks new k is distinct = go (list_any (eq k) ks) refl is
   where
+    -- By whether the list has an item equal to the new one.
     go : (b : Bool) → list_any (eq k) ks ≡ b → new ≡ (if b then ks else (ks ++ k ∷ [])) → HasUniqueIndices new
     go true e n = subst HasUniqueIndices (sym n) distinct
     go false e n =

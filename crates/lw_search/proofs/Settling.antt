@@ -4,11 +4,12 @@
 use Rattle.lw_search.proofs.Common.{cases_eq, inl, inr, slice_set, slice_get-in_range, ◌≢◌, ◌+◌, slice_index}
 use Rattle.lw_search.proofs.Common.{length-append, ◌≡◌, ℕ, ◌<◌, ◌≤◌, ⊎_elim, Bool, true, false, Option, Some}
 use Rattle.lw_search.proofs.Common.{Ok, List, [], ◌∷◌, ◌++◌, length, refl, sym, ap, ap₂, ◌∙◌, subst, arith}
-use Rattle.lw_search.proofs.Common.{slice_get, length-set, map-append, set-set, set-get_same, get-set_same}
-use Rattle.lw_search.proofs.Common.{get-set_other, same_Some, slice_get_within, get_or_from_slice_get}
-use Rattle.lw_search.proofs.Common.{cases_lt, Event, Step, Drain, thread_code, flat_memory, Instr, Processor}
-use Rattle.lw_search.proofs.Common.{cpu_of, MachineTransition, MachineRunsTo, RunsTo-append, if◌then◌else◌}
-use Rattle.lw_search.proofs.Common.{operation_effect, x86_operation, event_effect, drain_effect, step_effect}
+use Rattle.lw_search.proofs.Common.{slice_get, length-set, map-append, set-set, set-get_same}
+use Rattle.lw_search.proofs.Common.{slice_get-slice_set_same, slice_get-slice_set_other, same_Some}
+use Rattle.lw_search.proofs.Common.{slice_get_within, get_or_from_slice_get, cases_lt, Event, Step, Drain}
+use Rattle.lw_search.proofs.Common.{thread_code, flat_memory, Instr, Processor, cpu_of, MachineTransition}
+use Rattle.lw_search.proofs.Common.{MachineRunsTo, RunsTo-append, if◌then◌else◌, operation_effect}
+use Rattle.lw_search.proofs.Common.{x86_operation, event_effect, drain_effect, step_effect}
 use Rattle.lw_search.proofs.Common.{IsWellFormedThread, IsWellFormedProgram, X86Test, x86_language}
 use Rattle.lw_search.proofs.Common.{get_or_past, append-nil, state, EffectLeadsTo}
 use Rattle.lw_search.proofs.Common.{MachineTransition-of_effect, EffectLeadsTo-if_done, option_to_list}
@@ -52,7 +53,8 @@ module _ (program : List (List Instr)) where
         → RepresentsOthers tables key t (set_thread s t q n)
     RepresentsOthers-set_thread s q n is_represented = record {
       size = is_represented.size;
-      threads = λ u p ne at. is_represented.threads u p (sym (get-set_other s.processors t u q (λ e. ne (sym e))) ∙ at);
+      threads =
+          λ u p ne at. is_represented.threads u p (sym (slice_get-slice_set_other s.processors t u q (λ e. ne (sym e))) ∙ at);
       unused = λ u le. is_represented.unused u (subst (λ k. k ≤ u) (length-set s.processors t q) le);
     }
 
@@ -62,12 +64,13 @@ module _ (program : List (List Instr)) where
         → HasConflictsOfOthers program s t set
         → HasConflictsOfOthers program (set_thread s t q n) t set
     HasConflictsOfOthers-set_thread s q n has u p ne at =
-        has u p ne (sym (get-set_other s.processors t u q (λ e. ne (sym e))) ∙ at)
+        has u p ne (sym (slice_get-slice_set_other s.processors t u q (λ e. ne (sym e))) ∙ at)
 
     -- Without events a thread and the memory are unchanged.
     pub Settles-none : (p : Processor) (m : List ℕ) → Settles program set t [] p m p m
     Settles-none p m s has size at words = (same, Covers-eq (set_thread s t p m) s same)
       where
+        -- To set a thread and the memory to what they are changes nothing.
         same : set_thread s t p m ≡ s
         same = ap₂ (λ ps k. state ps k) (set-get_same s.processors t p at) (sym words)
 
@@ -77,29 +80,35 @@ module _ (program : List (List Instr)) where
         → Settles program set t fs q n r o
         → Settles program set t (es ++ fs) p m r o
     Settles-append es fs p q r m n o first second s has size at words = (
-      RunsTo-append (MachineTransition flat_memory program) es fs s mid end a.0
-          (subst (λ z. MachineRunsTo flat_memory program fs mid z) same b.0),
-      Covers-trans end mid s (subst (λ z. Covers program z mid) same b.1) a.1,
+      RunsTo-append (MachineTransition flat_memory program) es fs s mid end first_run.0
+          (subst (λ z. MachineRunsTo flat_memory program fs mid z) same_end second_run.0),
+      Covers-trans end mid s (subst (λ z. Covers program z mid) same_end second_run.1) first_run.1,
     )
       where
+        -- The state after the first events.
         mid : State
         mid = set_thread s t q n
 
+        -- The state after all events.
         end : State
         end = set_thread s t r o
 
-        a : MachineRunsTo flat_memory program es s (set_thread s t q n) × Covers program (set_thread s t q n) s
-        a = first s has size at words
+        -- The first events lead to `mid`, which covers s.
+        first_run : MachineRunsTo flat_memory program es s (set_thread s t q n) × Covers program (set_thread s t q n) s
+        first_run = first s has size at words
 
-        b : MachineRunsTo flat_memory program fs mid (set_thread mid t r o) × Covers program (set_thread mid t r o) mid
-        b =
+        -- The further events lead from `mid` to a state that covers it.
+        second_run : MachineRunsTo flat_memory program fs mid (set_thread mid t r o) × Covers program (set_thread mid t r o) mid
+        second_run =
             second mid (HasConflictsOfOthers-set_thread s q n has) (length-set s.processors t q ∙ size)
-            (get-set_same s.processors t q p at) refl
+            (slice_get-slice_set_same s.processors t q p at) refl
 
-        same : set_thread mid t r o ≡ end
-        same = ap (λ ps. state ps o) (set-set s.processors t q r)
+        -- This state is `end`.
+        same_end : set_thread mid t r o ≡ end
+        same_end = ap (λ ps. state ps o) (set-set s.processors t q r)
 
-    -- A run of invisible events, extended by at most one event.
+    -- If the events of a run take a thread from p to q, and one more event or none takes it from q to r, the run with this
+    -- event takes it from p to r.
     pub Settles-push : (run : List (ℕ × Bool)) (event : Option (ℕ × Bool)) (p q r : Processor) (m n o : List ℕ)
         → Settles program set t (events_of run) p m q n
         → Settles program set t (events_of (option_to_list event)) q n r o
@@ -108,7 +117,7 @@ module _ (program : List (List Instr)) where
         subst (λ es. Settles program set t es p m r o) (sym (map-append event_of run (option_to_list event)))
         (Settles-append (events_of run) (events_of (option_to_list event)) p q r m n o first second)
 
-    -- A run of invisible events, followed by no event, leads to the same state.
+    -- If the events of a run take a thread from p to q, and no event from q to r, the run takes it from p to r.
     pub Settles-end : (run : List (ℕ × Bool)) (p q r : Processor) (m n o : List ℕ)
         → Settles program set t (events_of run) p m q n
         → Settles program set t [] q n r o
@@ -118,7 +127,8 @@ module _ (program : List (List Instr)) where
         (Settles-append (events_of run) [] p q r m n o first second)
 
   module _ (forward : IsForward program) (set : ℕ) where
-    -- An invisible event that is enabled is taken at once.
+    -- If an event's effect leads from p and m to q and n, and its access avoids the set's conflicts, the event alone settles
+    -- the thread so.
     Settles-event : (e : Event) (p q : Processor) (m n : List ℕ)
         → cpu_of e < length program
         → ((locs : ℕ) → EffectLeadsTo m (event_effect program locs e p) q n)
@@ -129,11 +139,13 @@ module _ (program : List (List Instr)) where
       Covers-invisible_event program forward e s (set_thread s (cpu_of e) q n) done invisible lt,
     )
       where
+        -- The event leads from s to the state with q and n.
         done : MachineTransition flat_memory program e s (Ok tt) (set_thread s (cpu_of e) q n)
         done =
             MachineTransition-of_effect program e s.processors p q s.memory n at
             (subst (λ k. EffectLeadsTo k (event_effect program (length s.memory) e p) q n) (sym words) (does (length s.memory)))
 
+        -- The event is invisible in s.
         invisible : IsInvisible program e s
         invisible r a is access =
             let same : r ≡ p = same_Some r p (sym is ∙ at) in
@@ -157,6 +169,7 @@ module _ (program : List (List Instr)) where
         (EffectLeadsTo-if_done t (operation_effect (x86_operation i) p) p q m n (result t)))
         (λ a access. free a (ap step_access (sym here) ∙ access))
       where
+        -- The code of thread t has the instruction at the position of p.
         here : slice_get (thread_code program t) p.position ≡ Some i
         here = ap (λ c. slice_get c p.position) (get_or_from_slice_get program t code [] coded) ∙ next
     Settles-step t code i p q m n false coded next free result =
@@ -214,6 +227,7 @@ module _ (program : List (List Instr)) where
         others u (λ e. absurd (omega (arith, e, lt, few))) ∙ is_represented.unused u few;
   }
     where
+      -- The key has for each thread the number of its state.
       threads : (u : ℕ) (r : Processor)
           → slice_get (slice_set s.processors t q) u ≡ Some r
           → slice_get new.threads (slice_index next (u + 1)) ≡ Some r
@@ -221,14 +235,18 @@ module _ (program : List (List Instr)) where
         | inl same ↦
             let is : q ≡ r =
             same_Some q r
-            (sym (get-set_same s.processors t q p there) ∙ ap (slice_get (slice_set s.processors t q)) (sym same) ∙ at) in
+            (sym (slice_get-slice_set_same s.processors t q p there)
+            ∙ ap (slice_get (slice_set s.processors t q)) (sym same)
+            ∙ at) in
             ap (λ v. slice_get new.threads (slice_index next (v + 1))) same ∙ thread ∙ ap Some is
         | inr ne ↦
             ap (slice_get new.threads) (others u ne)
-            ∙ extended.threads _ r (is_represented.threads u r ne (sym (get-set_other s.processors t u q (λ e. ne (sym e))) ∙ at))
+            ∙ extended.threads _ r
+            (is_represented.threads u r ne (sym (slice_get-slice_set_other s.processors t u q (λ e. ne (sym e))) ∙ at))
       ]
 
-  -- What a loaded thread did, with its number in the key.
+  -- If the events `more` take a loaded thread from p to q, and the key `next` has q's number for it, the events lead from each
+  -- state in which it is loaded to one that covers it, with the threads of `next`.
   pub SettlesFrom-loaded : {old new : Components} (key next : List ℕ) (set t : ℕ) (p q : Processor) (m n : List ℕ)
       (run longer more : List (ℕ × Bool))
       → longer ≡ run ++ more
@@ -257,7 +275,8 @@ module _ (program : List (List Instr)) where
         };
   }
 
-  -- A thread that is loaded from its row.
+  -- If p is the state that the table has for thread t, each state with the threads of a key is one in which thread t is loaded
+  -- as p.
   pub IsLoaded-of_working : {tables : Components} (key : List ℕ) (set t : ℕ) (code : List Instr) (p : Processor) (m : List ℕ)
       (s : State)
       → slice_get program t ≡ Some code
@@ -281,15 +300,15 @@ module _ (program : List (List Instr)) where
       }
 
   -- What is taken from each state with one property is taken from each state with a stronger one.
-  pub SettlesFrom-weaker : {old new : Components} (From Other : State → Type 0) (key : List ℕ) (m : List ℕ)
+  pub SettlesFrom-mono : {old new : Components} (From Other : State → Type 0) (key : List ℕ) (m : List ℕ)
       (run longer : List (ℕ × Bool))
       → ((s : State) → Other s → From s)
       → SettlesFrom program From old new key m run longer
       → SettlesFrom program Other old new key m run longer
-  SettlesFrom-weaker From Other key m run longer weaker a =
+  SettlesFrom-mono From Other key m run longer weaker a =
       record { extended = a.extended; more = a.more; appended = a.appended; settled = λ s other. a.settled s (weaker s other) }
 
-  -- If no event was taken, the key is the same.
+  -- If no event was taken, the thread is settled with the key as it was.
   pub SettlesFrom-unmoved : {tables : Components} (key : List ℕ) (set t : ℕ) (p q : Processor) (m n : List ℕ)
       (run longer more : List (ℕ × Bool))
       → longer ≡ run ++ more
@@ -304,13 +323,16 @@ module _ (program : List (List Instr)) where
     settled = λ s working. unmoved s working (load s working);
   }
     where
+      -- No event was appended to the run.
       none : more ≡ []
       none = no_items more (let e = ap length appended ∙ length-append run more in omega (arith, e, size))
         where
+          -- A list of length 0 is empty.
           no_items : {X : Type 0} (xs : List X) → length xs ≡ 0 → xs ≡ []
           no_items [] e = refl
           no_items (x ∷ xs) e = absurd (omega (arith, e))
 
+      -- Each such state is settled without an event, with the threads of the key.
       unmoved : (s : State)
           → IsWorking program tables key m s
           → IsLoaded program tables key set t p m s
@@ -353,6 +375,8 @@ module _ (program : List (List Instr)) where
     settled = settled;
   }
     where
+      -- The events of both runs lead from each state of which `From` holds to one that covers it, with the threads of the
+      -- second key.
       settled : (s : State) → From s → Settled program t2 next n (events_of (first.more ++ second.more)) s
       settled s from =
           let a = first.settled s from in

@@ -3,9 +3,9 @@
 use Rattle.lw_search.proofs.Common.{◌≡◌, ◌≢◌, ℕ, zero, suc, ◌+◌, ◌<◌, ◌≤◌, Bool, inl, inr, Some, None, List}
 use Rattle.lw_search.proofs.Common.{[], ◌∷◌, length, refl, sym, ap, ◌∙◌, subst, arith, slice_get, slice_index}
 use Rattle.lw_search.proofs.Common.{cases_lt, slice_get_past, slice_get_within, same_Some, initial_processor}
-use Rattle.lw_search.proofs.Common.{initial_machine_state, X86Test, IsWellFormedProgram, length-map, get-map}
-use Rattle.lw_search.proofs.Common.{State, Components, FoundStates, Extends, Represents, InsertsKey}
-use Rattle.lw_search.proofs.Common.{IsStarted}
+use Rattle.lw_search.proofs.Common.{initial_machine_state, X86Test, IsWellFormedProgram, length-map}
+use Rattle.lw_search.proofs.Common.{slice_get-map_inv, State, Components, FoundStates, Extends, Represents}
+use Rattle.lw_search.proofs.Common.{InsertsKey, IsStarted}
 use Rattle.lw_search.proofs.Rows.{HasUniqueIndices-append}
 use Rattle.lw_search.proofs.ThreadStates.{slice_index-past}
 
@@ -33,6 +33,7 @@ IsStartKey-none {tables} memory words regs at = record {
   unused = λ t le. unused t;
 }
   where
+    -- The number of each thread is 0.
     unused : (t : ℕ) → slice_index (memory ∷ 0 ∷ 0 ∷ 0 ∷ 0 ∷ []) (t + 1) ≡ 0
     unused zero = refl
     unused (suc zero) = refl
@@ -62,6 +63,7 @@ IsStartKey-next {old} {new} memory key next words regs n thread r extended begun
   unused = λ t le. others t (λ e. absurd (omega (arith, e, le))) ∙ begun.unused t (omega (arith, le));
 }
   where
+    -- Each of the first `n + 1` threads has the number of its initial state.
     threads : (t : ℕ) (q : List ℕ)
         → t < n + 1
         → slice_get regs t ≡ Some q
@@ -88,7 +90,7 @@ Represents-start_key {tables} test memory key n begun all = record {
   size = begun.size;
   memory = ap (slice_get tables.memories) begun.first ∙ begun.words;
   threads = λ t p at.
-      let r = get-map initial_processor test.head.init_regs t p at in
+      let r = slice_get-map_inv initial_processor test.head.init_regs t p at in
       let lt = slice_get_within test.head.init_regs t r.0 r.1 in
       begun.threads t r.0 (omega (arith, lt, all)) r.1 ∙ ap Some (sym r.2);
   unused = λ t le. begun.unused t (subst (λ m. m ≤ t) (length-map test.head.init_regs initial_processor ∙ sym all) le);
@@ -127,9 +129,11 @@ IsStarted-of_start_key {tables} test key parent run visited formed is_represente
   },
 )
   where
+    -- The initial state.
     start : State
     start = initial_machine_state test test.head.init_words
 
+    -- Each key represents the state with its index: the only key the initial state.
     represents : (i : ℕ) (k : List ℕ) (s : State)
         → slice_get (key ∷ []) i ≡ Some k
         → slice_get (start ∷ []) i ≡ Some s
@@ -139,6 +143,7 @@ IsStarted-of_start_key {tables} test key parent run visited formed is_represente
         (subst (λ z. Represents tables z start) (same_Some key k at) is_represented)
     represents (suc i) k s at and = absurd cc
 
+    -- Each state found has as many threads as the program.
     thread_count : (i : ℕ) (s : State) → slice_get (start ∷ []) i ≡ Some s → length s.processors ≡ length test.threads
     thread_count zero s at =
         ap (λ (z : State). length z.processors) (sym (same_Some start s at))

@@ -3,19 +3,19 @@
 -- after the other.
 use Rattle.lw_search.proofs.Common.{◌≡◌, ℕ, zero, suc, ◌+◌, ◌<◌, ◌≤◌, ◌⊎◌, inl, inr, Some, None, Ok, List, []}
 use Rattle.lw_search.proofs.Common.{◌∷◌, ◌++◌, length, refl, sym, ap, ap₂, ◌∙◌, subst, arith, slice_get}
-use Rattle.lw_search.proofs.Common.{slice_index, length-append, length-set, get-set_same, cases_lt}
-use Rattle.lw_search.proofs.Common.{slice_get_past, same_Some, slice_get_within, slice_get-in_range}
+use Rattle.lw_search.proofs.Common.{slice_index, length-append, length-set, slice_get-slice_set_same}
+use Rattle.lw_search.proofs.Common.{cases_lt, slice_get_past, same_Some, slice_get_within, slice_get-in_range}
 use Rattle.lw_search.proofs.Common.{get_or_from_slice_get, Event, Step, Drain, Evict, flat_memory, Instr}
 use Rattle.lw_search.proofs.Common.{Processor, cpu_of, MachineTransition, MachineRunsTo, Bool, true, false}
 use Rattle.lw_search.proofs.Common.{Operation, operation_effect, x86_operation, Ended, Refused, event_effect}
 use Rattle.lw_search.proofs.Common.{step_effect, Stop, EffectLeadsTo, EventOccurrence}
 use Rattle.lw_search.proofs.Common.{EventOccurrence-of_event, MachineTransition-deterministic}
-use Rattle.lw_search.proofs.Common.{not-EffectLeadsTo-evict_event, slice_get-append_cases, get-append_middle}
-use Rattle.lw_search.proofs.Common.{Origin, State, Components, FoundStates, Extends, Represents, IsPrefix}
-use Rattle.lw_search.proofs.Common.{HasUniqueIndices, InsertsKey, AppendsOrigin, event_of, events_of}
-use Rattle.lw_search.proofs.Common.{set_thread, Covers, IsCovered, HasPredecessor, SearchInvariant, Expansion}
-use Rattle.lw_search.proofs.Common.{HasConflictsOfOthers, ExpandsState, ExpandsUpTo, CoversThread, Settled}
-use Rattle.lw_search.proofs.Common.{SettlesFrom, IsLoaded}
+use Rattle.lw_search.proofs.Common.{not-EffectLeadsTo-evict_event, slice_get-append_cases}
+use Rattle.lw_search.proofs.Common.{slice_get-append_middle, Origin, State, Components, FoundStates, Extends}
+use Rattle.lw_search.proofs.Common.{Represents, IsPrefix, HasUniqueIndices, InsertsKey, AppendsOrigin}
+use Rattle.lw_search.proofs.Common.{event_of, events_of, set_thread, Covers, IsCovered, HasPredecessor}
+use Rattle.lw_search.proofs.Common.{SearchInvariant, Expansion, HasConflictsOfOthers, ExpandsState}
+use Rattle.lw_search.proofs.Common.{ExpandsUpTo, CoversThread, Settled, SettlesFrom, IsLoaded}
 use Rattle.lw_search.proofs.Settling.{HasConflictsOfOthers-set_thread, RepresentsOthers-set_thread}
 use Rattle.lw_search.proofs.Settling.{Represents-of_working}
 use Rattle.lw_search.proofs.Rows.{slice_get-append_left, HasUniqueIndices-append, Extends-trans}
@@ -61,6 +61,7 @@ key-unique tables key other s distinct_threads distinct_memories a b =
     list-ext key other (λ i x y at and. sym (slice_index-get key i x at) ∙ same i ∙ slice_index-get other i y and)
     (a.size ∙ sym b.size)
   where
+    -- The keys have the same number for each thread.
     at_thread : (t : ℕ) → slice_index key (suc t) ≡ slice_index other (suc t)
     at_thread t =
         subst (λ n. slice_index key n ≡ slice_index other n) (let e : t + 1 ≡ suc t = omega arith in e)
@@ -72,6 +73,7 @@ key-unique tables key other s distinct_threads distinct_memories a b =
           | inr ge ↦ a.unused t ge ∙ sym (b.unused t ge)
         ])
 
+    -- The keys have the same number at each index.
     same : (i : ℕ) → slice_index key i ≡ slice_index other i
     same zero = distinct_memories (slice_index key 0) (slice_index other 0) s.memory a.memory b.memory
     same (suc t) = at_thread t
@@ -100,6 +102,7 @@ IsPrefix-inserted old new key parent run (inr a) i x at = ap (λ (v : FoundState
 pub cpu_of-event : (r : ℕ × Bool) → cpu_of (event_of r) ≡ r.0
 cpu_of-event r = go r.0 r.1
   where
+    -- By the row's thread and by whether it is a drain.
     go : (t : ℕ) (b : Bool) → cpu_of (event_of (t, b)) ≡ t
     go t true = refl
     go t false = refl
@@ -152,7 +155,7 @@ module _ (program : List (List Instr)) where
   abbrev append_state : List State → State → List State
   append_state found end = found ++ end ∷ []
 
-  -- What was found, with one more state.
+  -- The states found were continued by `more`, of which the invariant holds with the new tables; `end` is one of them.
   record Inserted (start : State) (new : Components) (now : FoundStates) (found : List State) (closed : ℕ)
       (end : State) : Type 0 where
     more : List State
@@ -218,7 +221,7 @@ module _ (program : List (List Instr)) where
         covered = covered_each;
       };
       index = length found;
-      found_at_index = get-append_middle found end [] (length found) refl;
+      found_at_index = slice_get-append_middle found end [] (length found) refl;
     }
       where
         -- The state is new, since its key is.
@@ -232,6 +235,7 @@ module _ (program : List (List Instr)) where
             (Represents-extended key.0 end extended (invariant.represents i key.0 end key.1 at)) is_represented in
             absent i (key.1 ∙ ap Some same)
 
+        -- Each key represents the state with its index.
         represents_each : (i : ℕ) (key : List ℕ) (z : State)
             → slice_get now.keys i ≡ Some key
             → slice_get (append_state found end) i ≡ Some z
@@ -240,6 +244,7 @@ module _ (program : List (List Instr)) where
             go (slice_get-append_cases visited.keys next key i (ap (λ l. slice_get l i) (sym keys) ∙ is))
             (slice_get-append_cases found end z i and)
           where
+            -- By whether key and state are ones from before or the new ones.
             go : (slice_get visited.keys i ≡ Some key) ⊎ ((i ≡ length visited.keys) × (next ≡ key))
                 → (slice_get found i ≡ Some z) ⊎ ((i ≡ length found) × (end ≡ z))
                 → Represents new key z
@@ -249,13 +254,16 @@ module _ (program : List (List Instr)) where
                 absurd (let lt = slice_get_within visited.keys i key a in omega (arith, lt, b.0, invariant.key_count))
             go (inr a) (inl b) = absurd (let lt = slice_get_within found i z b in omega (arith, lt, a.0, invariant.key_count))
 
+        -- Each state has as many threads as the program.
         threads : (i : ℕ) (z : State) → slice_get (append_state found end) i ≡ Some z → length z.processors ≡ length program
         threads i z is = go (slice_get-append_cases found end z i is)
           where
+            -- By whether the state is one from before or the new one.
             go : (slice_get found i ≡ Some z) ⊎ ((i ≡ length found) × (end ≡ z)) → length z.processors ≡ length program
             go (inl a) = invariant.thread_count i z a
             go (inr a) = ap (λ (y : State). length y.processors) (sym a.1) ∙ size
 
+        -- Each state but the first has a predecessor.
         predecessor_each : (i : ℕ) (o : Origin) (z : State)
             → slice_get now.origins (suc i) ≡ Some o
             → slice_get (append_state found end) (suc i) ≡ Some z
@@ -265,6 +273,7 @@ module _ (program : List (List Instr)) where
             (slice_get-append_cases visited.origins appended.origin o (suc i)
             (ap (λ l. slice_get l (suc i)) (sym appended.origins) ∙ is)) (slice_get-append_cases found end z (suc i) and)
           where
+            -- By whether origin and state are ones from before or the new ones.
             go : (slice_get visited.origins (suc i) ≡ Some o) ⊎ ((suc i ≡ length visited.origins) × (appended.origin ≡ o))
                 → (slice_get found (suc i) ≡ Some z) ⊎ ((suc i ≡ length found) × (end ≡ z))
                 → HasPredecessor program now.runs (append_state found end) (suc i) o z
@@ -286,6 +295,7 @@ module _ (program : List (List Instr)) where
             go (inr a) (inl b) =
                 absurd (let lt = slice_get_within found (suc i) z b in omega (arith, lt, a.0, invariant.origin_count))
 
+        -- The successors of the first `closed` states are covered.
         covered_each : (i : ℕ) (z : State)
             → i < closed
             → slice_get (append_state found end) i ≡ Some z
@@ -293,6 +303,7 @@ module _ (program : List (List Instr)) where
             → IsCovered program (append_state found end) z e
         covered_each i z lt is e = go (slice_get-append_cases found end z i is)
           where
+            -- By whether the state is one from before or the new one.
             go : (slice_get found i ≡ Some z) ⊎ ((i ≡ length found) × (end ≡ z)) → IsCovered program (append_state found end) z e
             go (inl a) = IsCovered-prefix found (append_state found end) z e IsPrefix-append_state (invariant.covered i z lt a e)
             go (inr a) = absurd (omega (arith, lt, a.0, invariant.within))
@@ -318,50 +329,59 @@ module _ (program : List (List Instr)) where
       (λ s more. IsCovered program more s (event_of e))
   IsCovered-after_event {old} {settled_tables} {new} {visited} {now} at set t e key all next p m n parent run cpu settles extended size memory threads parent_is adds start found closed s invariant found_at key_at is =
       record {
-        more = a.more;
-        longer = a.longer;
+        more = inserted.more;
+        longer = inserted.longer;
         keys = IsPrefix-inserted visited now next parent run adds;
-        invariant = a.invariant;
+        invariant = inserted.invariant;
         holds = covered_each;
       }
     where
+      -- The event leads from s to the state with p and m.
       done : MachineTransition flat_memory program (event_of e) s (Ok tt) (set_thread s t p m)
       done = is.0
 
-      d : EventOccurrence program (event_of e) s (set_thread s t p m)
-      d = EventOccurrence-of_event program (event_of e) s (set_thread s t p m) done
+      -- The occurrence of the event in s.
+      occurs : EventOccurrence program (event_of e) s (set_thread s t p m)
+      occurs = EventOccurrence-of_event program (event_of e) s (set_thread s t p m) done
 
-      was : slice_get s.processors t ≡ Some d.from
-      was = ap (slice_get s.processors) (sym (cpu_of-event e ∙ cpu)) ∙ d.was
+      -- In s the thread has the state from which the event leads.
+      was : slice_get s.processors t ≡ Some occurs.from
+      was = ap (slice_get s.processors) (sym (cpu_of-event e ∙ cpu)) ∙ occurs.was
 
+      -- The state after the event.
       mid : State
       mid = set_thread s t p m
 
+      -- From it the invisible events lead to a state that covers it.
       taken : Settled program settled_tables all n (events_of settles.more) mid
       taken = settles.settled mid (record {
         represented = RepresentsOthers-set_thread program old key t s p m (invariant.represents at key s key_at found_at);
         conflicts = HasConflictsOfOthers-set_thread program set t s p m is.1;
         thread_count = length-set s.processors t p ∙ invariant.thread_count at s found_at;
-        thread = get-set_same s.processors t p d.from was;
+        thread = slice_get-slice_set_same s.processors t p occurs.from was;
         words = refl;
       })
 
+      -- The whole run leads from s to that state.
       ran : MachineRunsTo flat_memory program (events_of run) s taken.end
       ran = subst (λ r. MachineRunsTo flat_memory program (events_of r) s taken.end) (sym settles.appended) (mid, done, taken.ran)
 
+      -- The key `next` represents that state.
       is_represented : Represents new next taken.end
       is_represented = Represents-of_working program all next n taken.end taken.working extended size memory threads
 
-      a : Inserted start new now found closed taken.end
-      a =
+      -- That state is among those found now.
+      inserted : Inserted start new now found closed taken.end
+      inserted =
           Inserted-either_case old new visited now start found closed at s taken.end next parent run
           (Extends-trans settles.extended extended) invariant found_at is_represented taken.working.thread_count parent_is ran
           adds
 
-      covered_each : IsCovered program a.more s (event_of e)
+      -- The successor by the event is covered.
+      covered_each : IsCovered program inserted.more s (event_of e)
       covered_each after f =
           let once = MachineTransition-deterministic program (event_of e) s mid after (Ok tt) (Ok tt) done f in
-          (taken.end, a.index, a.found_at_index, subst (λ z. Covers program taken.end z) once.1 taken.covers)
+          (taken.end, inserted.index, inserted.found_at_index, subst (λ z. Covers program taken.end z) once.1 taken.covers)
 
   -- ---- events that are not enabled
 
@@ -461,12 +481,12 @@ module _ (program : List (List Instr)) where
       }
 
   -- An expansion that gives A gives what follows from A.
-  pub ExpandsState-weaker : {t0 t1 : Components} {m0 m1 : FoundStates} (at : ℕ) (key : List ℕ) (Is : State → Type 0)
+  pub ExpandsState-mono : {t0 t1 : Components} {m0 m1 : FoundStates} (at : ℕ) (key : List ℕ) (Is : State → Type 0)
       (A B : State → List State → Type 0)
       → ((s : State) (more : List State) → A s more → B s more)
       → ExpandsState program t0 m0 t1 m1 at key Is A
       → ExpandsState program t0 m0 t1 m1 at key Is B
-  ExpandsState-weaker at key Is A B weaker first start found closed s invariant found_at key_at u =
+  ExpandsState-mono at key Is A B weaker first start found closed s invariant found_at key_at u =
       let a = first start found closed s invariant found_at key_at u in
       record { more = a.more; longer = a.longer; keys = a.keys; invariant = a.invariant; holds = weaker s a.more a.holds }
 
@@ -525,7 +545,8 @@ module _ (program : List (List Instr)) where
       let d : EventOccurrence program (Evict t x) s next = EventOccurrence-of_event program (Evict t x) s next done in
       absurd (not-EffectLeadsTo-evict_event program (length s.memory) t x d.from d.to s.memory d.words d.does)
 
-  -- The state is expanded.
+  -- If the successors of the state at an index by the first n threads are covered, and there are at most n, one more state is
+  -- expanded.
   pub ExpandsUpTo-all_threads : {t0 t1 : Components} {m0 m1 : FoundStates} (at n : ℕ) (key : List ℕ) (Is : State → Type 0)
       → length program ≤ n
       → slice_get m0.keys at ≡ Some key
@@ -534,14 +555,17 @@ module _ (program : List (List Instr)) where
       → ExpandsUpTo program t0 m0 at t1 m1 (at + 1)
   ExpandsUpTo-all_threads {t0} {t1} {m0} {m1} at n key Is few key_at is goes start found invariant = (a.more, now)
     where
+      -- The index has a state of those found.
       there : (s : State) × (slice_get found at ≡ Some s)
       there = slice_get-in_range found at (subst (λ k. at < k) invariant.key_count (slice_get_within m0.keys at key key_at))
 
+      -- The states found from it satisfy the invariant, and its successors are covered.
       a : Expansion program start t1 m0 m1 found at (CoversThreads n there.0)
       a =
           goes start found at there.0 invariant there.1 key_at
           (is there.0 (invariant.represents at key there.0 key_at there.1) (invariant.thread_count at there.0 there.1))
 
+      -- The invariant holds with one more state expanded.
       now : SearchInvariant program start t1 m1 a.more (at + 1)
       now = record {
         key_count = a.invariant.key_count;
@@ -557,6 +581,7 @@ module _ (program : List (List Instr)) where
         covered = λ i s lt is e. go i s lt is e (cases_lt i at);
       }
         where
+          -- By whether the state is before the index or at it.
           go : (i : ℕ) (s : State)
               → i < at + 1
               → slice_get a.more i ≡ Some s
@@ -578,7 +603,7 @@ pub event_effect-of_code : (program : List (List Instr)) (t : ℕ) (code : List 
 event_effect-of_code program t code p coded locs =
     ap (λ c. step_effect (slice_get c p.position) p) (get_or_from_slice_get program t code [] coded)
 
--- If that position has an instruction, the step does this instruction's operation.
+-- If that position has an instruction, the effect of the step is that of the instruction's operation.
 pub event_effect-of_instruction : (program : List (List Instr)) (t : ℕ) (code : List Instr) (p : Processor) (i : Instr)
     (o : Operation)
     → slice_get program t ≡ Some code

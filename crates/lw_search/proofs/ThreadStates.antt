@@ -20,7 +20,7 @@ pub drain_effect-refused : (buffer : List (ℕ × ℕ)) (p : Processor)
 drain_effect-refused [] p none = (BufferEmpty, refl)
 drain_effect-refused (entry ∷ newer) p none = absurd cc
 
--- The same, if the store buffer has no entries.
+-- A drain is refused if the length of the store buffer is 0.
 pub drain_effect-empty : (buffer : List (ℕ × ℕ)) (p : Processor)
     → (length buffer == 0) ≡ true
     → (stop : Stop) × (drain_effect buffer p ≡ Refused stop)

@@ -18,6 +18,7 @@ use Rattle.lw_search.proofs.Rows.{Extends-refl, IsPrefix-refl}
 
 -- ---- rows and slots
 
+-- Tables and found states to which nothing was appended satisfy `AppendsRows`.
 pub AppendsRows-refl : (tables : Components) (visited : FoundStates) → AppendsRows tables visited tables visited
 AppendsRows-refl tables visited =
     record { extended = Extends-refl tables; keys = refl; origins = refl; runs = IsPrefix-refl visited.runs }
@@ -37,7 +38,7 @@ pub copied-missing : {X : Type 0} (row : Option X) (x : X) (found : Bool) → Co
 copied-missing row x true is e = absurd cc
 copied-missing row x false is e = is
 
--- An insertion keeps the numbers of runs.
+-- An insertion of a key preserves the numbers of runs.
 pub IsPrefix-inserted_runs : (old new : FoundStates) (key : List ℕ) (parent : ℕ) (run : List (ℕ × Bool))
     → InsertsKey old key parent run new
     → IsPrefix old.runs new.runs
@@ -47,6 +48,7 @@ IsPrefix-inserted_runs old new key parent run (inr a) i x at = ap (λ (v : Found
 module _ (program : List (List Instr)) where
   -- ---- larger tables
 
+  -- Appended rows preserve a transition.
   pub IsTransition-extended : {old new : Components} {runs longer : List (List (ℕ × Bool))} (t : Transition)
       → Extends old new
       → IsPrefix runs longer
@@ -101,10 +103,11 @@ module _ (program : List (List Instr)) where
     covered = a.covered;
   }
     where
+      -- The invariant holds with the larger tables.
       a : SearchInvariant program start new visited found closed
       a = SearchInvariant-extended program rows.extended before
 
-  -- Rows that were appended before a state is expanded change nothing.
+  -- If rows were appended before a state was expanded, it is expanded from the tables without them too.
   pub ExpandsState-prepared : {old mid new : Components} {visited prepared now : FoundStates} (at : ℕ) (key : List ℕ)
       (Is : State → Type 0) (Holds : State → List State → Type 0)
       → AppendsRows old visited mid prepared
@@ -124,7 +127,8 @@ module _ (program : List (List Instr)) where
 
   -- ---- taking an event
 
-  -- An event that was carried out, with the invisible events that followed it.
+  -- If an event takes a thread from p to q, the invisible events after it take it from q to r, and the successor's numbers are
+  -- those of r, the words and the run, then this is a transition.
   pub IsTransition-taken : {tables : Components} {runs : List (List (ℕ × Bool))} (e : ℕ × Bool) (t thread memory set : ℕ)
       (next : Successor) (p q r : Processor) (m n o : List ℕ) (more : List (ℕ × Bool))
       → e.0 ≡ t
@@ -154,6 +158,7 @@ module _ (program : List (List Instr)) where
         settles = subst (λ u. Settles program set u (events_of more) q n r o) (sym cpu) settles;
       }
     where
+      -- In each state with p and m the event leads to the state with q and n.
       acts : (s : State)
           → slice_get s.processors e.0 ≡ Some p
           → s.memory ≡ m
@@ -180,12 +185,14 @@ module _ (program : List (List Instr)) where
       let r = slice_get-in_range s.processors t lt in
       absurd (let row = sym none ∙ is_represented.threads t r.0 r.1 in cc)
 
+  -- If the memory of a key has no row, an event is enabled in no state of the key, since there is none.
   pub IsNeverEnabled-without_memory : {tables : Components} (key : List ℕ) (e : ℕ × Bool)
       → slice_get tables.memories (slice_index key 0) ≡ None
       → IsNeverEnabled program tables key e
   IsNeverEnabled-without_memory key e none s next is_represented as_many done =
       absurd (let row = sym none ∙ is_represented.memory in cc)
 
+  -- An event that the machine refuses in the thread state of a key's row is enabled in no state of the key.
   pub IsNeverEnabled-refused : {tables : Components} (key : List ℕ) (t : ℕ) (e : ℕ × Bool) (code : List Instr) (p q : Processor)
       (m n : List ℕ)
       → e.0 ≡ t
@@ -239,6 +246,7 @@ module _ (program : List (List Instr)) where
   IsCovered-transition {old} {settled} {new} {visited} {now} at c t code key own all next n parent run is cpu coded from_thread from_memory size thread others settles extended next_size memory threads parent_is adds start found closed s invariant found_at key_at has =
       after start found closed s invariant found_at key_at (done, has)
     where
+      -- The events of the transition lead from each state with the loaded thread to one with the thread's new number.
       moved : SettlesFrom program (IsLoaded program old key t.conflicts c is.acted is.written) old old own is.end_words
           (t.event ∷ []) (t.event ∷ is.more)
       moved =
@@ -247,9 +255,11 @@ module _ (program : List (List Instr)) where
           (subst (λ v. Settles program t.conflicts v (events_of is.more) is.acted is.written is.end is.end_words) cpu is.settles)
           (Extends-refl old) size (ap (slice_get old.threads) thread ∙ is.next_thread_row) others
 
+      -- These events and those of all threads lead from each such state to one that covers it.
       both : SettlesFrom program (IsLoaded program old key t.conflicts c is.acted is.written) old settled all n (t.event ∷ []) run
       both = SettlesFrom-trans program own all is.end_words n (t.event ∷ []) (t.event ∷ is.more) run moved settles
 
+      -- The successor by the event is covered.
       after : ExpandsState program old visited new now at key (λ z.
           MachineTransition flat_memory program (event_of t.event) z (Ok tt) (set_thread z c is.acted is.written)
           × HasConflictsOfOthers program z c t.conflicts) (λ z more. IsCovered program more z (event_of t.event))
@@ -257,18 +267,22 @@ module _ (program : List (List Instr)) where
           IsCovered-after_event program at t.conflicts c t.event key all next is.acted is.written n parent run cpu both extended
           next_size memory threads parent_is adds
 
+      -- The key represents s.
       is_represented : Represents old key s
       is_represented = invariant.represents at key s key_at found_at
 
+      -- In s thread c has the state from which the transition leads.
       was : slice_get s.processors c ≡ Some is.from
       was =
           slice_get-loaded_thread program key s c code is.from is_represented (invariant.thread_count at s found_at) coded
           (λ z row. same_Some is.from z (sym is.thread_row ∙ ap (slice_get old.threads) from_thread ∙ row))
 
+      -- In s memory has the words from which the transition leads.
       words : s.memory ≡ is.words
       words =
           same_Some s.memory is.words (sym is_represented.memory ∙ ap (slice_get old.memories) (sym from_memory) ∙ is.memory_row)
 
+      -- The event leads from s to the state after it.
       done : MachineTransition flat_memory program (event_of t.event) s (Ok tt) (set_thread s c is.acted is.written)
       done =
           subst (λ v. MachineTransition flat_memory program (event_of t.event) s (Ok tt) (set_thread s v is.acted is.written)) cpu

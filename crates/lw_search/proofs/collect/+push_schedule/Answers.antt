@@ -22,6 +22,7 @@ returns-then-index-parent g t c = (
       (omega (arith, c.if-index-parent.true)),
 )
 
+-- The schedule of the parent, followed by the run of the origin, reaches the state.
 pub returns : goal.returns
 returns g t c =
     let before = c.in_ok-push_schedule.ensures in

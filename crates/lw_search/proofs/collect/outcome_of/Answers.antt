@@ -4,6 +4,7 @@ use Rattle.lw_search.proofs.Common.{◌<◌, ◌+◌, arith, sym, subst, length}
 use Rattle.lw_search.proofs.Collected.{AreRegisters-push, AreRegisters}
 use Rattle.lw_search.proofs.collect.outcome_of.Goals as goal
 
+-- A round appends the registers of one more thread.
 pub loop-thread-preserved : goal.loop-thread-preserved
 loop-thread-preserved g c =
     let program = c.args.program.now.threads in

@@ -14,6 +14,7 @@ loop-init g c = (
   Settles-none c.args.program.now.threads c.args.conflicts c.args.cpu c.args.thread.now c.args.words.now,
 )
 
+-- If no event is taken, the run is that of the rounds before.
 pub returns-in-None : goal.returns-in-None
 returns-in-None g c =
     let program = c.args.program.now.threads in
@@ -29,6 +30,7 @@ returns-in-None g c =
           c.loop.words c.take_event.new.words before.2 last,
     )
 
+-- A round extends the run by the event that it takes.
 pub loop-preserved : goal.loop-preserved
 loop-preserved g c =
     let program = c.args.program.now.threads in

@@ -5,6 +5,7 @@ use Rattle.lw_search.proofs.Common.{◌∷◌, [], Bool, Step, Drain, sym, subst
 use Rattle.lw_search.proofs.Settling.{Settles-append}
 use Rattle.lw_search.proofs.invisible.take_event.Goals as goal
 
+-- If only the drain is taken, the event is the drain: the step has taken nothing.
 pub returns-then-take_drain : goal.returns-then-take_drain
 returns-then-take_drain g c =
     let program = c.args.program.now.threads in
@@ -24,6 +25,7 @@ returns-then-take_drain g c =
     (Settles-append program conflicts t [] (Drain t ∷ []) c.args.thread.now c.take_step.new.thread c.take_drain.new.thread
     c.args.words.now c.take_step.new.words c.take_drain.new.words first second)
 
+-- If neither is taken, nothing has changed.
 pub returns : goal.returns
 returns g c =
     let program = c.args.program.now.threads in

@@ -12,6 +12,7 @@ pub returns-then-not-is_invisible : goal.returns-then-not-is_invisible
 returns-then-not-is_invisible g c =
     Settles-none c.args.program.now.threads c.args.conflicts c.args.cpu c.args.thread.now c.args.words.now
 
+-- An invisible step is taken if it is carried out.
 pub returns : goal.returns
 returns g c =
     let program = c.args.program.now in

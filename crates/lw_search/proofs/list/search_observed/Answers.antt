@@ -4,6 +4,7 @@ use Rattle.lw_search.proofs.Common.{program_of, subst, Visits, HaveSameWords, Is
 use Rattle.lw_search.proofs.CompleteLists.{lists_agreeing}
 use Rattle.lw_search.proofs.list.search_observed.Goals as goal
 
+-- The collected outcomes agree with all of the test's at the observed names.
 pub returns-clause-observed : goal.returns-clause-observed
 returns-clause-observed g c =
     let test = program_of c.args.program.now in

@@ -4,6 +4,7 @@ use Rattle.lw_search.proofs.Common.{program_of, subst, Visits, AreSame, IsSchedu
 use Rattle.lw_search.proofs.CompleteLists.{lists_agreeing, IsComplete-of_schedules}
 use Rattle.lw_search.proofs.list.search_schedules.Goals as goal
 
+-- The collected outcomes are all of the test's, each with a schedule.
 pub returns-clause-complete : goal.returns-clause-complete
 returns-clause-complete g c =
     let test = program_of c.args.program.now in

@@ -14,6 +14,7 @@ returns-then-is_drain g c = λ locs.
     ActResult (event_effect c.args.program.now.threads locs f c.args.thread.now) c.args.thread.now c.args.words.now c.drain.result
     c.drain.new.self c.drain.new.words) (sym drains) c.drain.ensures
 
+-- At the end of the code the step is refused.
 pub returns-in_default : goal.returns-in_default
 returns-in_default g c = λ locs.
     let e = c.args.event in
@@ -31,6 +32,7 @@ returns-in_default g c = λ locs.
       refl,
     )
 
+-- Otherwise the step does what the operation of the instruction does.
 pub returns : goal.returns
 returns g c =
     let program = c.args.program.now.threads in

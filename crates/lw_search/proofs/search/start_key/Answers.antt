@@ -13,6 +13,7 @@ loop-thread-init g c = record {
   extended = c.in_ok-memory.ensures.extended;
 }
 
+-- A round sets the number of one more thread's initial state.
 pub loop-thread-preserved : goal.loop-thread-preserved
 loop-thread-preserved g c =
     let regs = c.args.program.now.head.init_regs in

@@ -3,6 +3,7 @@ use Rattle.lw_search.proofs.Common.{◌∙◌, ap, sym, refl, slice_get, Some, u
 use Rattle.lw_search.proofs.ObservedOutcomes.{word_in-inserted, words-unchanged}
 use Rattle.lw_search.proofs.observed.ObservedStates.insert_words.Goals as goal
 
+-- The set has the words now; if they are not new, it had an equal list before.
 pub returns : goal.returns
 returns g c =
     let at = c.in_ok-is_new.field-0-0 in

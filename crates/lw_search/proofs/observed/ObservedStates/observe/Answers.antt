@@ -17,6 +17,7 @@ returns-then-not-is_new g c =
     c.in_ok-words.words c.in_ok-is_new.is_new c.args.self.now c.insert_words.new.self c.key-key.ensures c.in_ok-words.ensures
     c.in_ok-is_new.ensures c.if-not-is_new.true
 
+-- If the words are new, the outcome is appended with them.
 pub returns : goal.returns
 returns g c =
     let search = c.args.search.now in

@@ -7,6 +7,7 @@ use Rattle.lw_search.proofs.ThreadTransitions.{copied-row, IsCovered-transition,
 use Rattle.lw_search.proofs.ThreadTransitions.{IsPrefix-inserted_runs}
 use Rattle.lw_search.proofs.search.Search.add_settled.Goals as goal
 
+-- The state after the transition and the invisible events of all threads is inserted, so the successor is covered.
 pub returns-clause-covered : goal.returns-clause-covered
 returns-clause-covered g c =
     let program = c.args.self.now.program.now.threads in

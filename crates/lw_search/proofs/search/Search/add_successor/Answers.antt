@@ -19,6 +19,7 @@ returns-in_default-clause-covered g c =
     (ExpandsState-never_enabled program c.args.at c.args.key.now c.args.event
     (λ s. HasConflictsOfOthers program s c.args.cpu c.args.conflicts) (rw c.in_default.is at c.in_ok-next.ensures.taken))
 
+-- If no thread has an invisible event, the state after the transition is inserted as it is, so the successor is covered.
 pub returns-in_default-unsettled-clause-covered : goal.returns-in_default-unsettled-clause-covered
 returns-in_default-unsettled-clause-covered g c =
     let program = c.args.self.now.program.now.threads in

@@ -27,6 +27,7 @@ returns-then-not-branch-2-clause-taken g c =
     IsNeverEnabled-without_memory c.args.self.now.program.now.threads c.args.key.now c.args.event
     (copied-missing _ _ _ c.in_ok-load_memory.ensures c.if-not-branch-2.true)
 
+-- If the event is refused, it is enabled in no state of the key.
 pub returns-then-not-branch-3-clause-taken : goal.returns-then-not-branch-3-clause-taken
 returns-then-not-branch-3-clause-taken g c =
     let program = c.args.self.now.program.now.threads in
@@ -38,6 +39,7 @@ returns-then-not-branch-3-clause-taken g c =
     ActResult (event_effect program locs (event_of c.args.event) thread) thread c.load_memory.new.words b c.carry_out.new.thread
     c.carry_out.new.words) c.if-not-branch-3.true (c.in_ok-carry_out.ensures locs))
 
+-- If the event is carried out, it and the invisible events after it are a transition.
 pub returns-clause-taken : goal.returns-clause-taken
 returns-clause-taken g c =
     let program = c.args.self.now.program.now.threads in

@@ -4,11 +4,12 @@
 use Rattle.lw_search.proofs.Common.{◌+◌, ◌∙◌, arith, ap, length, CoversThread, DescribeState}
 use Rattle.lw_search.proofs.Common.{HasConflictsOfOthers, State}
 use Rattle.lw_search.proofs.Settling.{DescribeState-same_program, RepresentsThreads-of_state}
-use Rattle.lw_search.proofs.Successors.{ExpandsState-both, ExpandsState-if_more_holds, ExpandsState-weaker}
+use Rattle.lw_search.proofs.Successors.{ExpandsState-both, ExpandsState-if_more_holds, ExpandsState-mono}
 use Rattle.lw_search.proofs.Successors.{IsMonotone-CoversThreads, CoversThreads-next, ExpandsUpTo-all_threads}
 use Rattle.lw_search.proofs.Successors.{CoversThreads}
 use Rattle.lw_search.proofs.search.Search.expand.Goals as goal
 
+-- A round covers the successors by one more thread.
 pub loop-thread-preserved : goal.loop-thread-preserved
 loop-thread-preserved g c =
     let program = c.args.self.now.program.now.threads in
@@ -21,7 +22,7 @@ loop-thread-preserved g c =
     record {
       program_is = c.in_ok-expand_thread.ensures.program ∙ c.loop-thread.invariant.program_is;
       expands =
-          ExpandsState-weaker program c.args.at key Described
+          ExpandsState-mono program c.args.at key Described
           (λ s more. CoversThreads program thread s more × CoversThread program thread s more)
           (CoversThreads program (thread + 1)) (CoversThreads-next program thread)
           (ExpandsState-both program c.args.at key Described (CoversThreads program thread) (CoversThread program thread)
@@ -32,6 +33,7 @@ loop-thread-preserved g c =
       kept = rw c.loop-thread.invariant.program_is at c.in_ok-expand_thread.ensures.kept;
     }
 
+-- At the loop's end the successors by all threads are covered, so the state is expanded.
 pub returns-clause-expanded : goal.returns-clause-expanded
 returns-clause-expanded g c =
     let program = c.args.self.now.program.now.threads in

@@ -21,6 +21,7 @@ loop-at-preserved g c = record {
   kept = rw c.loop-at.invariant.program_is at c.in_ok-expand.ensures.kept;
 }
 
+-- If the index is the number of keys, all states found are expanded.
 pub returns-then-at-len-clause-progress : goal.returns-then-at-len-clause-progress
 returns-then-at-len-clause-progress g c =
     let end : c.loop-at.at ≡ length c.loop-at.self.states.keys = c.if-at-len.true ∙ c.len.ensures in (
@@ -45,6 +46,7 @@ returns-then-budget-len-2-clause-progress g c = λ start found invariant.
     let a = c.loop-at.invariant.expands start found invariant in
     (a.0, c.loop-at.at, a.1, omega (arith, a.1.key_count, c.len-2.ensures, c.if-budget-len-2.true))
 
+-- If the loop ends within the budget, all states found are expanded.
 pub returns-clause-progress : goal.returns-clause-progress
 returns-clause-progress g c = (
   λ start found invariant.

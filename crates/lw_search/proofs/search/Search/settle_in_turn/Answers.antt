@@ -24,6 +24,7 @@ loop-thread-preserved g c = record {
       c.loop-thread.invariant.settled (rw c.loop-thread.invariant.program_is at c.in_ok-next.ensures.settled);
 }
 
+-- The thread of the loop's index is one of the program.
 pub settle_thread-requires : goal.settle_thread-requires
 settle_thread-requires g c =
     let program = c.args.self.now.program.now.threads in

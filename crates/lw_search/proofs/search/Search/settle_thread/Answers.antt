@@ -4,7 +4,7 @@
 use Rattle.lw_search.proofs.Common.{◌≡◌, ◌∙◌, length, ap, sym, slice_get, IsLoaded, IsWorking, State}
 use Rattle.lw_search.proofs.Common.{RepresentsThreads, HasConflictsOfOthers}
 use Rattle.lw_search.proofs.Settling.{DescribeState-same_program, SettlesFrom-loaded, SettlesFrom-none}
-use Rattle.lw_search.proofs.Settling.{SettlesFrom-unmoved, SettlesFrom-weaker, IsLoaded-of_working}
+use Rattle.lw_search.proofs.Settling.{SettlesFrom-unmoved, SettlesFrom-mono, IsLoaded-of_working}
 use Rattle.lw_search.proofs.ThreadTransitions.{copied-row}
 use Rattle.lw_search.proofs.search.Search.settle_thread.Goals as goal
 
@@ -12,6 +12,7 @@ pub returns-then-not-may_settle-clause-settled : goal.returns-then-not-may_settl
 returns-then-not-may_settle-clause-settled g c =
     SettlesFrom-none c.args.self.now.program.now.threads c.args.key.now c.args.self.now.words c.args.self.now.run
 
+-- If the run did not grow, no event was taken, and the old key is right.
 pub returns-then-len-count-clause-settled : goal.returns-then-len-count-clause-settled
 returns-then-len-count-clause-settled g c =
     let program = c.args.self.now.program.now.threads in
@@ -31,6 +32,7 @@ returns-then-len-count-clause-settled g c =
     IsLoaded-of_working program c.args.key.now set c.args.cpu c.args.code.now c.load_thread.new.thread c.args.self.now.words s
     c.requires.code (copied-row _ _ _ c.in_ok-load_thread.ensures) (are_conflicts s))
 
+-- Otherwise the events lead to a state with the thread's new number.
 pub returns-clause-settled : goal.returns-clause-settled
 returns-clause-settled g c =
     let program = c.args.self.now.program.now.threads in
@@ -44,7 +46,7 @@ returns-clause-settled g c =
     (DescribeState-same_program program c.args.key.now c.outlooks-outlooks.result.threads s c.requires.of_program
     (c.outlooks-outlooks.ensures s) is_represented as_many) in
     let a = c.in_ok-settle.ensures in
-    SettlesFrom-weaker program
+    SettlesFrom-mono program
     (IsLoaded program tables c.args.key.now set c.args.cpu c.load_thread.new.thread c.args.self.now.words)
     (IsWorking program tables c.args.key.now c.args.self.now.words) c.with_numbers-next.result c.settle.new.words
     c.args.self.now.run c.settle.new.run (λ s.

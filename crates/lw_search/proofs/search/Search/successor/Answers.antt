@@ -19,6 +19,7 @@ returns-in_default-2-clause-kept g c =
     (AreTransitions-extended c.args.self.now.program.now.threads c.args.self.now.transitions rows.extended rows.runs
     c.requires.kept)
 
+-- The cache holds the new transition, and those from before, which larger tables preserve.
 pub returns-clause-kept : goal.returns-clause-kept
 returns-clause-kept g c =
     let program = c.args.self.now.program.now.threads in

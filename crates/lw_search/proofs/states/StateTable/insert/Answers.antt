@@ -5,6 +5,7 @@ use Rattle.lw_search.proofs.Common.{on_ok_weaker, unsigned_Decides, pointwise, p
 use Rattle.lw_search.proofs.Rows.{not-slice_get-if_absent, false-if_not_true}
 use Rattle.lw_search.proofs.states.StateTable.insert.Goals as goal
 
+-- If the key is new, it is appended with its origin.
 pub returns-then-is_new : goal.returns-then-is_new
 returns-then-is_new g c =
     let keys = c.self.inside.keys.keys in

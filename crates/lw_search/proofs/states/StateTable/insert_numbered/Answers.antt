@@ -5,6 +5,7 @@ use Rattle.lw_search.proofs.Common.{nat_eq, unsigned_Decides, pointwise, pointwi
 use Rattle.lw_search.proofs.Rows.{not-slice_get-if_absent, false-if_not_true, IsPrefix-refl}
 use Rattle.lw_search.proofs.states.StateTable.insert_numbered.Goals as goal
 
+-- If the key is new, it is appended with its origin.
 pub returns-in_ok-push : goal.returns-in_ok-push
 returns-in_ok-push g c =
     let keys = c.self.inside.keys.keys in

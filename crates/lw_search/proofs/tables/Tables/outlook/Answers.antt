@@ -6,6 +6,7 @@ use Rattle.lw_search.proofs.Common.{thread_code, Components, Lacks, lt-ltb, HasC
 use Rattle.lw_search.proofs.Collected.{slice_get-loop_item}
 use Rattle.lw_search.proofs.tables.Tables.outlook.Goals as goal
 
+-- The row with the thread's number describes its state, whichever thread of the program it is.
 pub returns-in-Some : goal.returns-in-Some
 returns-in-Some g c p lt at x w within lacks =
     let n = slice_index c.args.key.now (c.index.result + 1) in
@@ -28,6 +29,7 @@ returns-in-Some g c p lt at x w within lacks =
     subst (λ l. HasConflictsOf (thread_code l c.args.cpu) p o.0.conflicts) program o.2 x w within
     (subst (λ (z : Outlook). Lacks z.conflicts x w) is lacks)
 
+-- If the table has no row with the thread's number, the key represents no state of the thread.
 pub returns-in-None : goal.returns-in-None
 returns-in-None g c p lt at =
     let n = slice_index c.args.key.now (c.index.result + 1) in

@@ -7,6 +7,7 @@ use Rattle.lw_search.proofs.AccessSets.{HoldsOfFirst-set}
 use Rattle.lw_search.proofs.Collected.{slice_get-loop_item}
 use Rattle.lw_search.proofs.tables.Tables.outlooks.Goals as goal
 
+-- A round sets the outlook of the thread of the loop's index.
 pub loop-index-preserved : goal.loop-index-preserved
 loop-index-preserved g c =
     let tables = c.args.self.now in

@@ -17,6 +17,7 @@ returns-in-Some-clause-found g c =
     ap (λ (t : Components). slice_get t.threads n) (sym c.self.view_is) ∙ ap (slice_get c.self.inside.threads.keys) is ∙ at)
     c.row_number.ensures
 
+-- If the thread's state has no number, its row is appended, and numbers remain unique.
 pub returns-in_ok-index-in-None-clause-extended : goal.returns-in_ok-index-in-None-clause-extended
 returns-in_ok-index-in-None-clause-extended g c =
     rw (← c.self.view_is)

@@ -5,6 +5,7 @@ use Rattle.lw_search.proofs.Common.{◌≡◌, ◌∙◌, ap, sym, refl, Process
 use Rattle.lw_search.proofs.ThreadStates.{drain_effect-refused, drop_one-none}
 use Rattle.lw_search.proofs.thread_state.ThreadState.drain.Goals as goal
 
+-- If the buffer is empty, the machine refuses the drain, and nothing has changed.
 pub returns-in_default : goal.returns-in_default
 returns-in_default g c =
     let inside = c.self.inside in

@@ -13,6 +13,7 @@ returns-in_default g c =
     ∙ c.in_default.is in
     λ yes. (Ended, ap (λ i. step_effect i c.args.self.now) end)
 
+-- An operation that waits for an empty buffer is refused while the buffer has an entry.
 pub returns : goal.returns
 returns g c =
     let next : slice_get c.args.code.now c.args.self.now.position ≡ Some c.in-Some.instr =
