@@ -55,24 +55,24 @@ pub HasSyntax-of_parts : {A : Type 0} {arch : Arch} {before after : Cursor} {fir
     → ParsedQuestion arch b.parts.threads end first b.parts.locs b.parts.listed b.parts.quant b.parts.prop
     → length b.parts.locs ≤ most_locations
     → HasSyntax arch (remaining_texts before) b
-HasSyntax-of_parts {arch = arch} {before} {after} {first} {b} block rest end header there rows condition few =
+HasSyntax-of_parts {arch = arch} {before} {after} {first} {b} block rest end header there rows question few =
     let es = b.parts.initializers in
     let last = b.parts.locs in
     let n = b.parts.threads in
     let listed = site_names (map (site_by_name last) b.parts.listed) in
-    let more = site_names (sites_in condition.terminals) in
+    let more = site_names (sites_in question.terminals) in
     let along =
     names_and_sites-insert_names _ named_initializer named_initializer-insert_names first last (listed ++ more) es
-    (condition.names_are ∙ sym (insert_names-append first listed more))
+    (question.names_are ∙ sym (insert_names-append first listed more))
     (AllByRecursion-of_All es (λ e. IsIn first e.site) block.within) in
-    let syntax = syntax_of b condition.terminals in
+    let syntax = syntax_of b question.terminals in
     let last_table : last ≡ location_table syntax =
-    condition.names_are
+    question.names_are
     ∙ ap (λ ns. insert_names (insert_names ns listed) more)
     (names_of_initializers first es block.names_are ∙ ap (λ l. with_sites [] (sites_of l)) (sym along.0))
     ∙ sym (table_parts syntax) in
     record {
-      terminals = condition.terminals;
+      terminals = question.terminals;
       parts = record {
         after_block = remaining_texts after;
         after_header = rest;
@@ -83,12 +83,12 @@ HasSyntax-of_parts {arch = arch} {before} {after} {first} {b} block rest end hea
             subst (λ l. AllByRecursion (λ e. ThreadExists n e.site) l) (sym along.0)
             (ThreadExists-all_initializers n first es there);
         rows = rows;
-        question = condition.parsed;
+        question = question.parsed;
         few_names = omega (arith, few, ap length last_table);
-        few_nodes = condition.few_nodes;
+        few_nodes = question.few_nodes;
       };
       names = last_table;
-      proposition = condition.says;
+      proposition = question.says;
       initializers_in = All-from_recursion (λ e. IsIn last e.site) es along.1;
-      listed_in = condition.within;
+      listed_in = question.within;
     }

@@ -1,8 +1,8 @@
 -- A text fails at one place only, and for one cause, before the tokens of its body: in a token, and in its
--- preamble. The first half of the law that a text fails at one place (OneFault). (In bytes, 34 is `"` and 123 is `{`.)
-use Rattle.lw_text.proofs.Common.{◌≡◌, ℕ, ◌<◌, inl, inr, Bool, true, false, not, [], ◌∷◌, ◌++◌, length, refl}
-use Rattle.lw_text.proofs.Common.{sym, ap, ◌∙◌, subst, arith, ◌==◌, AllByRecursion, All-mono, Arch, Bytes}
-use Rattle.lw_text.proofs.Common.{first_byte_is, is_ascii_digit, is_blank, is_key_byte, is_name_byte}
+-- preamble. The first half of the law that a text fails at one place (OneFault).
+use Rattle.lw_text.proofs.Common.{byte, ◌≡◌, ℕ, ◌<◌, inl, inr, Bool, true, false, not, [], ◌∷◌, ◌++◌, length}
+use Rattle.lw_text.proofs.Common.{refl, sym, ap, ◌∙◌, subst, arith, ◌==◌, AllByRecursion, All-mono, Arch}
+use Rattle.lw_text.proofs.Common.{Bytes, first_byte_is, is_ascii_digit, is_blank, is_key_byte, is_name_byte}
 use Rattle.lw_text.proofs.Common.{is_space, IsFirstToken, IsName, IsNameOrNumber, IsNumber, IsSymbol}
 use Rattle.lw_text.proofs.Common.{IsTestName, IsToken, Trivia, begins_trivia, ParsesTestName, KeyLine, Note}
 use Rattle.lw_text.proofs.Common.{Notes, note, Quoted, Preamble, arch_keyword, not-true, not-false}
@@ -32,7 +32,7 @@ IsSameFault rest cause other because = (rest ≡ other) × (cause ≡ because)
 
 -- ---- Tokens.
 
--- No byte is a digit but no name byte: a digit may be in a name.
+-- The first byte of a text is not both a digit and no name byte.
 not-digit_without_name_byte : (bytes : Bytes)
     → first_byte_is is_ascii_digit bytes ≡ true
     → first_byte_is is_name_byte bytes ≡ false
@@ -61,7 +61,7 @@ FailsInToken-unique bytes c d (no_symbol some other lacks p) (no_name_run w r ru
     absurd (false≢true (sym other ∙ name))
 FailsInToken-unique bytes c d (no_symbol some other lacks p) (no_symbol also off never q) = p ∙ sym q
 
--- Where a token begins, no token fails.
+-- A text that begins with a token does not fail in a token.
 not-FailsInToken-if_parsed : (t rest : Bytes) (cause : TextCause) → FailsInToken (t ++ rest) cause → IsToken t rest → ⊥
 not-FailsInToken-if_parsed t rest cause (no_number_run w r run digit never c) (inl name) =
     let same =
@@ -73,7 +73,7 @@ not-FailsInToken-if_parsed t rest cause (no_number_run w r run digit never c) (i
       | inr number ↦ never number.0 (subst (λ x. IsNumber x number.0) same.0 number.1)
     ]
   where
-    -- The first byte of a token is that of the text.
+    -- If a text that is not empty does not begin with a digit, neither does it with more appended.
     no_digit_first-of_append : (t rest : Bytes)
         → 0 < length t
         → first_byte_is is_ascii_digit t ≡ false
@@ -101,7 +101,7 @@ not-FailsInToken-if_parsed t rest cause (no_name_run w r run first other never c
 not-FailsInToken-if_parsed t rest cause (no_symbol some other never c) (inl name) = false≢true (sym other ∙ run_front t rest name)
 not-FailsInToken-if_parsed t rest cause (no_symbol some other never c) (inr symbol) = never t rest refl symbol
 
--- At the end of a text no token fails.
+-- The empty text does not fail in a token.
 not-FailsInToken-if_at_end : (cause : TextCause) → FailsInToken [] cause → ⊥
 not-FailsInToken-if_at_end cause (no_number_run w r run digit never c) = cc digit
 not-FailsInToken-if_at_end cause (no_name_run w r run first other never c) = cc first
@@ -119,7 +119,7 @@ FailsInFirstToken-unique text r s c d (in_token trivia stop fails) (in_token als
     let same = Trivia-unique trivia also stop too in
     (same, FailsInToken-unique r c d fails (subst (λ x. FailsInToken x d) (sym same) q))
 
--- A text with a first token does not fail before it.
+-- A text that has a first token does not fail in its first token.
 pub not-FailsInFirstToken-if_parsed : (text r t after : Bytes) (c : TextCause)
     → FailsInFirstToken text r c
     → IsFirstToken text t after
@@ -130,7 +130,7 @@ not-FailsInFirstToken-if_parsed text r t after c (in_token trivia stop fails) is
     not-FailsInToken-if_parsed t after c
     (subst (λ x. FailsInToken x c) (Trivia-unique trivia is.0 stop (token_no_trivia t after is.1)) fails) is.1
 
--- A text that is only trivia does not fail in a token.
+-- A text that is only trivia does not fail in its first token.
 pub not-FailsInFirstToken-if_only_trivia : (text r : Bytes) (c : TextCause) → FailsInFirstToken text r c → Trivia text [] → ⊥
 not-FailsInFirstToken-if_only_trivia text r c (open_comment never end p) is = never [] refl is
 not-FailsInFirstToken-if_only_trivia text r c (in_token trivia stop fails) is =
@@ -138,7 +138,7 @@ not-FailsInFirstToken-if_only_trivia text r c (in_token trivia stop fails) is =
 
 -- ---- The test's name.
 
--- A text of blanks does not begin with another byte.
+-- A text of blanks that is not empty begins with a blank.
 first_byte-of_blanks : (text : Bytes)
     → AllByRecursion (λ b. is_blank b ≡ true) text
     → 0 < length text
@@ -146,7 +146,7 @@ first_byte-of_blanks : (text : Bytes)
 first_byte-of_blanks [] all some = absurd (omega (arith, some))
 first_byte-of_blanks (b ∷ text) all some = all.0
 
--- A name without blanks does not begin with a blank, whatever follows.
+-- If a name is not empty and has no blank, it does not begin with a blank, whatever follows it.
 plain_front : (name after : Bytes)
     → AllByRecursion (λ b. is_blank b ≡ false) name
     → 0 < length name
@@ -154,7 +154,7 @@ plain_front : (name after : Bytes)
 plain_front [] after all some = absurd (omega (arith, some))
 plain_front (b ∷ name) after all some = all.0
 
--- Blanks that are followed by a name that is not blank are not all of a text.
+-- If a name is not empty and has no blank, a text that contains it is not all blanks.
 not-all_blank-before_name : (blanks name after : Bytes)
     → AllByRecursion (λ b. is_blank b ≡ true) (blanks ++ (name ++ after))
     → AllByRecursion (λ b. is_blank b ≡ false) name
@@ -165,7 +165,7 @@ not-all_blank-before_name [] name after all plain some =
     ∙ first_byte-of_blanks (name ++ after) all (omega (arith, some, length-append name after)))
 not-all_blank-before_name (b ∷ blanks) name after all plain some = not-all_blank-before_name blanks name after all.1 plain some
 
--- A text that begins with blanks begins with one.
+-- If a text begins with one or more blanks, its first byte is a blank.
 blank_first : (text blanks rest : Bytes)
     → text ≡ blanks ++ rest
     → 0 < length blanks
@@ -202,7 +202,7 @@ FailsInTestName-unique text r s c d (bad_name blanks name after e f some are pla
   p ∙ sym q,
 )
 
--- A test's name with blanks before it does not fail.
+-- A text that begins with blanks and a test's name does not fail in the test's name.
 pub not-FailsInTestName-if_parsed : (text r name after : Bytes) (c : TextCause)
     → FailsInTestName text r c
     → ParsesTestName text name after
@@ -219,7 +219,7 @@ not-FailsInTestName-if_parsed text r name after c (bad_name blanks word later e 
 
 -- ---- The notes.
 
--- A text that begins with a byte for which the test holds does not begin with one for which it does not.
+-- A test of a text's first byte is not both true and false.
 not-both-first_byte : (p : ℕ → Bool) (text : Bytes) → first_byte_is p text ≡ true → first_byte_is p text ≡ false → ⊥
 not-both-first_byte p text holds other = false≢true (sym other ∙ holds)
 
@@ -238,7 +238,7 @@ FailsInKeyLine-unique text r s (no_equals_sign key spaces e some all blank after
     (record { parts = refl; bytes_pass = blank; longest = stop })
     (record { parts = outer.1; bytes_pass = space; longest = end })).1
 
--- A line `Key=value` does not fail as one.
+-- A text that begins with a line `Key=value` does not satisfy `FailsInKeyLine`.
 not-FailsInKeyLine-if_parsed : (text r end : Bytes) → FailsInKeyLine text r → KeyLine text end → ⊥
 not-FailsInKeyLine-if_parsed text r end (no_key_byte other at) is =
     not-both-first_byte is_key_byte text (KeyLine-front text end is) other
@@ -249,19 +249,19 @@ not-FailsInKeyLine-if_parsed text r end (no_equals_sign key spaces e some all bl
 FailsInNote-unique : (text r s : Bytes) → FailsInNote text r → FailsInNote text s → r ≡ s
 FailsInNote-unique text r s (open_quote inside e plain end) (open_quote within f also is) = end ∙ sym is
 FailsInNote-unique text r s (open_quote inside e plain end) (in_key_line other q) =
-    absurd (not-both-first_byte (λ b. b == 34) text (ap (first_byte_is (λ b. b == 34)) e) other)
+    absurd (not-both-first_byte (λ b. b == byte "\"") text (ap (first_byte_is (λ b. b == byte "\"")) e) other)
 FailsInNote-unique text r s (in_key_line other q) (open_quote inside e plain end) =
-    absurd (not-both-first_byte (λ b. b == 34) text (ap (first_byte_is (λ b. b == 34)) e) other)
+    absurd (not-both-first_byte (λ b. b == byte "\"") text (ap (first_byte_is (λ b. b == byte "\"")) e) other)
 FailsInNote-unique text r s (in_key_line other p) (in_key_line too q) = FailsInKeyLine-unique text r s p q
 
--- A note does not fail as one.
+-- A text that begins with a note does not satisfy `FailsInNote`.
 not-FailsInNote-if_parsed : (text r end : Bytes) → FailsInNote text r → Note text end → ⊥
 not-FailsInNote-if_parsed text r end (open_quote inside e plain ends) is =
-    no_note-if_quote_is_unclosed text (ap (first_byte_is (λ b. b == 34)) e)
-    (no_quoted_text-if_no_quote text inside inside [] e (sym (append-nil inside)) (HasNoByte-of_all 34 inside plain) refl refl)
-    end is
+    no_note-if_quote_is_unclosed text (ap (first_byte_is (λ b. b == byte "\"")) e)
+    (no_quoted_text-if_no_quote text inside inside [] e (sym (append-nil inside)) (HasNoByte-of_all (byte "\"") inside plain) refl
+    refl) end is
 not-FailsInNote-if_parsed text r end (in_key_line other q) (inl is) =
-    not-both-first_byte (λ b. b == 34) text (Quoted-front text end is) other
+    not-both-first_byte (λ b. b == byte "\"") text (Quoted-front text end is) other
 not-FailsInNote-if_parsed text r end (in_key_line other q) (inr is) = not-FailsInKeyLine-if_parsed text r end q is
 
 -- Notes fail at one place only.
@@ -288,13 +288,13 @@ FailsInNotes-unique r s text (after_note {mid = mid} {after = after} trivia is p
     let ends = Note-unique mid after later is (subst (λ x. Note x later) (sym same) too) in
     FailsInNotes-unique r s after p (subst (FailsInNotes s) (sym ends) q)
 
--- Notes that a `{` follows do not fail.
+-- A text that begins with notes and a `{` does not fail in its notes.
 not-FailsInNotes-if_parsed : (r : Bytes) (text end : Bytes) → FailsInNotes r text → Notes text end → ⊥
 not-FailsInNotes-if_parsed r text end (open_comment_in_notes never ends) is =
     let start = Notes-trivia_first is in never start.0 start.2 start.1
 not-FailsInNotes-if_parsed r text end (in_note {mid = mid} trivia stop other p) (none {rest = last} also block) =
-    not-both-first_byte (λ b. b == 123) mid
-    (subst (λ x. first_byte_is (λ b. b == 123) x ≡ true) (Trivia-unique also trivia (block_no_trivia last block) stop) block)
+    not-both-first_byte (λ b. b == byte "{") mid
+    (subst (λ x. first_byte_is (λ b. b == byte "{") x ≡ true) (Trivia-unique also trivia (block_no_trivia last block) stop) block)
     other
 not-FailsInNotes-if_parsed r text end (in_note {mid = mid} trivia stop other p) (note {mid = start} {after = after} also is more) =
     not-FailsInNote-if_parsed mid r after p

@@ -57,18 +57,18 @@ module _ {A : Type 0} {start : List Token} {here after : Cursor} {cells : List (
   abbrev cells_so_far : List (Cell A)
   cells_so_far = cells ++ record { tokens = tokens; end = mark.at } ∷ []
 
-  -- The cell's tokens are a cell, up to the mark.
-  ParsesCell-by_mark : (w : Bytes)
+  -- The tokens before the mark parse as a cell, which the mark, with its text w, and the remaining tokens follow.
+  Cell-by_mark : (w : Bytes)
       → mark.text.now ≡ w
       → words.Cell (remaining_texts here) (token_texts tokens) (w ∷ remaining_texts after)
-  ParsesCell-by_mark w e = (
+  Cell-by_mark w e = (
     ap token_texts taken.parts
         ∙ map-append (λ (t : Token). t.text.now) tokens (mark ∷ remaining after)
         ∙ ap (λ m. token_texts tokens ++ m ∷ remaining_texts after) e,
     taken.plain,
   )
 
-  -- The cells with positions, and this one.
+  -- The cells read so far and this one, with their positions, are read from the tokens up to those that remain after the mark.
   CellsFrom-next_cell : CellsFrom (with_spans start) (placed_row cells_so_far) (with_spans (remaining after))
   CellsFrom-next_cell =
       rw (map-append placed_cell cells (record { tokens = tokens; end = mark.at } ∷ []))
@@ -84,7 +84,7 @@ module _ {A : Type 0} {start : List Token} {here after : Cursor} {cells : List (
     before =
         rw (map_push cell_texts cells (record { tokens = tokens; end = mark.at }))
         (ParsesMany-push _ _ _ (remaining_texts here) (remaining_texts after) _ read.before
-        (ParsesCell-by_mark (codes "|") (mark_is_bar mark.text.now taken.ends e)));
+        (Cell-by_mark (codes "|") (mark_is_bar mark.text.now taken.ends e)));
     cut = CellsFrom-next_cell;
   }
 
@@ -95,7 +95,7 @@ module _ {A : Type 0} {start : List Token} {here after : Cursor} {cells : List (
   RowCells-CellsRead e = (
     rw (map_push cell_texts cells (record { tokens = tokens; end = mark.at }))
         (ParsesSepBy-close words.Cell _ (codes ";") _ _ (remaining_texts here) _ _ read.before
-        (ParsesCell-by_mark (codes ";") (bytes_equal _ (codes ";") e))),
+        (Cell-by_mark (codes ";") (bytes_equal _ (codes ";") e))),
     CellsFrom-next_cell,
   )
 
@@ -136,7 +136,7 @@ EndsBefore-RowsFrom len ts (row ∷ rows) rest cut all =
     let here = EndsBefore-CellsFrom len ts row cut.0 cut.1 all in
     (All-from_recursion (EndsBefore len) row here.0, EndsBefore-RowsFrom len cut.0 rows rest cut.2 here.1)
 
--- The cells of a test's rows are within the position of its tokens.
+-- If all tokens are within a length, so are the cells of the rows that are read from them.
 pub EndsBefore-HasRows : {A : Type 0} (len : ℕ) (arch : Arch) (tokens : List Token) (threads : ℕ) (rows : List (List (Cell A)))
     → HasRows arch (with_spans tokens) threads (placed_cells rows)
     → All (λ t. t.at ≤ len) tokens

@@ -9,10 +9,10 @@ use Rattle.lw_text.proofs.Texts.{bytes_equal, not-bar_is_semicolon}
 use Rattle.lw_text.proofs.api.CellTokens.{EndsNoCell}
 use Rattle.lw_text.proofs.Lists.{ParsesMany-push, AreReadTill, ParsesManyTill-at_stop, ParsesManyTill-peel}
 use Rattle.lw_text.proofs.Lists.{ParsesManyTill-unique, AreReadSepBy, IsDeterministic}
-use Rattle.lw_text.proofs.Lists.{not-ParsesSepBy-if_rest_is_none, IsMark, IsExact, ParsesSepBy-front}
-use Rattle.lw_text.proofs.Lists.{ParsesSepBy-unique}
+use Rattle.lw_text.proofs.Lists.{not-ParsesSepBy-if_rest_is_none, IsListPunctuation, IsExact}
+use Rattle.lw_text.proofs.Lists.{ParsesSepBy-front, ParsesSepBy-unique}
 
--- The tokens up to the first that ends a cell, that token, and the rest.
+-- The tokens ts are w, of which none ends a cell, then a, which ends one, and then the rest.
 record IsCut (ts w : TokenList) (a : Bytes) (rest : TokenList) : Type 0 where
   pub parts : ts ≡ w ++ a ∷ rest
   pub plain : EndsNoCell w
@@ -44,7 +44,7 @@ split-unique (c ∷ w) (d ∷ v) {r = r} {s = s} {a = a} {b = b} p q =
     (cc, both.1, both.2)
 
 -- `|` and `;` end a cell.
-mark_ends : (a : Bytes) → IsMark Cell (codes "|") (codes ";") a → ends_cell a ≡ true
+mark_ends : (a : Bytes) → IsListPunctuation Cell (codes "|") (codes ";") a → ends_cell a ≡ true
 mark_ends a (inl e) = ap ends_cell e
 mark_ends a (inr e) = ap ends_cell e
 
@@ -65,7 +65,7 @@ mark_is_bar m e n = elim (or_cases (bytes_eq m (codes "|")) (bytes_eq m (codes "
   | inr h ↦ absurd cc
 ]
 
--- Tokens without an end of a cell contain no mark.
+-- If no token of a list ends a cell, the list has no token m that ends one.
 no_mark_in_cell : (x : TokenList) (m : Bytes) (l : TokenList) → EndsNoCell (x ++ m ∷ l) → ends_cell m ≡ true → ⊥
 no_mark_in_cell [] m l p e = let h = p.0 in cc
 no_mark_in_cell (t ∷ x) m l p e = no_mark_in_cell x m l p.1 e
@@ -120,7 +120,7 @@ module _ (threads : ℕ) (ts here : TokenList) (rows : CellGrid) (passed : AreRe
       → AreReadTill begins_stop (Row threads) ts (rows ++ row ∷ []) next
   AreReadTill-next_row next row go line = ParsesMany-push _ rows ts here next row passed (go, line)
 
-  -- All rows are those read, followed by the next row and others.
+  -- If the next token does not end the rows, and the tokens have rows, these are the rows read, then the next row, and others.
   next_row : begins_stop here ≡ false
       → (all : CellGrid) (rest : TokenList)
       → Rows threads ts all rest

@@ -1,8 +1,8 @@
 -- The end of a comment is unique, and a loop that counts the open inner comments finds it. The loop of
--- `after_comment` goes by `CommentContinuesAt`. (In bytes, 40 is `(`, 41 is `)` and 42 is `*`.)
-use Rattle.lw_text.proofs.Common.{◌≡◌, ℕ, zero, suc, ◌+◌, ◌-◌, ◌<◌, ◌≤◌, true, false, [], ◌∷◌, length, refl}
-use Rattle.lw_text.proofs.Common.{sym, ap, subst, arith, add-one, sub-one, Bytes, IsSuffix, begins_pair}
-use Rattle.lw_text.proofs.Common.{begins_mark, Comment, closed, nested, other}
+-- `after_comment` goes by `CommentContinuesAt`.
+use Rattle.lw_text.proofs.Common.{byte, ◌≡◌, ℕ, zero, suc, ◌+◌, ◌-◌, ◌<◌, ◌≤◌, true, false, [], ◌∷◌, length}
+use Rattle.lw_text.proofs.Common.{refl, sym, ap, subst, arith, add-one, sub-one, Bytes, IsSuffix, begins_pair}
+use Rattle.lw_text.proofs.Common.{begins_comment_sign, Comment, closed, nested, other}
 use Rattle.lw_text.proofs.Lists.{IsSuffix-join}
 
 -- The text closes n open comments in sequence, and `rest` remains.
@@ -10,31 +10,32 @@ abbrev pub Closes : ℕ → Bytes → Bytes → Type 0
 Closes zero text rest = text ≡ rest
 Closes (suc n) text rest = (mid : Bytes) × Comment text mid × Closes n mid rest
 
--- An open comment that continues with `(*` continues after an inner comment.
+-- If an open comment continues with `(*`, an inner comment follows, after which the comment continues.
 Comment-open_inv : {ts rest : Bytes}
     → Comment ts rest
     → (text : Bytes)
-    → ts ≡ 40 ∷ 42 ∷ text
+    → ts ≡ byte "(" ∷ byte "*" ∷ text
     → (inner : Bytes) × Comment text inner × Comment inner rest
-Comment-open_inv closed text e = absurd (let h : false ≡ true = ap (begins_pair 40 42) e in cc)
+Comment-open_inv closed text e = absurd (let h : false ≡ true = ap (begins_pair (byte "(") (byte "*")) e in cc)
 Comment-open_inv (nested {text = t} {inner} c d) text e = (inner, rw (let k : t ≡ text = cc in k) at c, d)
-Comment-open_inv (other {b} {text = t} m c) text e = absurd (let h = ap begins_mark e in cc)
+Comment-open_inv (other {b} {text = t} m c) text e = absurd (let h = ap begins_comment_sign e in cc)
 
--- `*)` ends the comment.
-Comment-close_inv : {ts rest : Bytes} → Comment ts rest → (text : Bytes) → ts ≡ 42 ∷ 41 ∷ text → text ≡ rest
+-- If an open comment continues with `*)`, it ends after that.
+Comment-close_inv : {ts rest : Bytes} → Comment ts rest → (text : Bytes) → ts ≡ byte "*" ∷ byte ")" ∷ text → text ≡ rest
 Comment-close_inv closed text e = cc
-Comment-close_inv (nested c d) text e = absurd (let h : true ≡ false = ap (begins_pair 40 42) e in cc)
-Comment-close_inv (other {b} {text = t} m c) text e = absurd (let h = ap begins_mark e in cc)
+Comment-close_inv (nested c d) text e = absurd (let h : true ≡ false = ap (begins_pair (byte "(") (byte "*")) e in cc)
+Comment-close_inv (other {b} {text = t} m c) text e = absurd (let h = ap begins_comment_sign e in cc)
 
--- After any other byte the same comment continues.
+-- If an open comment continues with neither `(*` nor `*)`, it continues after its next byte.
 Comment-other_inv : {ts rest : Bytes}
     → Comment ts rest
     → (b : ℕ) (text : Bytes)
     → ts ≡ b ∷ text
-    → begins_mark (b ∷ text) ≡ false
+    → begins_comment_sign (b ∷ text) ≡ false
     → Comment text rest
-Comment-other_inv closed b text e m = absurd (let h : true ≡ begins_mark (b ∷ text) = ap begins_mark e in cc)
-Comment-other_inv (nested c d) b text e m = absurd (let h : true ≡ begins_mark (b ∷ text) = ap begins_mark e in cc)
+Comment-other_inv closed b text e m = absurd (let h : true ≡ begins_comment_sign (b ∷ text) = ap begins_comment_sign e in cc)
+Comment-other_inv (nested c d) b text e m =
+    absurd (let h : true ≡ begins_comment_sign (b ∷ text) = ap begins_comment_sign e in cc)
 Comment-other_inv {rest = rest} (other {text = t} n c) b text e m = rw (let k : t ≡ text = cc in k) at c
 
 -- The end of a comment is unique.
@@ -50,9 +51,12 @@ Comment-shorter closed = omega arith
 Comment-shorter (nested c d) = omega (arith, Comment-shorter c, Comment-shorter d)
 Comment-shorter (other m c) = omega (arith, Comment-shorter c)
 
--- If the text starts neither with `(*` nor with `*)`, it starts with no mark of a comment.
-begins_no_mark : (text : Bytes) → begins_pair 40 42 text ≡ false → begins_pair 42 41 text ≡ false → begins_mark text ≡ false
-begins_no_mark text p q = rw (p, q)
+-- If a text begins with neither `(*` nor `*)`, it begins with no sign of a comment.
+not-begins_comment_sign : (text : Bytes)
+    → begins_pair (byte "(") (byte "*") text ≡ false
+    → begins_pair (byte "*") (byte ")") text ≡ false
+    → begins_comment_sign text ≡ false
+not-begins_comment_sign text p q = rw (p, q)
 
 -- The invariant of the loop over a comment's bytes: the comment ends exactly where the rest closes it and the `depth` inner comments that
 -- are open, and the rest is shorter than the bytes by `depth` at least. So the count `depth` does not overflow.
@@ -61,10 +65,10 @@ pub record CommentContinuesAt (bytes : Bytes) (depth : ℕ) (rest : Bytes) : Typ
   pub rest_if_whole : (end : Bytes) → Comment bytes end → Closes (suc depth) rest end
   pub bound : depth + length rest ≤ length bytes
 
--- After `(*` one more comment is open.
+-- If the rest begins with `(*`, the invariant holds after it, with one more open comment.
 pub CommentContinuesAt-after_open : {bytes rest after : Bytes} {depth : ℕ}
     → CommentContinuesAt bytes depth rest
-    → rest ≡ 40 ∷ 42 ∷ after
+    → rest ≡ byte "(" ∷ byte "*" ∷ after
     → CommentContinuesAt bytes (depth + 1) after
 CommentContinuesAt-after_open {bytes} {rest} {after} {depth} p e = rw add-one (record {
   whole_if_rest = λ end c. p.whole_if_rest end (let d = c.2 in (d.0, rw e (nested c.1 d.1), d.2));
@@ -75,10 +79,10 @@ CommentContinuesAt-after_open {bytes} {rest} {after} {depth} p e = rw add-one (r
   bound = omega (arith, p.bound, ap length e);
 })
 
--- After `*)` that closes an inner comment, one fewer is open.
+-- If the rest begins with `*)`, and an inner comment is open, the invariant holds after it, with one fewer open.
 pub CommentContinuesAt-after_close : {bytes rest after : Bytes} {depth : ℕ}
     → CommentContinuesAt bytes depth rest
-    → rest ≡ 42 ∷ 41 ∷ after
+    → rest ≡ byte "*" ∷ byte ")" ∷ after
     → (depth ≡ 0 → ⊥)
     → CommentContinuesAt bytes (depth - 1) after
 CommentContinuesAt-after_close {depth = zero} p e ne = absurd (ne refl)
@@ -91,23 +95,24 @@ CommentContinuesAt-after_close {bytes} {rest} {after} {depth = suc depth} p e ne
   bound = omega (arith, p.bound, ap length e);
 })
 
--- After `*)` that closes the outermost comment, the comment has ended.
+-- If the rest begins with `*)`, and no inner comment is open, the comment ends after it.
 pub Comment-at_close : {bytes rest after : Bytes} {depth : ℕ}
     → CommentContinuesAt bytes depth rest
-    → rest ≡ 42 ∷ 41 ∷ after
+    → rest ≡ byte "*" ∷ byte ")" ∷ after
     → depth ≡ 0
     → Comment bytes after
 Comment-at_close {bytes} {rest} {after} {depth} p e z = p.whole_if_rest after (after, rw e closed, rw z refl)
 
--- Any other byte preserves the number of open comments.
+-- If the rest begins with neither `(*` nor `*)`, the invariant holds after its first byte, with as many open comments.
 pub CommentContinuesAt-after_other : {bytes rest next : Bytes} {depth b : ℕ}
     → CommentContinuesAt bytes depth rest
     → rest ≡ b ∷ next
-    → begins_pair 40 42 rest ≡ false
-    → begins_pair 42 41 rest ≡ false
+    → begins_pair (byte "(") (byte "*") rest ≡ false
+    → begins_pair (byte "*") (byte ")") rest ≡ false
     → CommentContinuesAt bytes depth next
 CommentContinuesAt-after_other {bytes} {rest} {next} {depth} {b} p e m n =
-    let mark : begins_mark (b ∷ next) ≡ false = subst (λ x. begins_mark x ≡ false) e (begins_no_mark rest m n) in
+    let mark : begins_comment_sign (b ∷ next) ≡ false =
+    subst (λ x. begins_comment_sign x ≡ false) e (not-begins_comment_sign rest m n) in
     record {
       whole_if_rest = λ end c. p.whole_if_rest end (c.0, rw e (other mark c.1), c.2);
       rest_if_whole = λ end c. let d = p.rest_if_whole end c in (d.0, Comment-other_inv d.1 b next e mark, d.2);
@@ -116,6 +121,6 @@ CommentContinuesAt-after_other {bytes} {rest} {next} {depth} {b} p e m n =
 
 -- What follows a comment is a suffix of the text.
 pub Comment-suffix : {text rest : Bytes} → Comment text rest → IsSuffix text rest
-Comment-suffix closed = (42 ∷ 41 ∷ [], refl)
-Comment-suffix (nested c d) = IsSuffix-join (40 ∷ 42 ∷ [], refl) (IsSuffix-join (Comment-suffix c) (Comment-suffix d))
+Comment-suffix closed = (byte "*" ∷ byte ")" ∷ [], refl)
+Comment-suffix (nested c d) = IsSuffix-join (byte "(" ∷ byte "*" ∷ [], refl) (IsSuffix-join (Comment-suffix c) (Comment-suffix d))
 Comment-suffix (other {b} m c) = IsSuffix-join (b ∷ [], refl) (Comment-suffix c)

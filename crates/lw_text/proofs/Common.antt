@@ -35,16 +35,16 @@ pub use Rattle.std.specs.Char.{digit_value, is_ascii_digit, is_ascii_graphic}
 pub use Rattle.std.specs.List.{AllByRecursion, cons_option, list_all, list_any, range_with_len}
 pub use Rattle.std.specs.Str.Parse.{AllDigits, digits_value_after}
 pub use Rattle.lw_base.proofs.Common.{And, Bytes, CellGrid, Cells, Formula, HoldsOfNothing, IsDuplicateFree}
-pub use Rattle.lw_base.proofs.Common.{IsLocationName, IsName, IsRegisterName, IsSeenInRange, IsTestName}
+pub use Rattle.lw_base.proofs.Common.{IsName, IsRegisterName, IsSeenInRange, IsTestName, IsUnreservedName}
 pub use Rattle.lw_base.proofs.Common.{IsWellFormedHead, IsWordNumber, MentionsOnly, NameTable, No, Not, Or}
 pub use Rattle.lw_base.proofs.Common.{ParsesNothing, Reg_is, TestHead, TokenList, Word_is, Yes, all_registers}
-pub use Rattle.lw_base.proofs.Common.{arch_keyword, assignment, contains_name, first_byte_is, formula_of}
-pub use Rattle.lw_base.proofs.Common.{head_of, insert_name, insert_names, is_binary, is_blank, is_key_byte}
-pub use Rattle.lw_base.proofs.Common.{is_name_byte, is_or, is_reserved, is_space, locations, most_locations}
-pub use Rattle.lw_base.proofs.Common.{most_name_bytes, most_nodes, most_rows, most_threads, nodes}
-pub use Rattle.lw_base.proofs.Common.{parenthesized, parenthesized_if, position_of_name, proposition_text}
-pub use Rattle.lw_base.proofs.Common.{quantifier_text, register_name, registers, seen_eq, site_text}
-pub use Rattle.lw_base.proofs.Common.{thread_registers}
+pub use Rattle.lw_base.proofs.Common.{arch_keyword, assignment, byte, contains_name, first_byte_is}
+pub use Rattle.lw_base.proofs.Common.{formula_of, head_of, insert_name, insert_names, is_binary, is_blank}
+pub use Rattle.lw_base.proofs.Common.{is_key_byte, is_name_byte, is_or, is_reserved, is_space, locations}
+pub use Rattle.lw_base.proofs.Common.{most_locations, most_name_bytes, most_nodes, most_rows, most_threads}
+pub use Rattle.lw_base.proofs.Common.{nodes, parenthesized, parenthesized_if, position_of_name}
+pub use Rattle.lw_base.proofs.Common.{proposition_text, quantifier_text, register_name, registers, seen_eq}
+pub use Rattle.lw_base.proofs.Common.{site_text, thread_registers}
 pub use Rattle.lw_base.proofs.api.Blanks.{byte_eq-sound, is_blank-passes, list_all-member, name_ascii}
 pub use Rattle.lw_base.proofs.api.Blanks.{name_bytes_ascii, slice_index_or-ascii}
 pub use Rattle.lw_base.proofs.api.Elements.{All-append_inv, All-map_inv, All-mono, AllByRecursion-append}
@@ -53,7 +53,7 @@ pub use Rattle.lw_base.proofs.api.Elements.{AllByRecursion-map, AllByRecursion-m
 pub use Rattle.lw_base.proofs.api.Elements.{AllByRecursion-of_All}
 pub use Rattle.lw_base.proofs.api.GrowingTables.{IsDuplicateFree-insert_names, contains_name-insert_names}
 pub use Rattle.lw_base.proofs.api.GrowingTables.{contains_name-of_inserted, insert_name-grows}
-pub use Rattle.lw_base.proofs.api.GrowingTables.{insert_names-append, insert_names-longer}
+pub use Rattle.lw_base.proofs.api.GrowingTables.{insert_names-append, length_le-insert_names}
 pub use Rattle.lw_base.proofs.api.GrowingTables.{position_of_name-insert_names, position_of_name-within}
 pub use Rattle.lw_base.proofs.api.Lists.{cons-head_eq, slice_get-in_range}
 pub use Rattle.lw_base.proofs.api.Registers.{register_of_name-unique}
@@ -83,10 +83,10 @@ pub use Rattle.lw_text.specs.Failures.{in_elements_after, in_header, in_initiali
 pub use Rattle.lw_text.specs.Failures.{in_next_thread, in_proposition, in_quantifier, in_question}
 pub use Rattle.lw_text.specs.Failures.{in_register, in_row, in_rows, in_rows_after, in_site, in_sites}
 pub use Rattle.lw_text.specs.Failures.{in_terminal, in_value, incomplete, next_place, no_brace, no_bracket}
-pub use Rattle.lw_text.specs.Failures.{no_colon, no_end, no_equals, no_exists, no_list_bracket, no_mark}
-pub use Rattle.lw_text.specs.Failures.{no_number, no_quantifier, no_register_name, no_such_thread, no_thread}
-pub use Rattle.lw_text.specs.Failures.{no_thread_mark, no_thread_name, opening_words, ragged, too_many_nodes}
-pub use Rattle.lw_text.specs.Failures.{too_many_rows, too_many_threads, unopened}
+pub use Rattle.lw_text.specs.Failures.{no_colon, no_end, no_equals, no_exists, no_list_bracket, no_number}
+pub use Rattle.lw_text.specs.Failures.{no_quantifier, no_register_name, no_separator, no_such_thread}
+pub use Rattle.lw_text.specs.Failures.{no_thread, no_thread_name, no_thread_separator, opening_words, ragged}
+pub use Rattle.lw_text.specs.Failures.{too_many_nodes, too_many_rows, too_many_threads, unopened}
 pub use Rattle.lw_text.specs.Frames.{Block, HasFrame, InitializerSyntax, IsInitializer, ParsesNoTest}
 pub use Rattle.lw_text.specs.Frames.{ParsesTest, TestFrame, TestSyntax, frame_of_syntax, head_of_syntax}
 pub use Rattle.lw_text.specs.Frames.{initial_word_of, listed_in, location_table, sites_of}
@@ -116,7 +116,7 @@ pub use Rattle.lw_text.specs.TextFailures.{no_name, no_name_run, no_number_run, 
 pub use Rattle.lw_text.specs.TextFailures.{open_comment_in_notes, open_quote, other_keyword}
 pub use Rattle.lw_text.specs.TokenKinds.{IsOfKind}
 pub use Rattle.lw_text.specs.Tokens.{Comment, Digits, IsFirstToken, IsNameOrNumber, IsNameRun, IsNumber}
-pub use Rattle.lw_text.specs.Tokens.{IsSymbol, IsToken, Tokens, Trivia, begins_mark, begins_pair}
+pub use Rattle.lw_text.specs.Tokens.{IsSymbol, IsToken, Tokens, Trivia, begins_comment_sign, begins_pair}
 pub use Rattle.lw_text.specs.Tokens.{begins_trivia, blank, closed, comment, is_one_byte_symbol}
 pub use Rattle.lw_text.specs.Tokens.{is_two_byte_symbol, nested, one_byte_symbols, opens_comment, other}
 pub use Rattle.lw_text.specs.Tokens.{two_byte_symbols}

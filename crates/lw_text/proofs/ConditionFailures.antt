@@ -5,9 +5,9 @@ use Rattle.lw_text.proofs.Common.{◌≤◌, Option, None, Some, List, [], ◌�
 use Rattle.lw_text.proofs.Common.{Bool, true, false, refl, sym, ap, ◌∙◌, subst, inl, inr, arith, codes}
 use Rattle.lw_text.proofs.Common.{option_and_then, fold_stays, AllByRecursion, Arch, Bytes, NameTable}
 use Rattle.lw_text.proofs.Common.{TokenList, Quant, Formula, ThreadExists, HasRoomFor, with_sites}
-use Rattle.lw_text.proofs.Common.{insert_names-longer, site_names, Listed, Quantified, Terminal, Open, Close}
-use Rattle.lw_text.proofs.Common.{Negation, Conjunction, Disjunction, Atom, AtomSyntax, Always, Never, Holds}
-use Rattle.lw_text.proofs.Common.{IsTerminal, Terminals, Fits, NoQuestion, resolved, is_node, sites_in}
+use Rattle.lw_text.proofs.Common.{length_le-insert_names, site_names, Listed, Quantified, Terminal, Open}
+use Rattle.lw_text.proofs.Common.{Close, Negation, Conjunction, Disjunction, Atom, AtomSyntax, Always, Never}
+use Rattle.lw_text.proofs.Common.{Holds, IsTerminal, Terminals, Fits, NoQuestion, resolved, is_node, sites_in}
 use Rattle.lw_text.proofs.Common.{ReaderState, BeforePart, AfterPart, initial_reader_state, next_state}
 use Rattle.lw_text.proofs.Common.{state_result, SiteSyntax, IfFirst, FailsInQuantifier, opening_words}
 use Rattle.lw_text.proofs.Common.{FailsInTerminal, PropositionPlace, first_place, next_place, HasRoomForNode}
@@ -16,7 +16,7 @@ use Rattle.lw_text.proofs.Common.{after_terminal, FailsInQuestion, in_list, in_q
 use Rattle.lw_text.proofs.Common.{place_of, TextCause, ParsesQuestion}
 use Rattle.lw_text.proofs.api.PropositionNodes.{node_count, node_count-append}
 use Rattle.lw_text.proofs.Failures.{cons-tail_unique}
-use Rattle.lw_text.proofs.FailureUniqueness.{IsSameFailure, FailsUniquely, IfFirst-of_head}
+use Rattle.lw_text.proofs.FailureUniqueness.{IsSameFailure, FailsUniquely, IfFirst-cons_inv}
 use Rattle.lw_text.proofs.FailureUniqueness.{FailsBefore-unique, not-FailsBefore-if_parsed}
 use Rattle.lw_text.proofs.FailureUniqueness.{FailsInAssignment-unique, not-FailsInAssignment-if_parsed}
 use Rattle.lw_text.proofs.PropositionCases.{node_count-of_one, with_sites_in-append}
@@ -32,7 +32,7 @@ use Rattle.lw_text.specs.declared.fault.TextCause.TheVariants as cause
 abbrev joint_signs : List Bytes
 joint_signs = codes ")" ∷ codes "/\\" ∷ codes "\\/" ∷ []
 
--- A parenthesis and another token are not both first.
+-- The first of tokens, if there is one, is not both a parenthesis and another token.
 not-parenthesis-and_other : (ts : TokenList)
     → ts ≢ []
     → IfFirst (λ t. (t ≡ codes "(") ⊎ (t ≡ codes ")")) ts
@@ -43,7 +43,7 @@ not-parenthesis-and_other (t ∷ ts) some (inl p) q = q.0 p
 not-parenthesis-and_other (t ∷ ts) some (inr p) q = q.1.0 p
 
 module _ (arch : Arch) (threads : ℕ) where
-  -- Where a terminal is read, tokens remain.
+  -- Tokens that begin with a terminal are not empty.
   not-empty-IsTerminal : (ts mid : TokenList) (s : Terminal AtomSyntax) → IsTerminal arch threads ts s mid → ts ≢ []
   not-empty-IsTerminal ts mid s is e = omega (arith, IsTerminal-shorter arch threads ts mid s is, ap length e)
 
@@ -53,16 +53,16 @@ module _ (arch : Arch) (threads : ℕ) where
       FailsInAssignment-unique arch (Some threads) names cause.Condition ts r s d e p.1 q.1
   FailsInTerminal-unique false names ts r s d e p q = FailsBefore-unique joint_signs cause.Condition ts r s d e p q
 
-  -- An opening word is not another token.
+  -- Tokens whose first is none of the opening words do not begin with one of them.
   not-other_word-if_opening : (ts mid : TokenList) (w : Bytes)
       → IfFirst (λ t. AllByRecursion (λ v. t ≢ v) opening_words) ts
       → ts ≡ w ∷ mid
       → (AllByRecursion (λ v. w ≢ v) opening_words → ⊥)
       → ⊥
   not-other_word-if_opening ts mid w first begins one =
-      one (IfFirst-of_head (λ t. AllByRecursion (λ v. t ≢ v) opening_words) ts mid w begins first)
+      one (IfFirst-cons_inv (λ t. AllByRecursion (λ v. t ≢ v) opening_words) ts mid w begins first)
 
-  -- A terminal that is possible at the place, and whose location has room, does not fail.
+  -- Tokens that begin with a terminal which is possible at the place, and whose location has room, do not fail in a terminal.
   not-FailsInTerminal-if_parsed : (part : Bool) (n : ℕ) (names : NameTable) (ts rest mid : TokenList) (because : TextCause)
       (s : Terminal AtomSyntax) (next : PropositionPlace)
       → FailsInTerminal arch threads part names ts rest because
@@ -109,7 +109,7 @@ module _ (arch : Arch) (threads : ℕ) where
       subst (λ (p : PropositionPlace). next_place {A = AtomSyntax} p Close ≡ Some next) is step in
       cc k
 
-  -- A `)` that closes nothing is not a terminal that is possible.
+  -- If a `)` is next after a part outside of all parentheses, the tokens begin with no terminal that is possible there.
   no_Close-if_terminal : (place next : PropositionPlace) (ts after mid : TokenList) (s : Terminal AtomSyntax)
       → place ≡ (false, 0)
       → ts ≡ codes ")" ∷ after
@@ -120,7 +120,7 @@ module _ (arch : Arch) (threads : ℕ) where
       no_Close-if_outside_parentheses place next is
       (subst (λ t. next_place place t ≡ Some next) (IsTerminal-unique arch threads ts s Close mid after terminal begins).0 step)
 
-  -- Where a `)` closes nothing, no terminal fails.
+  -- If a `)` is next after a part outside of all parentheses, the tokens do not fail in a terminal.
   no_terminal-if_unopened : (place : PropositionPlace) (names : NameTable) (ts rest after : TokenList) (because : TextCause)
       → place ≡ (false, 0)
       → ts ≡ codes ")" ∷ after
@@ -155,7 +155,7 @@ module _ (arch : Arch) (threads : ℕ) where
       absurd (not-parenthesis-and_other ts some (room full)
       (subst (IfFirst (λ t. AllByRecursion (λ w. t ≢ w) (codes "(" ∷ codes ")" ∷ []))) (sym at) first))
   FailsInProposition-unique r s d e place nodes names ts (too_many_nodes some full at first because) (unopened here begins is cause) =
-      absurd ((IfFirst-of_head (λ t. AllByRecursion (λ w. t ≢ w) (codes "(" ∷ codes ")" ∷ [])) r _ (codes ")") (sym at ∙ begins)
+      absurd ((IfFirst-cons_inv (λ t. AllByRecursion (λ w. t ≢ w) (codes "(" ∷ codes ")" ∷ [])) r _ (codes ")") (sym at ∙ begins)
       first).1.0 refl)
   FailsInProposition-unique r s d e place nodes names ts (too_many_nodes some full at first because) (after_terminal t mid next room terminal has step q) =
       absurd (not-parenthesis-and_other ts some (room full)
@@ -174,7 +174,7 @@ module _ (arch : Arch) (threads : ℕ) where
   FailsInProposition-unique r s d e place nodes names ts (unopened here begins at because) (incomplete part_open end is) =
       absurd (omega (arith, ap length (sym end ∙ begins)))
   FailsInProposition-unique r s d e place nodes names ts (unopened here begins is cause) (too_many_nodes some full at first because) =
-      absurd ((IfFirst-of_head (λ t. AllByRecursion (λ w. t ≢ w) (codes "(" ∷ codes ")" ∷ [])) s _ (codes ")") (sym at ∙ begins)
+      absurd ((IfFirst-cons_inv (λ t. AllByRecursion (λ w. t ≢ w) (codes "(" ∷ codes ")" ∷ [])) s _ (codes ")") (sym at ∙ begins)
       first).1.0 refl)
   FailsInProposition-unique r s d e place nodes names ts (unopened here begins is because) (in_terminal some room fails) =
       absurd (no_terminal-if_unopened place names ts s _ e here begins fails)
@@ -202,13 +202,13 @@ module _ (arch : Arch) (threads : ℕ) where
       p
       (subst (λ pl. F pl t mid) (sym onward) (subst (λ l. F then t l) (sym same.1) (subst (λ x. F then x other) (sym same.0) q)))
     where
-      -- Optional places that are equal have equal places.
+      -- Places are equal if they are equal as values of `Some`.
       Some-injective : {a b : PropositionPlace} → Some a ≡ Some b → a ≡ b
       Some-injective e = cc e
 
   -- ---- A proposition does not fail.
 
-  -- The place after a terminal is that of the state after its formula.
+  -- The place after a terminal is that of the reader's state after its resolved form.
   next_place-resolved : (state : ReaderState) (names : NameTable) (s : Terminal AtomSyntax)
       → next_place (place_of state) s ≡ option_map place_of (next_state state (resolved names s))
   next_place-resolved (BeforePart l os) names Open = refl
@@ -236,7 +236,7 @@ module _ (arch : Arch) (threads : ℕ) where
   place_at_end-state_result (AfterPart x y []) p e = refl
   place_at_end-state_result (AfterPart x y (o ∷ os)) p e = absurd (cc e)
 
-  -- Where something is said after a terminal, there is a state after it.
+  -- If the terminals s and ss have a result from a state, there is a state after s, from which ss have this result.
   state_after : (state : ReaderState) (s : Terminal Formula) (ss : List (Terminal Formula)) (p : Formula)
       → result_of (state_after_terminals (Some state) (s ∷ ss)) ≡ Some p
       → (next : ReaderState) × (next_state state s ≡ Some next) × (result_of (state_after_terminals (Some next) ss) ≡ Some p)
@@ -262,13 +262,14 @@ module _ (arch : Arch) (threads : ℕ) where
   is_parenthesis-no_node ts mid Disjunction is none = absurd (cc none)
   is_parenthesis-no_node ts mid (Atom a) is none = absurd (cc none)
 
-  -- One more node does not fit after 256.
+  -- If 256 nodes precede, and the terminals s and ss fit in the limit, s is no node.
   is_node-false_at_limit : (nodes : ℕ) (s : Terminal AtomSyntax) (ss : List (Terminal AtomSyntax))
       → nodes ≡ most_nodes
       → nodes + node_count (s ∷ ss) ≤ most_nodes
       → is_node s ≡ false
   is_node-false_at_limit nodes s ss full few = next_state-by_cases (is_node s) refl
     where
+      -- By whether s is a node.
       next_state-by_cases : (b : Bool) → is_node s ≡ b → is_node s ≡ false
       next_state-by_cases true e = absurd (omega (arith, full, few, node_count-append (s ∷ []) ss, node_count-of_one true s e))
       next_state-by_cases false e = e
@@ -281,10 +282,11 @@ module _ (arch : Arch) (threads : ℕ) where
     arith,
     room,
     ap length (with_sites_in-append names (s ∷ []) ss),
-    insert_names-longer (with_sites names (sites_in (s ∷ []))) (site_names (sites_in ss)),
+    length_le-insert_names (with_sites names (sites_in (s ∷ []))) (site_names (sites_in ss)),
   )
 
-  -- The rest of a proposition does not fail.
+  -- If the remaining tokens are terminals that complete the proposition from the reader's state, within the limits of nodes and
+  -- names, the proposition does not fail from there.
   not-FailsInProposition-if_parsed : (rest : TokenList) (because : TextCause) (place : PropositionPlace) (nodes : ℕ)
       (names : NameTable) (ts : TokenList) (state : ReaderState) (more : List (Terminal AtomSyntax)) (p : Formula)
       → FailsInProposition arch threads rest because place nodes names ts
@@ -309,10 +311,10 @@ module _ (arch : Arch) (threads : ℕ) where
   not-FailsInProposition-if_parsed rest because place nodes names ts state (s ∷ ss) p (too_many_nodes some full at first cause) here all said few room =
       elim (is_parenthesis-no_node ts all.0 s all.1 (is_node-false_at_limit nodes s ss full few)) [
         | inl opens ↦
-            (IfFirst-of_head (λ t. AllByRecursion (λ w. t ≢ w) (codes "(" ∷ codes ")" ∷ [])) rest all.0 (codes "(")
+            (IfFirst-cons_inv (λ t. AllByRecursion (λ w. t ≢ w) (codes "(" ∷ codes ")" ∷ [])) rest all.0 (codes "(")
             (sym at ∙ opens) first).0 refl
         | inr closes ↦
-            (IfFirst-of_head (λ t. AllByRecursion (λ w. t ≢ w) (codes "(" ∷ codes ")" ∷ [])) rest all.0 (codes ")")
+            (IfFirst-cons_inv (λ t. AllByRecursion (λ w. t ≢ w) (codes "(" ∷ codes ")" ∷ [])) rest all.0 (codes ")")
             (sym at ∙ closes) first).1.0 refl
       ]
   not-FailsInProposition-if_parsed rest because place nodes names ts state (s ∷ ss) p (in_terminal some has fails) here all said few room =
@@ -349,7 +351,7 @@ module _ (arch : Arch) (threads : ℕ) where
       (omega (arith, few, node_count-append (s ∷ []) ss))
       (subst (λ (names : NameTable). length names ≤ most_locations) grown room)
     where
-      -- Optional places that are equal have equal places.
+      -- Places are equal if they are equal as values of `Some`.
       Some-injective_place : {a b : PropositionPlace} → Some a ≡ Some b → a ≡ b
       Some-injective_place e = cc e
 
@@ -382,13 +384,13 @@ module _ (arch : Arch) (threads : ℕ) where
         (subst (λ sites. FailsInProposition arch threads s e first_place 0 (with_sites names sites) after) (sym u.0)
         (subst (FailsInProposition arch threads s e first_place 0 (with_sites names other)) (sym v.1) q))
 
-    -- A question with room for its locations, whose terminals are a proposition, does not fail.
+    -- Tokens that fail as a question are none (`NoQuestion`).
     pub not-FailsInQuestion-if_parsed : (ts rest : TokenList) (because : TextCause)
         → FailsInQuestion arch threads names ts rest because
         → NoQuestion arch threads ts names
     not-FailsInQuestion-if_parsed ts rest because (in_list fails) listed quant ss p is fits =
         not-FailsInList-if_parsed arch threads names ts rest is.after_list because listed fails is.lists is.threads_exist
-        (omega (arith, fits.room, insert_names-longer (with_sites names listed) (site_names (sites_in ss))))
+        (omega (arith, fits.room, length_le-insert_names (with_sites names listed) (site_names (sites_in ss))))
     not-FailsInQuestion-if_parsed ts rest because (in_quantifier other {mid = mid} lists there room fails) listed quant ss p is fits =
         not-FailsInQuantifier-if_parsed mid rest is.after_quant because quant fails
         (subst (λ l. Quantified l quant is.after_quant)

@@ -2,14 +2,14 @@
 -- phrases, up to sites and values. A step of the law that a text fails at one place (OneFault).
 use Rattle.lw_text.proofs.Common.{cons-head_eq, ◌≡◌, ◌≢◌, ◌⊎◌, ℕ, Option, None, Some, List, [], ◌∷◌, refl}
 use Rattle.lw_text.proofs.Common.{sym, ap, ◌∙◌, subst, inl, inr, codes, AllByRecursion, Arch, Bytes}
-use Rattle.lw_text.proofs.Common.{NameTable, TokenList, IsName, IsLocationName, IsNumber, IsRegisterName}
+use Rattle.lw_text.proofs.Common.{NameTable, TokenList, IsName, IsUnreservedName, IsNumber, IsRegisterName}
 use Rattle.lw_text.proofs.Common.{HasRoomFor, HasRoomForName, SiteSyntax, InMemory, InThread, IsSite}
 use Rattle.lw_text.proofs.Common.{ThreadAllowed, Value, IfFirst, FailsBefore, IsMisfitCause, IsNoNewLocation}
 use Rattle.lw_text.proofs.Common.{FailsInName, FailsInBrackets, in_bracketed_name, no_bracket}
 use Rattle.lw_text.proofs.Common.{FailsInRegister, no_colon, no_register_name, FailsInSite, in_name}
 use Rattle.lw_text.proofs.Common.{in_brackets, no_thread, in_register, FailsInValue, no_equals, no_number}
 use Rattle.lw_text.proofs.Common.{FailsInAssignment, in_site, in_value, TextCause}
-use Rattle.lw_text.proofs.Atoms.{not-number_and_name, bracket_no_name, IsSite-unique}
+use Rattle.lw_text.proofs.SitesAndValues.{not-number_and_name, bracket_no_name, IsSite-unique}
 use Rattle.lw_text.proofs.Failures.{cons-tail_unique}
 use Rattle.lw_text.proofs.api.Numbers.{bracket_no_number, number-unique}
 
@@ -32,7 +32,7 @@ pub FailsUniquely-at_first_token : (P : Bytes → TextCause → Type 0)
 FailsUniquely-at_first_token P one ts rest other cause because p q =
     (sym p.0 ∙ q.0, by_first_token rest other (sym p.0 ∙ q.0) p.1 q.1)
   where
-    -- Two causes of one token, if there is one.
+    -- If each of two causes is right for the first of the same tokens, and there is one, the causes are equal.
     by_first_token : (rest other : TokenList)
         → rest ≡ other
         → IfFirst (λ t. P t cause) rest
@@ -42,9 +42,9 @@ FailsUniquely-at_first_token P one ts rest other cause because p q =
     by_first_token [] other e x y some = absurd (some refl)
     by_first_token (t ∷ rest) other e x y some = one t cause because x (subst (IfFirst (λ t. P t because)) (sym e) y)
 
--- What holds of the first of tokens holds of this one.
-pub IfFirst-of_head : (P : Bytes → Type 0) (ts l : TokenList) (t : Bytes) → ts ≡ t ∷ l → IfFirst P ts → P t
-IfFirst-of_head P ts l t e h = subst (IfFirst P) e h
+-- If P holds of the first of tokens, and they begin with t, P holds of t.
+pub IfFirst-cons_inv : (P : Bytes → Type 0) (ts l : TokenList) (t : Bytes) → ts ≡ t ∷ l → IfFirst P ts → P t
+IfFirst-cons_inv P ts l t e h = subst (IfFirst P) e h
 
 -- Failing before some words is unique.
 pub FailsBefore-unique : (words : List Bytes) (c : TextCause) → FailsUniquely (FailsBefore words c)
@@ -59,7 +59,7 @@ pub not-FailsBefore-if_parsed : (words : List Bytes) (c : TextCause) (ts rest l 
     → (AllByRecursion (λ v. w ≢ v) words → ⊥)
     → ⊥
 not-FailsBefore-if_parsed words c ts rest l cause w fails begins one =
-    one (IfFirst-of_head _ rest l w (sym fails.0 ∙ begins) fails.1).0
+    one (IfFirst-cons_inv _ rest l w (sym fails.0 ∙ begins) fails.1).0
 
 -- A misfit has one cause.
 IsMisfitCause-unique : (c : TextCause) (t : Bytes) (cause because : TextCause)
@@ -81,7 +81,7 @@ IsNoNewLocation-unique c names t cause because (inl p) (inr q) = absurd (p.0 q.0
 IsNoNewLocation-unique c names t cause because (inr p) (inl q) = absurd (q.0 p.0)
 IsNoNewLocation-unique c names t cause because (inr p) (inr q) = p.2 ∙ sym q.2
 
--- The name of a location fails at one place only, and for one cause, and not if there is one that has room.
+-- The name of a location fails at one place only, and for one cause.
 FailsInName-unique : (names : NameTable) (c : TextCause) → FailsUniquely (FailsInName names c)
 FailsInName-unique names c = FailsUniquely-at_first_token (IsNoNewLocation c names) (IsNoNewLocation-unique c names)
 
@@ -89,17 +89,18 @@ FailsInName-unique names c = FailsUniquely-at_first_token (IsNoNewLocation c nam
 not-FailsInName-if_parsed : (names : NameTable) (c : TextCause) (ts rest l : TokenList) (cause : TextCause) (x : Bytes)
     → FailsInName names c ts rest cause
     → ts ≡ x ∷ l
-    → IsLocationName x
+    → IsUnreservedName x
     → HasRoomForName names x
     → ⊥
 not-FailsInName-if_parsed names c ts rest l cause x fails begins is room =
-    by_first_token (IfFirst-of_head (λ t. IsNoNewLocation c names t cause) rest l x (sym fails.0 ∙ begins) fails.1)
+    by_first_token (IfFirst-cons_inv (λ t. IsNoNewLocation c names t cause) rest l x (sym fails.0 ∙ begins) fails.1)
   where
+    -- No cause is right for a token that is a location's name and has room.
     by_first_token : IsNoNewLocation c names x cause → ⊥
     by_first_token (inl p) = p.0 is
     by_first_token (inr p) = p.1 room
 
--- A location in brackets fails at one place only, and for one cause, and not if it is one that has room.
+-- A location in brackets fails at one place only, and for one cause.
 FailsInBrackets-unique : (names : NameTable) (c : TextCause) → FailsUniquely (FailsInBrackets names c)
 FailsInBrackets-unique names c ts r s d e (in_bracketed_name p) (in_bracketed_name q) = FailsInName-unique names c ts r s d e p q
 FailsInBrackets-unique names c ts r s d e (in_bracketed_name p) (no_bracket begins is room q) =
@@ -114,7 +115,7 @@ FailsInBrackets-unique names c ts r s d e (no_bracket {mid = mid} begins is room
 not-FailsInBrackets-if_parsed : (names : NameTable) (c : TextCause) (ts rest l : TokenList) (cause : TextCause) (x : Bytes)
     → FailsInBrackets names c ts rest cause
     → ts ≡ x ∷ codes "]" ∷ l
-    → IsLocationName x
+    → IsUnreservedName x
     → HasRoomForName names x
     → ⊥
 not-FailsInBrackets-if_parsed names c ts rest l cause x (in_bracketed_name p) begins is room =
@@ -123,7 +124,7 @@ not-FailsInBrackets-if_parsed names c ts rest l cause x (no_bracket again too ha
     not-FailsBefore-if_parsed (codes "]" ∷ []) c _ rest l cause (codes "]") p (cons-tail_unique (sym again ∙ begins))
     (λ all. all.0 refl)
 
--- A register after a thread's number fails at one place only, and for one cause, and not if there is one.
+-- A register after a thread's number fails at one place only, and for one cause.
 FailsInRegister-unique : (arch : Arch) (c : TextCause) → FailsUniquely (FailsInRegister arch c)
 FailsInRegister-unique arch c ts r s d e (no_colon p) (no_colon q) = FailsBefore-unique (codes ":" ∷ []) c ts r s d e p q
 FailsInRegister-unique arch c ts r s d e (no_colon p) (no_register_name begins q) =
@@ -135,7 +136,7 @@ FailsInRegister-unique arch c ts r s d e (no_register_name begins p) (no_registe
     (λ t cause because x y. IsMisfitCause-unique c t cause because x.1 y.1) r r s d e (refl, p)
     (cons-tail_unique (sym begins ∙ again), q)
 
--- A `:` and a register's name do not fail.
+-- Tokens that begin with `:` and a register's name do not satisfy `FailsInRegister`.
 not-FailsInRegister-if_parsed : (arch : Arch) (c : TextCause) (ts rest l : TokenList) (cause : TextCause) (q : Bytes) (n : ℕ)
     → FailsInRegister arch c ts rest cause
     → ts ≡ codes ":" ∷ q ∷ l
@@ -144,7 +145,7 @@ not-FailsInRegister-if_parsed : (arch : Arch) (c : TextCause) (ts rest l : Token
 not-FailsInRegister-if_parsed arch c ts rest l cause q n (no_colon p) begins is =
     not-FailsBefore-if_parsed (codes ":" ∷ []) c ts rest _ cause (codes ":") p begins (λ all. all.0 refl)
 not-FailsInRegister-if_parsed arch c ts rest l cause q n (no_register_name again p) begins is =
-    (IfFirst-of_head (λ t. ((n : ℕ) → IsRegisterName arch t n → ⊥) × IsMisfitCause c t cause) rest l q
+    (IfFirst-cons_inv (λ t. ((n : ℕ) → IsRegisterName arch t n → ⊥) × IsMisfitCause c t cause) rest l q
     (cons-tail_unique (sym again ∙ begins)) p).0 n is
 
 -- ---- Sites.
@@ -153,17 +154,17 @@ not-FailsInRegister-if_parsed arch c ts rest l cause q n (no_register_name again
 abbrev NeitherBracketNorNumberFirst : TokenList → Type 0
 NeitherBracketNorNumberFirst ts = IfFirst (λ t. (t ≢ codes "[") × ((n : ℕ) → IsNumber t n → ⊥)) ts
 
--- If the first of the tokens is neither, it is not `[`.
+-- If the first of the tokens is neither `[` nor a number, they do not begin with `[`.
 no_bracket-if_neither_first : (ts l : TokenList) → NeitherBracketNorNumberFirst ts → ts ≡ codes "[" ∷ l → ⊥
-no_bracket-if_neither_first ts l plain e = (IfFirst-of_head _ ts l (codes "[") e plain).0 refl
+no_bracket-if_neither_first ts l plain e = (IfFirst-cons_inv _ ts l (codes "[") e plain).0 refl
 
--- If the first of the tokens is neither, it is not a number.
+-- If the first of the tokens is neither `[` nor a number, they do not begin with a number.
 no_number-if_neither_first : (ts l : TokenList) (p : Bytes) (n : ℕ)
     → NeitherBracketNorNumberFirst ts
     → ts ≡ p ∷ l
     → IsNumber p n
     → ⊥
-no_number-if_neither_first ts l p n plain e is = (IfFirst-of_head _ ts l p e plain).1 n is
+no_number-if_neither_first ts l p n plain e is = (IfFirst-cons_inv _ ts l p e plain).1 n is
 
 -- Tokens do not begin both with `[` and with a number.
 not-bracket_and_number : (ts l m : TokenList) (p : Bytes) (n : ℕ) → ts ≡ codes "[" ∷ l → ts ≡ p ∷ m → IsNumber p n → ⊥
@@ -218,7 +219,7 @@ module _ (arch : Arch) (threads : Option ℕ) (names : NameTable) (c : TextCause
       let same : after ≡ other = cons-tail_unique (sym begins ∙ again) in
       FailsInRegister-unique arch c after r s d e v (subst (λ l. FailsInRegister arch c l s e) (sym same) w)
 
-  -- Tokens that begin with a site, whose thread is allowed and whose location has room, do not fail as one.
+  -- Tokens that begin with a site, whose thread is allowed and whose location has room, do not satisfy `FailsInSite`.
   pub not-FailsInSite-if_parsed : (ts rest mid : TokenList) (cause : TextCause) (site : SiteSyntax)
       → FailsInSite arch threads names c ts rest cause
       → IsSite arch ts site mid
@@ -265,7 +266,7 @@ FailsInValue-unique c ts r s d e (no_number begins p) (no_number again q) =
     FailsUniquely-at_first_token (λ t cause. ((n : ℕ) → IsNumber t n → ⊥) × (cause ≡ c)) (λ t cause because x y. x.1 ∙ sym y.1) r
     r s d e (refl, p) (cons-tail_unique (sym begins ∙ again), q)
 
--- Tokens that begin with a value do not fail as one.
+-- Tokens that begin with a value do not satisfy `FailsInValue`.
 pub not-FailsInValue-if_parsed : (c : TextCause) (ts rest mid : TokenList) (cause : TextCause) (n : ℕ)
     → FailsInValue c ts rest cause
     → Value ts n mid
@@ -273,8 +274,8 @@ pub not-FailsInValue-if_parsed : (c : TextCause) (ts rest mid : TokenList) (caus
 not-FailsInValue-if_parsed c ts rest mid cause n (no_equals p) is =
     not-FailsBefore-if_parsed (codes "=" ∷ []) c ts rest _ cause (codes "=") p is.1 (λ all. all.0 refl)
 not-FailsInValue-if_parsed c ts rest mid cause n (no_number begins p) is =
-    (IfFirst-of_head (λ t. ((n : ℕ) → IsNumber t n → ⊥) × (cause ≡ c)) rest mid is.0 (cons-tail_unique (sym begins ∙ is.1)) p).0 n
-    is.2
+    (IfFirst-cons_inv (λ t. ((n : ℕ) → IsNumber t n → ⊥) × (cause ≡ c)) rest mid is.0 (cons-tail_unique (sym begins ∙ is.1)) p).0
+    n is.2
 
 module _ (arch : Arch) (threads : Option ℕ) (names : NameTable) (c : TextCause) where
   -- A site with its word fails at one place only, and for one cause.
@@ -288,7 +289,7 @@ module _ (arch : Arch) (threads : Option ℕ) (names : NameTable) (c : TextCause
       let same = (IsSite-unique arch ts site another mid other is also).1 in
       FailsInValue-unique c mid r s d e p (subst (λ l. FailsInValue c l s e) (sym same) q)
 
-  -- Tokens that begin with a site, which is allowed and has room, and with its word do not fail as these.
+  -- Tokens that begin with a site, which is allowed and has room, and with its word do not satisfy `FailsInAssignment`.
   pub not-FailsInAssignment-if_parsed : (ts rest mid after : TokenList) (cause : TextCause) (site : SiteSyntax) (n : ℕ)
       → FailsInAssignment arch threads names c ts rest cause
       → IsSite arch ts site mid

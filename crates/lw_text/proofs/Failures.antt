@@ -9,14 +9,14 @@ use Rattle.lw_text.proofs.Common.{BeginInitializers, TextCause}
 use Rattle.lw_text.proofs.Lists.{IsSuffix-join, AreReadSepEndBy}
 use Rattle.lw_text.proofs.Texts.{bytes_equal, not-equal-if_bytes_differ, not-token_is_next}
 
--- Parsing fails at the next token.
+-- If the tokens begin at the refusal's place, and fail there in this way and for its cause, parsing fails so.
 pub Fails-here : {Way : TokenList → TokenList → TextCause → Type 0} (before : Cursor) (f : Refusal)
     → BeginsAt (remaining before) f.at
     → Way (remaining_texts before) (remaining_texts before) f.cause
     → Fails before Way f
 Fails-here before f place way = record { rest = remaining before; suffix = ([], refl); place = place; way = way }
 
--- Parsing fails later, at a token of what remains after something was parsed.
+-- If parsing fails after something was parsed, and to fail so there is to fail in the earlier tokens, parsing fails before it.
 pub Fails-later : {Way Later : TokenList → TokenList → TextCause → Type 0} {before after : Cursor} {f : Refusal}
     → IsSuffix (remaining before) (remaining after)
     → ((rest : TokenList) (cause : TextCause)
@@ -27,11 +27,11 @@ pub Fails-later : {Way Later : TokenList → TokenList → TextCause → Type 0}
 Fails-later advances way h =
     record { rest = h.rest; suffix = IsSuffix-join advances h.suffix; place = h.place; way = way (token_texts h.rest) _ h.way }
 
--- P holds of the first of the tokens, which is this one.
+-- If tokens begin with t, and P holds of t, P holds of the first of the tokens.
 pub IfFirst-cons : (P : Bytes → Type 0) (ts l : TokenList) (t : Bytes) → ts ≡ t ∷ l → P t → IfFirst P ts
 IfFirst-cons P ts l t e p = subst (IfFirst P) (sym e) p
 
--- `IfFirst` holds of no tokens: there is no first token.
+-- If there are no tokens, `IfFirst` holds, since there is no first token.
 pub IfFirst-nil : (P : Bytes → Type 0) (ts : TokenList) → ts ≡ [] → IfFirst P ts
 IfFirst-nil P ts e = subst (IfFirst P) (sym e) tt
 
@@ -39,30 +39,30 @@ IfFirst-nil P ts e = subst (IfFirst P) (sym e) tt
 pub cons-tail_unique : {X : Type 0} {a b : X} {l m : List X} → a ∷ l ≡ b ∷ m → l ≡ m
 cons-tail_unique e = ap (drop 1) e
 
--- The place of a list of tokens is that of its first.
+-- The place of tokens that begin with t is that of t.
 pub BeginsAt-cons : (ts l : List Token) (t : Token) → ts ≡ t ∷ l → BeginsAt ts (Some t.at)
 BeginsAt-cons ts l t e = subst (λ x. BeginsAt x (Some t.at)) (sym e) refl
 
--- The place of no tokens is none.
+-- If there are no tokens, their place is `None`.
 pub BeginsAt-nil : (ts : List Token) (at : Option ℕ) → ts ≡ [] → at ≡ None → BeginsAt ts at
 BeginsAt-nil ts at e p = subst (λ x. BeginsAt x at) (sym e) p
 
--- What holds of each token that has P holds of the first that has P.
+-- If P implies Q, and P holds of the first of the tokens, so does Q.
 pub IfFirst-map : (P Q : Bytes → Type 0) (ts : TokenList) → ((t : Bytes) → P t → Q t) → IfFirst P ts → IfFirst Q ts
 IfFirst-map P Q [] f p = tt
 IfFirst-map P Q (t ∷ ts) f p = f t p
 
--- Tokens that begin with a text have it first.
+-- If the test says that tokens begin with w, their first is w.
 pub IfFirst-begins : (w : Bytes) (ts : TokenList) → begins_token w ts ≡ true → IfFirst (λ t. t ≡ w) ts
 IfFirst-begins w [] e = tt
 IfFirst-begins w (t ∷ ts) e = bytes_equal t w e
 
--- Tokens that do not begin with a text have another first.
+-- If the test says that tokens do not begin with w, their first, if there is one, is not w.
 pub IfFirst-begins_not : (w : Bytes) (ts : TokenList) → begins_token w ts ≡ false → IfFirst (λ t. t ≢ w) ts
 IfFirst-begins_not w [] e = tt
 IfFirst-begins_not w (t ∷ ts) e = not-equal-if_bytes_differ t w e
 
--- If the tokens do not begin with a text either, it is one more of those that are not next.
+-- If tokens fail before some words, and do not begin with w either, they fail before w and these words.
 pub FailsBefore-more : (w : Bytes) (words : List Bytes) (c : TextCause) (ts rest : TokenList) (cause : TextCause)
     → begins_token w ts ≡ false
     → FailsBefore words c ts rest cause
@@ -71,7 +71,7 @@ FailsBefore-more w words c ts [] cause e f = (f.0, tt)
 FailsBefore-more w words c ts (t ∷ rest) cause e f =
     (f.0, ((λ same. not-token_is_next w ts rest e (f.0 ∙ ap (λ x. x ∷ rest) same), f.1.0), f.1.1))
 
--- Parsing a text fails where it fails later in it, in the same text.
+-- If what remains of a text fails, and to fail so is to fail in the text, the text fails at the same place.
 pub FailsFrom-later : {Way Later : Bytes → Bytes → TextCause → Type 0} {len whole : ℕ} {text after : Bytes} {at : ℕ}
     {cause : TextCause}
     → len ≡ whole
@@ -80,7 +80,8 @@ pub FailsFrom-later : {Way Later : Bytes → Bytes → TextCause → Type 0} {le
     → FailsFrom whole text Way at cause
 FailsFrom-later same way h = record { rest = h.rest; place = h.place ∙ same; way = way h.rest _ h.way }
 
--- One more initializer begins after those before.
+-- If initializers begin after those in front, and one more begins after them, all of them and this one begin after those in
+-- front.
 pub BeginInitializers-push : (arch : Arch) (before : Cursor) (front es : List Initializer) (e : Initializer)
     → BeginInitializers arch before front es
     → BeginsInitializer arch before (front ++ es) e
@@ -107,7 +108,7 @@ BeginsInitializer-at arch before front (x ∷ es) (suc k) e all is =
     subst (λ l. BeginsInitializer arch before l e) (append_assoc front (x ∷ []) (take k es))
     (BeginsInitializer-at arch before (front ++ x ∷ []) es k e all.1 is)
 
--- Initializers, each with its separator, one after another.
+-- Elements that were read with their separators parse one after another, each as an element with its separator.
 pub ParsesMany-of_read : {X : Type 0} (P : TokenList → X → TokenList → Type 0) (sep close : Bytes) (xs : List X)
     (ts rest : TokenList)
     → AreReadSepEndBy P sep close ts xs rest

@@ -12,7 +12,7 @@ pub MatchResult-weakened_error : {T E : Type 0} {K : E → Type 0} (P : T → Ty
 MatchResult-weakened_error P Q (Ok x) h f = absurd h
 MatchResult-weakened_error P Q (Err y) h f = f y h
 
--- A reader may report the cause that a token does not fit.
+-- `Unexpected` is a cause that the parser may report.
 pub IsParserCause-Unexpected : IsParserCause Unexpected
 IsParserCause-Unexpected = (λ e. cc, λ e. cc)
 

@@ -18,13 +18,13 @@ Names-unique k (suc (suc m)) (suc (suc n)) ts r s p q =
     let e = Names-unique (suc k) (suc m) (suc n) p.0 r s p.2 (subst (λ l. Names (suc k) (suc n) l s) i q.2) in
     (ap suc e.0, e.1)
 
--- The names of threads from `start` are those from `here` after k others: the ones parse exactly if the others do, and then at least one
--- follows at `here`.
+-- After k names read from `start`, the header continues at `here`: one or more further names there make a header from `start`,
+-- and each header from `start` has one or more names more than k, which parse at `here`.
 pub record NamesContinueAt (start : TokenList) (k : ℕ) (here : TokenList) : Type 0 where
   pub whole_if_rest : (m : ℕ) (rest : TokenList) → Names k (suc m) here rest → Names 0 (k + suc m) start rest
   pub rest_if_whole : (n : ℕ) (rest : TokenList) → Names 0 n start rest → (m : ℕ) × (n ≡ k + suc m) × Names k (suc m) here rest
 
--- At the start no name has been read.
+-- At the start no name has been read, and the header continues there.
 pub NamesContinueAt-none_yet : (start : TokenList) → NamesContinueAt start 0 start
 NamesContinueAt-none_yet start = record {
   whole_if_rest = λ m rest h. subst (λ x. Names 0 x start rest) (let e : suc m ≡ 0 + suc m = omega arith in e) h;
@@ -48,6 +48,7 @@ module _ (start here : TokenList) (k : ℕ) (p : NamesContinueAt start k here) w
       rest_if_whole = λ n rest h. let o = p.rest_if_whole n rest h in go n rest o.0 o.1 o.2;
     })
       where
+        -- The names from k on are the next one, and one or more after the `|`.
         go : (n : ℕ) (rest : TokenList) (m : ℕ)
             → n ≡ k + suc m
             → Names k (suc m) here rest

@@ -20,7 +20,7 @@ pub mod SiteLists
 pub mod PlacedRows
 pub mod Starts
 pub mod RowColumns
-pub mod Atoms
+pub mod SitesAndValues
 pub mod Sites
 pub mod TerminalLists
 pub mod PropositionCases

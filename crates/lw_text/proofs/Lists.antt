@@ -62,29 +62,29 @@ module _ {T X : Type 0} (P : List T → X → List T → Type 0) (sep close : T)
   ParsesSepBy-close (y ∷ z ∷ xs) ts here rest x b p = (b.0, b.1, ParsesSepBy-close (z ∷ xs) b.0 here rest x b.2 p)
 
   -- A separator or the closing token: what follows an element.
-  abbrev pub IsMark : T → Type 0
-  IsMark t = (t ≡ sep) ⊎ (t ≡ close)
+  abbrev pub IsListPunctuation : T → Type 0
+  IsListPunctuation t = (t ≡ sep) ⊎ (t ≡ close)
 
-  -- The first element of a list, and the mark after it.
+  -- A list with separators begins with an element, and a separator or the closing token follows it.
   pub ParsesSepBy-front : (xs : List X) (ts rest : List T)
       → ParsesSepBy P sep close ts xs rest
-      → (x : X) × (m : T) × (l : List T) × IsMark m × P ts x (m ∷ l)
+      → (x : X) × (m : T) × (l : List T) × IsListPunctuation m × P ts x (m ∷ l)
   ParsesSepBy-front [] ts rest s = absurd s
   ParsesSepBy-front (x ∷ []) ts rest s = (x, close, rest, inr refl, s)
   ParsesSepBy-front (x ∷ y ∷ xs) ts rest s = (x, sep, s.0, inl refl, s.1)
 
-  -- The parse of an element and the mark after it is unique.
+  -- The parse of an element and of the separator or the closing token after it is unique.
   abbrev pub IsExact : Type 0
   IsExact =
       (ts : List T) (x y : X) (a b : T) (r s : List T)
-      → IsMark a
-      → IsMark b
+      → IsListPunctuation a
+      → IsListPunctuation b
       → P ts x (a ∷ r)
       → P ts y (b ∷ s)
       → (x ≡ y) × (a ≡ b) × (r ≡ s)
 
   module _ (exact : IsExact) (apart : sep ≡ close → ⊥) where
-    -- The rest of the list, after one of its elements and a separator.
+    -- If x and a separator are next, a list is x, followed by the elements of the list after the separator.
     ParsesSepBy-tail : (rest ts mid : List T) (x : X) (ys : List X)
         → P ts x (sep ∷ mid)
         → ParsesSepBy P sep close ts ys rest
@@ -111,7 +111,7 @@ module _ {T X : Type 0} (P : List T → X → List T → Type 0) (sep close : T)
         let h = ParsesSepBy-unique (u ∷ xs) k.0 p.0 r s p.2 k.2 in
         (ap (λ l. x ∷ l) h.0 ∙ sym k.1, h.1)
 
-    -- If the rest is no list, neither is the whole.
+    -- If elements with their separators have been read, and what remains is no list, the whole is no list.
     pub not-ParsesSepBy-if_rest_is_none : (xs ys : List X) (ts here rest : List T)
         → AreReadSepBy ts xs here
         → ParsesNothing (ParsesSepBy P sep close here)
@@ -128,7 +128,7 @@ module _ {T X : Type 0} (stop : List T → Bool) (P : List T → X → List T �
   abbrev pub AreReadTill : List T → List X → List T → Type 0
   AreReadTill ts xs rest = ParsesMany (λ ts x mid. (stop ts ≡ false) × P ts x mid) ts xs rest
 
-  -- At a stop, the elements read are all up to it.
+  -- If elements have been read up to a stop, they are the whole list.
   pub ParsesManyTill-at_stop : (xs : List X) (ts here : List T)
       → AreReadTill ts xs here
       → stop here ≡ true
@@ -137,7 +137,7 @@ module _ {T X : Type 0} (stop : List T → Bool) (P : List T → X → List T �
   ParsesManyTill-at_stop (y ∷ xs) ts here b h = (b.1.0, (b.0, b.1.1, ParsesManyTill-at_stop xs b.0 here b.2 h))
 
   module _ (one : IsDeterministic P) where
-    -- The rest of the elements, after one of them.
+    -- If x is next, and no stop, a list up to a stop is x, followed by the elements of the list after x.
     ParsesManyTill-tail : (rest ts mid : List T) (x : X) (ys : List X)
         → (stop ts ≡ false) × P ts x mid
         → ParsesManyTill stop P ts ys rest
@@ -164,7 +164,7 @@ module _ {T X : Type 0} (stop : List T → Bool) (P : List T → X → List T �
         let h = ParsesManyTill-unique xs k.0 p.1.0 r s p.1.2 k.2 in
         (ap (λ l. x ∷ l) h.0 ∙ sym k.1, h.1)
 
-    -- All elements up to the stop are those read, followed by the rest.
+    -- If elements have been read, a list up to the stop is these, followed by the elements of a list of what remains.
     pub ParsesManyTill-peel : (xs ys : List X) (ts here rest : List T)
         → AreReadTill ts xs here
         → ParsesManyTill stop P ts ys rest
@@ -203,7 +203,7 @@ module _ {T X : Type 0} (P : List T → X → List T → Type 0) (sep close : T)
 
   module _ (one : IsDeterministic P) (apart : sep ≡ close → ⊥)
       (unlike : (ts r l : List T) (x : X) → ts ≡ close ∷ l → P ts x r → ⊥) where
-    -- The rest of the list, after one of its elements and a separator.
+    -- If x and a separator are next, a list is x, followed by the elements of the list after the separator.
     ParsesSepEndBy-tail : (rest ts next : List T) (x : X) (ys : List X)
         → ParsesWithSep ts x next
         → ParsesSepEndBy P sep close ts ys rest
@@ -243,7 +243,7 @@ module _ {T X : Type 0} (P : List T → X → List T → Type 0) (sep close : T)
           (ap (λ l. x ∷ l) h.0 ∙ sym k.1, h.1)
     ]
 
-    -- The elements of the whole list are those read, followed by the rest.
+    -- If elements have been read, the whole list is these, followed by the elements of a list of what remains.
     ParsesSepEndBy-peel : (xs ys : List X) (ts here rest : List T)
         → AreReadSepEndBy ts xs here
         → ParsesSepEndBy P sep close ts ys rest
@@ -260,22 +260,23 @@ module _ {T X : Type 0} (P : List T → X → List T → Type 0) (sep close : T)
     not-ParsesSepEndBy-if_no_element xs ys ts here rest b no_end never s =
         let p = ParsesSepEndBy-peel xs ys ts here rest b s in go p.0 p.1 p.2
       where
-        -- By what follows the elements read.
+        -- By what follows the elements read: a further element, or the closing token.
         go : (more : List X) → ys ≡ xs ++ more → ParsesSepEndBy P sep close here more rest → ⊥
         go [] e q = no_end q
         go (y ∷ more) e q = never y more q.0 e q.1
 
     -- If neither a separator nor the closing token follows an element, there is no list.
-    pub not-ParsesSepEndBy-if_no_mark : (xs ys : List X) (ts here mid rest : List T) (x : X)
+    pub not-ParsesSepEndBy-if_no_punctuation : (xs ys : List X) (ts here mid rest : List T) (x : X)
         → AreReadSepEndBy ts xs here
         → P here x mid
         → ((l : List T) → mid ≡ sep ∷ l → ⊥)
         → ((l : List T) → mid ≡ close ∷ l → ⊥)
         → ParsesSepEndBy P sep close ts ys rest
         → ⊥
-    not-ParsesSepEndBy-if_no_mark xs ys ts here mid rest x b p no_sep no_close s =
+    not-ParsesSepEndBy-if_no_punctuation xs ys ts here mid rest x b p no_sep no_close s =
         let q = ParsesSepEndBy-peel xs ys ts here rest b s in go q.0 q.2
       where
+        -- By the elements of a list of what remains: the premises exclude whatever may follow its first element, x.
         go : (more : List X) → ParsesSepEndBy P sep close here more rest → ⊥
         go [] q = unlike here mid rest x q p
         go (y ∷ more) q =

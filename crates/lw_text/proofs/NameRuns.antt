@@ -1,8 +1,8 @@
 -- Runs of name bytes and symbols: how a token starts, and that the token at a position is unique. So a lexer
 -- that takes the longest run, or the longer symbol, finds the only token.
-use Rattle.lw_text.proofs.Common.{most_name_bytes, IsOfKind, Symbol, is_ascii_digit, ◌≡◌, ℕ, ◌<◌, inl, inr}
-use Rattle.lw_text.proofs.Common.{Bool, true, false, not, [], ◌∷◌, ◌++◌, length, take, drop, refl, sym, ap}
-use Rattle.lw_text.proofs.Common.{◌∙◌, subst, arith, ◌==◌, nat_lt, slice_index_or, bytes_eq, ltb-true}
+use Rattle.lw_text.proofs.Common.{byte, most_name_bytes, IsOfKind, Symbol, is_ascii_digit, ◌≡◌, ℕ, ◌<◌, inl}
+use Rattle.lw_text.proofs.Common.{inr, Bool, true, false, not, [], ◌∷◌, ◌++◌, length, take, drop, refl, sym}
+use Rattle.lw_text.proofs.Common.{ap, ◌∙◌, subst, arith, ◌==◌, nat_lt, slice_index_or, bytes_eq, ltb-true}
 use Rattle.lw_text.proofs.Common.{eqb-true, AllByRecursion, list_all, bytes_eq-Decides, not-true}
 use Rattle.lw_text.proofs.Common.{false_from_ne_true, Bytes, is_blank, is_name_byte, first_byte_is}
 use Rattle.lw_text.proofs.Common.{list_all-member, byte_eq-sound, is_blank-passes, slice_index_or-ascii}
@@ -22,7 +22,7 @@ pub record IsLongestPrefix (p : ℕ → Bool) (text w rest : Bytes) : Type 0 whe
   pub bytes_pass : AllByRecursion (λ b. p b ≡ true) w
   pub longest : first_byte_is p rest ≡ false
 
--- The longest such prefix is unique.
+-- A text has at most one longest prefix whose bytes pass p, and one rest after it.
 pub IsLongestPrefix-unique : (p : ℕ → Bool) (w v : Bytes) {text r s : Bytes}
     → IsLongestPrefix p text w r
     → IsLongestPrefix p text v s
@@ -80,13 +80,13 @@ symbol_front _ rest h = absurd h
 
 -- No trivia starts with a byte that passes a test which no blank and no `(` passes.
 pub no_trivia-first_byte : (p : ℕ → Bool) (b : ℕ) (text : Bytes)
-    → list_all (λ x. not (p x)) (32 ∷ 9 ∷ 10 ∷ 13 ∷ []) ≡ true
-    → p 40 ≡ false
+    → list_all (λ x. not (p x)) (byte " " ∷ byte "\t" ∷ byte "\n" ∷ byte "\r" ∷ []) ≡ true
+    → p (byte "(") ≡ false
     → p b ≡ true
     → begins_trivia (b ∷ text) ≡ false
 no_trivia-first_byte p b text blanks bracket h =
     let k = false_from_ne_true (is_blank b) (λ e. let i = not-true (p b) (is_blank-passes (λ x. not (p x)) b blanks e) in cc) in
-    rw (k, (false_from_ne_true (b == 40) (λ e. let i = ap p (eqb-true b 40 e) in cc))) refl
+    rw (k, (false_from_ne_true (b == byte "(") (λ e. let i = ap p (eqb-true b (byte "(") e) in cc))) refl
 
 -- No trivia starts where a token does.
 pub token_no_trivia : (t rest : Bytes) → IsToken t rest → begins_trivia (t ++ rest) ≡ false
@@ -164,11 +164,11 @@ no_token-if_no_kind run front never t rest f (inr p) =
     let i = ap (first_byte_is is_name_byte) f in
     cc
 
--- If there is no name byte, and no symbol of one or two bytes, there is no token.
+-- If bytes begin with no name byte, and with no symbol of one or two bytes, they begin with no token.
 pub no_token : {bytes rest : Bytes} {b : ℕ}
     → bytes ≡ b ∷ rest
     → is_name_byte b ≡ false
-    → ((is_one_byte_symbol b ≡ true) × (begins_pair 40 42 bytes ≡ false) → ⊥)
+    → ((is_one_byte_symbol b ≡ true) × (begins_pair (byte "(") (byte "*") bytes ≡ false) → ⊥)
     → ((c d : ℕ) (more : Bytes) → bytes ≡ c ∷ d ∷ more → is_two_byte_symbol c d ≡ true → ⊥)
     → (t more : Bytes)
     → bytes ≡ t ++ more
@@ -179,7 +179,8 @@ no_token e no_word no_single short t more f (inl p) =
     let i = ap (first_byte_is is_name_byte) (sym e ∙ f) in
     cc
 no_token {b = b} e no_word no_single short (c ∷ []) more f (inr p) =
-    let k : b ≡ c = let i = sym e ∙ f in cc in no_single (rw (← k) at p.0, subst (λ l. begins_pair 40 42 l ≡ false) (sym f) p.2)
+    let k : b ≡ c = let i = sym e ∙ f in cc in
+    no_single (rw (← k) at p.0, subst (λ l. begins_pair (byte "(") (byte "*") l ≡ false) (sym f) p.2)
 no_token e no_word no_single short (c ∷ d ∷ []) more f (inr p) = short c d more f p
 no_token e no_word no_single short _ more f (inr p) = p
 
@@ -202,13 +203,13 @@ no_two_byte_symbol (d ∷ l) b h = false_from_ne_true (is_two_byte_symbol b d) (
 pub short_symbol : {bytes more t rest : Bytes} {b : ℕ}
     → bytes ≡ b ∷ more
     → ((c d : ℕ) (l : Bytes) → bytes ≡ c ∷ d ∷ l → is_two_byte_symbol c d ≡ true → ⊥)
-    → (is_one_byte_symbol b ≡ true) × (begins_pair 40 42 bytes ≡ false)
+    → (is_one_byte_symbol b ≡ true) × (begins_pair (byte "(") (byte "*") bytes ≡ false)
     → t ≡ take 1 bytes
     → rest ≡ drop 1 bytes
     → (bytes ≡ t ++ rest) × IsToken t rest × IsOfKind Symbol t
 short_symbol {bytes} {more} {t} {rest} {b} e no_pair single f g =
     let longer = no_two_byte_symbol more b (λ d l k. no_pair b d l (e ∙ ap (λ x. b ∷ x) k)) in
-    let is : IsSymbol (b ∷ []) more = (single.0, longer, subst (λ x. begins_pair 40 42 x ≡ false) e single.1) in
+    let is : IsSymbol (b ∷ []) more = (single.0, longer, subst (λ x. begins_pair (byte "(") (byte "*") x ≡ false) e single.1) in
     rw (f, g, e) (refl, inr is, symbol_front (b ∷ []) more is)
 
 -- ---- the kind of a run of name bytes, by its first byte

@@ -6,7 +6,7 @@ use Rattle.lw_text.proofs.Common.{fold, if◌then◌else◌, bytes_eq, AllByRecu
 use Rattle.lw_text.proofs.Common.{cases_Bool, bytes_eq-Decides, slice_get-get_or, get_or_from_slice_get}
 use Rattle.lw_text.proofs.Common.{Bytes, NameTable, TokenList, IsDuplicateFree, contains_name, insert_name}
 use Rattle.lw_text.proofs.Common.{insert_names, position_of_name, Seen, position_of_name-at}
-use Rattle.lw_text.proofs.Common.{insert_name-grows, insert_names-longer, contains_name-of_inserted, Site}
+use Rattle.lw_text.proofs.Common.{insert_name-grows, length_le-insert_names, contains_name-of_inserted, Site}
 use Rattle.lw_text.proofs.Common.{Initializer, InMemory, seen_in, seen_eq, initial_word_of, site_by_name}
 use Rattle.lw_text.proofs.Common.{named_initializer, seen_of, IsIn, word_at, is_listed}
 use Rattle.lw_base.specs.declared.head.Seen.TheVariants as seen
@@ -14,7 +14,7 @@ use Rattle.lw_text.specs.declared.site.Site.TheVariants as made
 
 -- ---- the index of a name
 
--- A name of the table is at its index.
+-- If the table has a name, this name is at its position.
 name_at_index : (names : NameTable) (t : Bytes)
     → contains_name names t ≡ true
     → slice_get names (position_of_name names t) ≡ Some t
@@ -61,7 +61,7 @@ site_by_name-insert_names names ns (made.Register t r) h = refl
 
 -- Inserting names preserves that a site is in the table.
 IsIn-insert_names : (names ns : NameTable) (s : Site) → IsIn names s → IsIn (insert_names names ns) s
-IsIn-insert_names names ns s h = omega (arith, h, insert_names-longer names ns)
+IsIn-insert_names names ns s h = omega (arith, h, length_le-insert_names names ns)
 
 -- Lists of items that have sites.
 module _ {X Y : Type 0} (site : X → Site) (at : TokenList → X → Y)

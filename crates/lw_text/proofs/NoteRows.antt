@@ -1,8 +1,7 @@
 -- Quoted texts and lines `Key=value` have unique ends, and so have sequences of them, the notes; and a loop
 -- finds the end. A step of the proof that a text has one frame; the loop of `after_notes` goes by `NotesContinueAt`.
--- (In bytes, 10 is a newline, 34 is `"`, 40 is `(`, 42 is `*`, 61 is `=` and 123 is `{`.)
-use Rattle.lw_text.proofs.Common.{◌≡◌, ℕ, ◌<◌, ◌≤◌, inl, inr, Bool, true, false, not, [], ◌∷◌, ◌++◌, length}
-use Rattle.lw_text.proofs.Common.{length-append, append_assoc, refl, sym, ap, ◌∙◌, subst, arith, ◌==◌}
+use Rattle.lw_text.proofs.Common.{byte, ◌≡◌, ℕ, ◌<◌, ◌≤◌, inl, inr, Bool, true, false, not, [], ◌∷◌, ◌++◌}
+use Rattle.lw_text.proofs.Common.{length, length-append, append_assoc, refl, sym, ap, ◌∙◌, subst, arith, ◌==◌}
 use Rattle.lw_text.proofs.Common.{eqb-true, AllByRecursion, list_all, not-true, not-false, HoldsOfNothing}
 use Rattle.lw_text.proofs.Common.{Bytes, first_byte_is, is_key_byte, is_space, begins_trivia, Trivia, Quoted}
 use Rattle.lw_text.proofs.Common.{KeyLine, Note, Notes, note, IsSuffix, list_all-member, byte_eq-sound}
@@ -26,15 +25,15 @@ HasNoByte-inv : (c : ℕ) (bytes : Bytes) → HasNoByte c bytes → AllByRecursi
 HasNoByte-inv c bytes all = All-mono _ (λ b. (b == c) ≡ false) (λ b e. not-true (b == c) e) bytes all
 
 -- The parts of a text that starts with a quote: the bytes up to the next quote, and the rest.
-module _ (text inside quoted rest : Bytes) (e : text ≡ 34 ∷ inside) (f : inside ≡ quoted ++ rest) (all : HasNoByte 34 quoted)
-    (longest : first_byte_is (λ b. not (b == 34)) rest ≡ false) where
+module _ (text inside quoted rest : Bytes) (e : text ≡ byte "\"" ∷ inside) (f : inside ≡ quoted ++ rest)
+    (all : HasNoByte (byte "\"") quoted) (longest : first_byte_is (λ b. not (b == byte "\"")) rest ≡ false) where
   -- The rest starts with the quote that ends the quoted text.
-  pub Quoted-rest : (end : Bytes) → Quoted text end → rest ≡ 34 ∷ end
+  pub Quoted-rest : (end : Bytes) → Quoted text end → rest ≡ byte "\"" ∷ end
   Quoted-rest end q =
       let p = q.parts in
-      let g : inside ≡ q.inside ++ 34 ∷ end = cc in
-      sym (IsLongestPrefix-unique (λ b. not (b == 34)) q.inside quoted
-      (record { parts = g; bytes_pass = HasNoByte-of_all 34 q.inside q.plain; longest = refl })
+      let g : inside ≡ q.inside ++ byte "\"" ∷ end = cc in
+      sym (IsLongestPrefix-unique (λ b. not (b == byte "\"")) q.inside quoted
+      (record { parts = g; bytes_pass = HasNoByte-of_all (byte "\"") q.inside q.plain; longest = refl })
       (record { parts = f; bytes_pass = all; longest = longest })).1
 
   -- If no quote follows, there is no quoted text.
@@ -44,20 +43,25 @@ module _ (text inside quoted rest : Bytes) (e : text ≡ 34 ∷ inside) (f : ins
   -- If a quote follows, there is a quoted text up to it.
   pub Quoted-up_to_quote : (b : ℕ) (after : Bytes) → rest ≡ b ∷ after → Quoted text after
   Quoted-up_to_quote b after g =
-      let h : not (b == 34) ≡ false = subst (λ x. first_byte_is (λ c. not (c == 34)) x ≡ false) g longest in
-      let i : b ≡ 34 = eqb-true b 34 (not-false (b == 34) h) in
-      let j : rest ≡ 34 ∷ after = cc in
-      record { inside = quoted; parts = e ∙ ap (λ x. 34 ∷ x) (f ∙ ap (λ x. quoted ++ x) j); plain = HasNoByte-inv 34 quoted all }
+      let h : not (b == byte "\"") ≡ false = subst (λ x. first_byte_is (λ c. not (c == byte "\"")) x ≡ false) g longest in
+      let i : b ≡ byte "\"" = eqb-true b (byte "\"") (not-false (b == byte "\"") h) in
+      let j : rest ≡ byte "\"" ∷ after = cc in
+      record {
+        inside = quoted;
+        parts = e ∙ ap (λ x. byte "\"" ∷ x) (f ∙ ap (λ x. quoted ++ x) j);
+        plain = HasNoByte-inv (byte "\"") quoted all;
+      }
 
 -- A quoted text starts with a quote.
-pub Quoted-front : (text end : Bytes) → Quoted text end → first_byte_is (λ b. b == 34) text ≡ true
-Quoted-front text end q = ap (first_byte_is (λ b. b == 34)) q.parts
+pub Quoted-front : (text end : Bytes) → Quoted text end → first_byte_is (λ b. b == byte "\"") text ≡ true
+Quoted-front text end q = ap (first_byte_is (λ b. b == byte "\"")) q.parts
 
 -- The end of a quoted text is unique.
 pub Quoted-unique : (text a b : Bytes) → Quoted text a → Quoted text b → a ≡ b
 Quoted-unique text a b p q =
-    let k : 34 ∷ b ≡ 34 ∷ a =
-    Quoted-rest text (q.inside ++ 34 ∷ b) q.inside (34 ∷ b) q.parts refl (HasNoByte-of_all 34 q.inside q.plain) refl a p in
+    let k : byte "\"" ∷ b ≡ byte "\"" ∷ a =
+    Quoted-rest text (q.inside ++ byte "\"" ∷ b) q.inside (byte "\"" ∷ b) q.parts refl
+    (HasNoByte-of_all (byte "\"") q.inside q.plain) refl a p in
     cc
 
 -- ---- lines `Key=value`
@@ -70,26 +74,29 @@ AreKeyBytes bytes = AllByRecursion (λ b. is_key_byte b ≡ true) bytes
 abbrev pub AreSpaces : Bytes → Type 0
 AreSpaces bytes = AllByRecursion (λ b. is_space b ≡ true) bytes
 
--- A space may not be in a key.
+-- A space or a tab is no byte of a key.
 space_no_key : (b : ℕ) → is_space b ≡ true → is_key_byte b ≡ false
 space_no_key b h =
-    not-true (is_key_byte b) (list_all-member (λ x y. x == y) byte_eq-sound (λ x. not (is_key_byte x)) (32 ∷ 9 ∷ []) b refl h)
+    not-true (is_key_byte b)
+    (list_all-member (λ x y. x == y) byte_eq-sound (λ x. not (is_key_byte x)) (byte " " ∷ byte "\t" ∷ []) b refl h)
 
--- No key continues after the spaces and `=`.
-after_key : (spaces more : Bytes) → AreSpaces spaces → first_byte_is is_key_byte (spaces ++ 61 ∷ more) ≡ false
+-- Spaces followed by `=` do not begin with a byte of a key.
+after_key : (spaces more : Bytes) → AreSpaces spaces → first_byte_is is_key_byte (spaces ++ byte "=" ∷ more) ≡ false
 after_key [] more all = refl
 after_key (b ∷ spaces) more all = space_no_key b all.0
 
 -- The two groupings of the parts of a line `Key=value` are equal.
-line_parts : (key spaces value rest : Bytes) → key ++ spaces ++ 61 ∷ value ++ rest ≡ key ++ (spaces ++ 61 ∷ (value ++ rest))
-line_parts key spaces value rest = append_assoc (key ++ spaces) (61 ∷ value) rest ∙ append_assoc key spaces (61 ∷ (value ++ rest))
+line_parts : (key spaces value rest : Bytes)
+    → key ++ spaces ++ byte "=" ∷ value ++ rest ≡ key ++ (spaces ++ byte "=" ∷ (value ++ rest))
+line_parts key spaces value rest =
+    append_assoc (key ++ spaces) (byte "=" ∷ value) rest ∙ append_assoc key spaces (byte "=" ∷ (value ++ rest))
 
 -- The parts of a text after its longest key: spaces, and the rest.
 module _ (text key rest spaces left : Bytes) (e : text ≡ key ++ rest) (all : AreKeyBytes key)
     (longest : first_byte_is is_key_byte rest ≡ false) (f : rest ≡ spaces ++ left) (spaced : AreSpaces spaces)
     (stop : first_byte_is is_space left ≡ false) where
-  -- A line's key is the longest, and `=` and its value follow the spaces.
-  pub KeyLine-parts : (end : Bytes) → (p : KeyLine text end) → (p.key ≡ key) × (left ≡ 61 ∷ p.value ++ end)
+  -- If a line `Key=value` begins here, its key is this key, and `=` and its value follow the spaces.
+  pub KeyLine-parts : (end : Bytes) → (p : KeyLine text end) → (p.key ≡ key) × (left ≡ byte "=" ∷ p.value ++ end)
   KeyLine-parts end p =
       let outer =
       IsLongestPrefix-unique is_key_byte p.key key (record {
@@ -103,29 +110,30 @@ module _ (text key rest spaces left : Bytes) (e : text ≡ key ++ rest) (all : A
       (outer.0, sym inner.1)
 
   -- If no `=` follows the spaces, there is no line `Key=value`.
-  pub no_key_line-if_no_equals : first_byte_is (λ b. b == 61) left ≡ false → HoldsOfNothing (KeyLine text)
+  pub no_key_line-if_no_equals : first_byte_is (λ b. b == byte "=") left ≡ false → HoldsOfNothing (KeyLine text)
   no_key_line-if_no_equals other end p =
       let k = KeyLine-parts end p in
-      let h = ap (first_byte_is (λ b. b == 61)) k.1 in
+      let h = ap (first_byte_is (λ b. b == byte "=")) k.1 in
       cc
 
   -- If `=` follows the key, there is a line `Key=value`, up to the end of the line.
   pub KeyLine-of_parts : (more value end : Bytes)
       → 0 < length key
-      → left ≡ 61 ∷ more
+      → left ≡ byte "=" ∷ more
       → more ≡ value ++ end
-      → HasNoByte 10 value
-      → first_byte_is (λ b. not (b == 10)) end ≡ false
+      → HasNoByte (byte "\n") value
+      → first_byte_is (λ b. not (b == byte "\n")) end ≡ false
       → KeyLine text end
   KeyLine-of_parts more value end some g h one last = record {
     key = key;
     spaces = spaces;
     value = value;
-    parts = e ∙ ap (λ x. key ++ x) (f ∙ ap (λ x. spaces ++ x) (g ∙ ap (λ x. 61 ∷ x) h)) ∙ sym (line_parts key spaces value end);
+    parts =
+        e ∙ ap (λ x. key ++ x) (f ∙ ap (λ x. spaces ++ x) (g ∙ ap (λ x. byte "=" ∷ x) h)) ∙ sym (line_parts key spaces value end);
     not_empty = some;
     are_key_bytes = all;
     spaced = spaced;
-    one_line = HasNoByte-inv 10 value one;
+    one_line = HasNoByte-inv (byte "\n") value one;
     longest = last;
   }
 
@@ -133,12 +141,12 @@ module _ (text key rest spaces left : Bytes) (e : text ≡ key ++ rest) (all : A
 pub KeyLine-unique : (text a b : Bytes) → KeyLine text a → KeyLine text b → a ≡ b
 KeyLine-unique text a b p q =
     let k =
-    KeyLine-parts text q.key (q.spaces ++ 61 ∷ (q.value ++ b)) q.spaces (61 ∷ (q.value ++ b))
+    KeyLine-parts text q.key (q.spaces ++ byte "=" ∷ (q.value ++ b)) q.spaces (byte "=" ∷ (q.value ++ b))
     (q.parts ∙ line_parts q.key _ q.value b) q.are_key_bytes (after_key q.spaces _ q.spaced) refl q.spaced refl a p in
     let ends : p.value ++ a ≡ q.value ++ b = cc in
-    (IsLongestPrefix-unique (λ b. not (b == 10)) p.value q.value {text = p.value ++ a}
-    (record { parts = refl; bytes_pass = HasNoByte-of_all 10 _ p.one_line; longest = p.longest })
-    (record { parts = ends; bytes_pass = HasNoByte-of_all 10 q.value q.one_line; longest = q.longest })).1
+    (IsLongestPrefix-unique (λ b. not (b == byte "\n")) p.value q.value {text = p.value ++ a}
+    (record { parts = refl; bytes_pass = HasNoByte-of_all (byte "\n") _ p.one_line; longest = p.longest })
+    (record { parts = ends; bytes_pass = HasNoByte-of_all (byte "\n") q.value q.one_line; longest = q.longest })).1
 
 -- A text that starts with a key starts with a byte of a key.
 pub key_front : (key more : Bytes) → 0 < length key → AreKeyBytes key → first_byte_is is_key_byte (key ++ more) ≡ true
@@ -149,7 +157,7 @@ key_front (b ∷ key) more some all = all.0
 pub KeyLine-front : (text end : Bytes) → KeyLine text end → first_byte_is is_key_byte text ≡ true
 KeyLine-front text end p =
     let e = p.parts ∙ line_parts p.key p.spaces p.value end in
-    ap (first_byte_is is_key_byte) e ∙ key_front p.key (p.spaces ++ 61 ∷ (p.value ++ end)) p.not_empty p.are_key_bytes
+    ap (first_byte_is is_key_byte) e ∙ key_front p.key (p.spaces ++ byte "=" ∷ (p.value ++ end)) p.not_empty p.are_key_bytes
 
 -- If the text does not start with a byte of a key, there is no line `Key=value`.
 pub no_key_line-if_key_is_empty : (text key rest : Bytes)
@@ -174,15 +182,15 @@ not-both_tests-first_byte : (p q : ℕ → Bool) (text : Bytes)
 not-both_tests-first_byte p q [] h k never = cc
 not-both_tests-first_byte p q (b ∷ text) h k never = let n = never b h in cc
 
--- If a key may not contain c, no byte equal to c may be in a key.
+-- If c is no byte of a key, no byte that equals c is.
 byte_no_key : (c b : ℕ) → is_key_byte c ≡ false → (b == c) ≡ true → is_key_byte b ≡ false
 byte_no_key c b other h = ap is_key_byte (eqb-true b c h) ∙ other
 
 -- No text starts both with a quoted text and with a line `Key=value`.
 pub not-KeyLine-if_quoted : (text a b : Bytes) → Quoted text a → KeyLine text b → ⊥
 not-KeyLine-if_quoted text a b q p =
-    not-both_tests-first_byte (λ x. x == 34) is_key_byte text (Quoted-front text a q) (KeyLine-front text b p)
-    (λ x h. byte_no_key 34 x refl h)
+    not-both_tests-first_byte (λ x. x == byte "\"") is_key_byte text (Quoted-front text a q) (KeyLine-front text b p)
+    (λ x h. byte_no_key (byte "\"") x refl h)
 
 -- The end of a note is unique.
 pub Note-unique : (text a b : Bytes) → Note text a → Note text b → a ≡ b
@@ -193,8 +201,8 @@ Note-unique text a b (inr p) (inr q) = KeyLine-unique text a b p q
 
 -- No trivia starts at a byte that passes a test which no blank and no `(` passes.
 trivia_free : (p : ℕ → Bool) (text : Bytes)
-    → list_all (λ x. not (p x)) (32 ∷ 9 ∷ 10 ∷ 13 ∷ []) ≡ true
-    → p 40 ≡ false
+    → list_all (λ x. not (p x)) (byte " " ∷ byte "\t" ∷ byte "\n" ∷ byte "\r" ∷ []) ≡ true
+    → p (byte "(") ≡ false
     → first_byte_is p text ≡ true
     → begins_trivia text ≡ false
 trivia_free p [] blanks bracket h = refl
@@ -202,24 +210,24 @@ trivia_free p (b ∷ text) blanks bracket h = no_trivia-first_byte p b text blan
 
 -- No trivia starts where a note does.
 pub note_no_trivia : (text end : Bytes) → Note text end → begins_trivia text ≡ false
-note_no_trivia text end (inl q) = trivia_free (λ b. b == 34) text refl refl (Quoted-front text end q)
+note_no_trivia text end (inl q) = trivia_free (λ b. b == byte "\"") text refl refl (Quoted-front text end q)
 note_no_trivia text end (inr p) = trivia_free is_key_byte text refl refl (KeyLine-front text end p)
 
 -- No trivia starts with `{`.
-pub block_no_trivia : (text : Bytes) → first_byte_is (λ b. b == 123) text ≡ true → begins_trivia text ≡ false
-block_no_trivia text h = trivia_free (λ b. b == 123) text refl refl h
+pub block_no_trivia : (text : Bytes) → first_byte_is (λ b. b == byte "{") text ≡ true → begins_trivia text ≡ false
+block_no_trivia text h = trivia_free (λ b. b == byte "{") text refl refl h
 
 -- No note starts with `{`.
-pub no_note-at_block : (text end : Bytes) → first_byte_is (λ b. b == 123) text ≡ true → Note text end → ⊥
+pub no_note-at_block : (text end : Bytes) → first_byte_is (λ b. b == byte "{") text ≡ true → Note text end → ⊥
 no_note-at_block text end h (inl q) =
-    not-both_tests-first_byte (λ b. b == 34) (λ b. b == 123) text (Quoted-front text end q) h
-    (λ b k. ap (λ x. x == 123) (eqb-true b 34 k))
+    not-both_tests-first_byte (λ b. b == byte "\"") (λ b. b == byte "{") text (Quoted-front text end q) h
+    (λ b k. ap (λ x. x == byte "{") (eqb-true b (byte "\"") k))
 no_note-at_block text end h (inr p) =
-    not-both_tests-first_byte _ _ text h (KeyLine-front _ end p) (λ b k. byte_no_key 123 b refl k)
+    not-both_tests-first_byte _ _ text h (KeyLine-front _ end p) (λ b k. byte_no_key (byte "{") b refl k)
 
 -- A text that starts with no quote and with no line `Key=value` starts with no note.
 pub no_note-if_neither_kind : (text : Bytes)
-    → first_byte_is (λ b. b == 34) text ≡ false
+    → first_byte_is (λ b. b == byte "\"") text ≡ false
     → HoldsOfNothing (KeyLine text)
     → HoldsOfNothing (Note text)
 no_note-if_neither_kind text other never end (inl q) = let h = Quoted-front text end q in cc
@@ -227,19 +235,26 @@ no_note-if_neither_kind text other never end (inr p) = never end p
 
 -- A text that starts with a quote but with no quoted text starts with no note.
 pub no_note-if_quote_is_unclosed : (text : Bytes)
-    → first_byte_is (λ b. b == 34) text ≡ true
+    → first_byte_is (λ b. b == byte "\"") text ≡ true
     → HoldsOfNothing (Quoted text)
     → HoldsOfNothing (Note text)
 no_note-if_quote_is_unclosed text here never end (inl q) = never end q
 no_note-if_quote_is_unclosed text here never end (inr p) =
-    not-both_tests-first_byte (λ b. b == 34) is_key_byte text here (KeyLine-front text end p) (λ b h. byte_no_key 34 b refl h)
+    not-both_tests-first_byte (λ b. b == byte "\"") is_key_byte text here (KeyLine-front text end p)
+    (λ b h. byte_no_key (byte "\"") b refl h)
 
 -- A note takes at least one byte, and what follows it is a suffix of the text.
 pub Note-suffix : (text end : Bytes) → Note text end → (front : Bytes) × (text ≡ front ++ end) × (0 < length front)
-Note-suffix text end (inl q) =
-    (34 ∷ q.inside ++ 34 ∷ [], q.parts ∙ ap (λ x. 34 ∷ x) (sym (append_assoc q.inside (34 ∷ []) end)), omega arith)
-Note-suffix text end (inr p) =
-    (p.key ++ p.spaces ++ 61 ∷ p.value, p.parts, omega (arith, p.not_empty, length-append (p.key ++ p.spaces) (61 ∷ p.value)))
+Note-suffix text end (inl q) = (
+  byte "\"" ∷ q.inside ++ byte "\"" ∷ [],
+  q.parts ∙ ap (λ x. byte "\"" ∷ x) (sym (append_assoc q.inside (byte "\"" ∷ []) end)),
+  omega arith,
+)
+Note-suffix text end (inr p) = (
+  p.key ++ p.spaces ++ byte "=" ∷ p.value,
+  p.parts,
+  omega (arith, p.not_empty, length-append (p.key ++ p.spaces) (byte "=" ∷ p.value)),
+)
 
 -- ---- sequences of notes
 
@@ -247,7 +262,7 @@ Note-suffix text end (inr p) =
 pub Notes-note_inv : {text mid after rest : Bytes} → Notes text rest → Trivia text mid → Note mid after → Notes after rest
 Notes-note_inv {mid = mid} {after} (none {rest = rest} t h) g n =
     absurd (let e : mid ≡ rest = Trivia-unique g t (note_no_trivia mid after n) (block_no_trivia rest h) in
-    no_note-at_block mid after (subst (λ x. first_byte_is (λ b. b == 123) x ≡ true) (sym e) h) n)
+    no_note-at_block mid after (subst (λ x. first_byte_is (λ b. b == byte "{") x ≡ true) (sym e) h) n)
 Notes-note_inv {mid = mid} {after} {rest} (note {mid = m} {after = a} t f more) g n =
     let e : m ≡ mid = Trivia-unique t g (note_no_trivia m a f) (note_no_trivia mid after n) in
     subst (λ x. Notes x rest) (Note-unique mid a after (subst (λ x. Note x a) e f) n) more
@@ -256,13 +271,13 @@ Notes-note_inv {mid = mid} {after} {rest} (note {mid = m} {after = a} t f more) 
 Notes-block_inv : {text start rest : Bytes}
     → Notes text rest
     → Trivia text start
-    → first_byte_is (λ b. b == 123) start ≡ true
+    → first_byte_is (λ b. b == byte "{") start ≡ true
     → start ≡ rest
 Notes-block_inv {start = start} (none {rest = rest} t k) g h =
     Trivia-unique g t (block_no_trivia start h) (block_no_trivia rest k)
 Notes-block_inv {start = start} (note {mid = m} {after = a} t f more) g h =
     absurd (let e : start ≡ m = Trivia-unique g t (block_no_trivia start h) (note_no_trivia m a f) in
-    no_note-at_block m a (subst (λ x. first_byte_is (λ b. b == 123) x ≡ true) e h) f)
+    no_note-at_block m a (subst (λ x. first_byte_is (λ b. b == byte "{") x ≡ true) e h) f)
 
 -- The end of a sequence of notes is unique.
 pub Notes-unique : {text a b : Bytes} → Notes text a → Notes text b → a ≡ b
@@ -302,11 +317,11 @@ pub Note-shorter : {rest start after : Bytes} → Trivia rest start → Note sta
 Note-shorter {rest} {start} {after} g n =
     let t = Note-suffix start after n in omega (arith, Trivia-shorter g, ap length t.1, length-append t.0 after, t.2)
 
--- At `{` the notes have ended.
+-- If `{` follows the notes read and trivia, the notes end there.
 pub Notes-at_brace : {bytes rest start : Bytes}
     → NotesContinueAt bytes rest
     → Trivia rest start
-    → first_byte_is (λ b. b == 123) start ≡ true
+    → first_byte_is (λ b. b == byte "{") start ≡ true
     → Notes bytes start
 Notes-at_brace {start = start} p g h = p.whole_if_rest start (none g h)
 
@@ -329,7 +344,7 @@ pub no_notes-if_no_note : {bytes rest start : Bytes}
     → NotesContinueAt bytes rest
     → Trivia rest start
     → begins_trivia start ≡ false
-    → first_byte_is (λ b. b == 123) start ≡ false
+    → first_byte_is (λ b. b == byte "{") start ≡ false
     → HoldsOfNothing (Note start)
     → HoldsOfNothing (Notes bytes)
 no_notes-if_no_note {bytes} {rest} {start} p g stop other never end m = no_notes-by_first_start (p.rest_if_whole end m)

@@ -47,7 +47,7 @@ not-FailsInTest-at_token_and_end : (arch : Arch) (ts : TokenList) (t : Bytes) (r
 not-FailsInTest-at_token_and_end arch ts t rest c d p q =
     let same = (FailsInTest-unique arch ts (t ∷ rest) [] c d p q).0 in omega (arith, ap length same)
 
--- The tokens of a whole text, with their end.
+-- If a whole text has these tokens, they are its tokens up to an end, after which there is only trivia.
 HasTokens-PlacedTokens : (len : ℕ) (text : Bytes) (tokens : List PlacedToken)
     → PlacedTokens len text tokens
     → (end : Bytes) × HasTokens len text tokens end × Trivia end []
@@ -55,7 +55,7 @@ HasTokens-PlacedTokens len text tokens p =
     let read = ParsesMany-PlacedTokens len text tokens p in
     (read.0, (read.1, λ t rest is. no_first_token-if_only_trivia read.0 t rest read.2 is), read.2)
 
--- Where the next token fails, no token follows.
+-- If tokens have been read from a text, and the next token fails, they are the text's tokens up to where none follows.
 HasTokens-if_next_fails : (len : ℕ) (text end rest : Bytes) (tokens : List PlacedToken) (c : TextCause)
     → ParsesMany (IsPlacedToken len) text tokens end
     → FailsInFirstToken end rest c
@@ -152,16 +152,16 @@ FailsAt-unique text m n c d (in_body arch name rest is fails) (in_body language 
     (subst (λ x. FailsInBody language (length text) x n d) (sym u.2) way))
 
 -- The tokens of a text, with and without their places, are the same.
-Tokens-of_HasTokens : (len : ℕ) (text end : Bytes) (ts : List PlacedToken) (us : TokenList)
+texts_of_tokens-HasTokens : (len : ℕ) (text end : Bytes) (ts : List PlacedToken) (us : TokenList)
     → HasTokens len text ts end
     → Tokens text us
     → (texts_of_tokens ts ≡ us) × Trivia end []
-Tokens-of_HasTokens len text end [] [] p q = (refl, subst (λ x. Trivia x []) p.0 q)
-Tokens-of_HasTokens len text end [] (u ∷ us) p q = absurd (p.1 u q.0 (subst (λ x. IsFirstToken x u q.0) p.0 q.1))
-Tokens-of_HasTokens len text end (t ∷ ts) [] p q = absurd (no_first_token-if_only_trivia text t.text p.0.0 q p.0.1.0)
-Tokens-of_HasTokens len text end (t ∷ ts) (u ∷ us) p q =
+texts_of_tokens-HasTokens len text end [] [] p q = (refl, subst (λ x. Trivia x []) p.0 q)
+texts_of_tokens-HasTokens len text end [] (u ∷ us) p q = absurd (p.1 u q.0 (subst (λ x. IsFirstToken x u q.0) p.0 q.1))
+texts_of_tokens-HasTokens len text end (t ∷ ts) [] p q = absurd (no_first_token-if_only_trivia text t.text p.0.0 q p.0.1.0)
+texts_of_tokens-HasTokens len text end (t ∷ ts) (u ∷ us) p q =
     let e = IsFirstToken-unique text t.text p.0.0 u q.0 p.0.1.0 q.1 in
-    let more = Tokens-of_HasTokens len p.0.0 end ts us (p.0.2, p.1) (subst (λ x. Tokens x us) (sym e.1) q.2) in
+    let more = texts_of_tokens-HasTokens len p.0.0 end ts us (p.0.2, p.1) (subst (λ x. Tokens x us) (sym e.1) q.2) in
     (ap (λ x. x ∷ texts_of_tokens ts) e.0 ∙ ap (λ xs. u ∷ xs) more.0, more.1)
 
 -- A text with a frame does not fail.
@@ -176,16 +176,16 @@ not-FailsAt-if_frame text m c frame (in_body arch name rest is fails) has =
     -- The body of a text with a frame does not fail.
     not-FailsInBody-if_whole : FailsInBody has.arch (length text) has.rest m c → ⊥
     not-FailsInBody-if_whole (at_token tokens later token before end read parts place way) =
-        let same = (Tokens-of_HasTokens (length text) has.rest end tokens has.tokens read has.stream).0 in
+        let same = (texts_of_tokens-HasTokens (length text) has.rest end tokens has.tokens read has.stream).0 in
         not-FailsInTest-if_parsed has.arch has.tokens (texts_of_tokens (token ∷ later)) c
-        (subst (λ ts. FailsInTest has.arch ts (texts_of_tokens (token ∷ later)) c) same way) has.syntax has.condition has.parts
-        has.proposition
+        (subst (λ ts. FailsInTest has.arch ts (texts_of_tokens (token ∷ later)) c) same way) has.syntax has.proposition has.parts
+        has.is_proposition
     not-FailsInBody-if_whole (in_next_token tokens end rest d many next place way) =
         not-FailsInFirstToken-if_only_trivia end rest c next
-        (Tokens-of_HasTokens (length text) has.rest end tokens has.tokens
+        (texts_of_tokens-HasTokens (length text) has.rest end tokens has.tokens
         (HasTokens-if_next_fails (length text) has.rest end rest tokens c many next) has.stream).1
     not-FailsInBody-if_whole (at_end tokens d whole way place because) =
         let all = HasTokens-PlacedTokens (length text) has.rest tokens whole in
-        let same = (Tokens-of_HasTokens (length text) has.rest all.0 tokens has.tokens all.1 has.stream).0 in
+        let same = (texts_of_tokens-HasTokens (length text) has.rest all.0 tokens has.tokens all.1 has.stream).0 in
         not-FailsInTest-if_parsed has.arch has.tokens [] d (subst (λ ts. FailsInTest has.arch ts [] d) same way) has.syntax
-        has.condition has.parts has.proposition
+        has.proposition has.parts has.is_proposition

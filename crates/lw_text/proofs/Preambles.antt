@@ -94,7 +94,7 @@ Preamble-unique text a n r b m s p q =
     let f = ParsesTestName-unique q.0 n p.1 m q.1 (subst (λ x. ParsesTestName x n p.1) e.1 p.3) q.3 in
     (arch_keyword-unique a b e.0, f.0, Notes-unique (subst (λ x. Notes x r) f.1 p.4) q.4)
 
--- Bytes whose first is neither a blank nor another are none.
+-- If the first of some bytes is neither a blank nor another byte, there are no bytes.
 is_empty-no_first_byte : (bytes : Bytes)
     → first_byte_is is_blank bytes ≡ false
     → first_byte_is (λ b. not (is_blank b)) bytes ≡ false
@@ -102,7 +102,7 @@ is_empty-no_first_byte : (bytes : Bytes)
 is_empty-no_first_byte [] p q = refl
 is_empty-no_first_byte (b ∷ bytes) p q = absurd (false≢true (sym p ∙ not-false (is_blank b) q))
 
--- An empty front is none.
+-- If bytes are an empty front and a rest, they are the rest.
 pub append-empty_front : (bytes front rest : Bytes) → bytes ≡ front ++ rest → length front ≡ 0 → bytes ≡ rest
 append-empty_front bytes front rest parts none = parts ∙ ap (λ x. x ++ rest) (nil_from_length front none)
 

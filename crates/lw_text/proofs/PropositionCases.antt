@@ -7,7 +7,7 @@ use Rattle.lw_text.proofs.Common.{option_map, eqb-true, AllByRecursion, eqb-fals
 use Rattle.lw_text.proofs.Common.{or_cases, or_parts, false_from_ne_true, map-append, filter_map-append}
 use Rattle.lw_text.proofs.Common.{fold_stays, fold-append, slice_get-get_or, Bytes, NameTable, TokenList}
 use Rattle.lw_text.proofs.Common.{Arch, Prop, Formula, Word_is, IsDuplicateFree, formula_of, contains_name}
-use Rattle.lw_text.proofs.Common.{insert_name, insert_names, position_of_name-at, insert_names-longer}
+use Rattle.lw_text.proofs.Common.{insert_name, insert_names, position_of_name-at, length_le-insert_names}
 use Rattle.lw_text.proofs.Common.{contains_name-of_inserted, contains_name-insert_names}
 use Rattle.lw_text.proofs.Common.{position_of_name-insert_names, IsDuplicateFree-insert_names, Cursor}
 use Rattle.lw_text.proofs.Common.{PropositionReader, ParsesMany, with_sites, HasRoomFor, SiteSyntax, InMemory}
@@ -21,7 +21,7 @@ use Rattle.lw_text.proofs.Common.{FailsInProposition, HasRoomForNode, after_term
 use Rattle.lw_text.proofs.PropositionPlaces.{is_some-option_map, next_place-state}
 use Rattle.lw_text.specs.declared.terminal.Terminal.{Terminal as Made}
 use Rattle.lw_text.proofs.api.PropositionNodes.{node_count, node_count-append}
-use Rattle.lw_text.proofs.Atoms.{no_site, starts_no_site}
+use Rattle.lw_text.proofs.SitesAndValues.{no_site, starts_no_site}
 use Rattle.lw_text.proofs.Lists.{ParsesMany-push}
 use Rattle.lw_text.proofs.PropositionReadings.{state_after_terminals, result_of, result-IsProposition}
 use Rattle.lw_text.proofs.PropositionReadings.{IsProposition-result}
@@ -56,7 +56,8 @@ map_resolved-along names ns (Atom (Holds (InMemory x) n) ∷ ss) h =
     cc
 map_resolved-along names ns (s ∷ ss) h = ap (λ l. resolved names s ∷ l) (map_resolved-along names ns ss h)
 
--- A terminal in memory, named by the table and resolved by it, is the same terminal.
+-- If a table has no duplicates and has the location of a terminal in memory, the terminal named by the table and resolved by it
+-- is the same.
 pub resolved_named : (names : NameTable) (s : Made)
     → IsDuplicateFree names
     → TerminalIn names s
@@ -109,13 +110,14 @@ TerminalsRead-none arch threads names start reader e = record {
 
 module _ {A : Type 0} {arch : Arch} {threads : ℕ} {first names start here : TokenList} {nodes : ℕ} {reader : PropositionReader A}
     (read : TerminalsRead arch threads first names start here nodes reader) where
-  -- The table after further terminals.
+  -- Inserting the names of the terminals read, and then of further ones, into the first table is inserting those of the further
+  -- ones into the present table.
   with_sites-of_more_terminals : (more : List (Terminal AtomSyntax))
       → with_sites first (sites_in (read.terminals ++ more)) ≡ with_sites names (sites_in more)
   with_sites-of_more_terminals more =
       with_sites_in-append first read.terminals more ∙ ap (λ ns. with_sites ns (sites_in more)) (sym read.names_are)
 
-  -- More names do not change the terminals read.
+  -- Inserting more names into the table does not change the resolved form of the terminals read.
   resolved_read_unchanged : (ns : NameTable)
       → map (resolved (insert_names names ns)) read.terminals ≡ map (resolved names) read.terminals
   resolved_read_unchanged ns =
@@ -123,14 +125,14 @@ module _ {A : Type 0} {arch : Arch} {threads : ℕ} {first names start here : To
       (subst (λ l. ContainsAllNames l read.terminals) (sym read.names_are)
       (insert_names-contains_all first (site_names (sites_in read.terminals))))
 
-  -- The reader's state after further terminals.
+  -- The reader's state after the terminals read and ss is its state after ss from the present one.
   state_after_terminals-of_rest : (ss : List (Terminal Formula))
       → state_after_terminals (Some initial_reader_state) (map (resolved names) read.terminals ++ ss)
       ≡ state_after_terminals (Some (state_of reader)) ss
   state_after_terminals-of_rest ss =
       fold-append _ _ (map (resolved names) read.terminals) ss ∙ ap (λ o. state_after_terminals o ss) read.state_is
 
-  -- The rest of a whole proposition completes it.
+  -- If the terminals read and further ones are a proposition, the further ones complete it from the present state.
   result-of_rest : (more : List (Terminal AtomSyntax)) (p : Formula)
       → IsProposition (map (resolved (with_sites first (sites_in (read.terminals ++ more)))) (read.terminals ++ more)) p
       → result_of (state_after_terminals (Some (state_of reader)) (map (resolved (with_sites names (sites_in more))) more))
@@ -198,7 +200,7 @@ module _ {A : Type 0} {arch : Arch} {threads : ℕ} {first names start here : To
             fits.room,
             ap length (with_sites-of_more_terminals (t ∷ back)),
             ap length after,
-            insert_names-longer now (site_names (sites_in back)),
+            length_le-insert_names now (site_names (sites_in back)),
           ) in
           let few : nodes + node_count (t ∷ []) ≤ most_nodes =
           omega (
@@ -381,6 +383,7 @@ node_count_at_most {arch} {threads} {before} {later} {after = after} {s = s} tak
     ∙ is_node-not_parenthesis arch threads (remaining_texts before) (remaining_texts later) (named_terminal after s) taken.parsed)
     (go (begins_parenthesis (remaining_texts before)) room)
   where
+    -- By whether a parenthesis is next.
     go : (b : Bool) → (not (nodes == most_nodes) || b) ≡ true → nodes + (if not b then 1 else 0) ≤ most_nodes
     go true room = omega (arith, few)
     go false room = elim (or_cases (not (nodes == most_nodes)) false room) [
@@ -388,7 +391,7 @@ node_count_at_most {arch} {threads} {before} {later} {after = after} {s = s} tak
       | inr h ↦ absurd cc
     ]
 
--- If there is no room for another node, only a parenthesis fits.
+-- If 256 nodes precede, and no parenthesis is next, no terminal that is next is within the limit of nodes.
 pub no_room_for_node : (arch : Arch) (threads nodes : ℕ) (here rest : TokenList) (s : Terminal AtomSyntax)
     → (not (nodes == most_nodes) || begins_parenthesis here) ≡ false
     → IsTerminal arch threads here s rest

@@ -34,7 +34,7 @@ next_place-state (AfterPart e p (o ∷ os)) names made.Conjunction = refl
 next_place-state (AfterPart e p (o ∷ os)) names made.Disjunction = refl
 next_place-state (AfterPart e p (o ∷ os)) names (made.Atom a) = refl
 
--- Where no proposition is complete, the place is not one after a part outside of all parentheses.
+-- If a state has no result, its place is not that after a part outside of all parentheses.
 pub incomplete_place : (state : ReaderState) → state_result state ≡ None → place_of state ≢ (false, 0)
 incomplete_place (BeforePart l os) e p = let k = ap (λ x. x.0) p in cc
 incomplete_place (AfterPart x p []) e q = cc
@@ -45,7 +45,7 @@ pub is_some-option_map : {X Y : Type 0} (f : X → Y) (o : Option X) → is_some
 is_some-option_map f None = refl
 is_some-option_map f (Some x) = refl
 
--- A reader that must read a part next is at a place where one must begin.
+-- At a reader's place a part must begin if and only if the reader has no last part.
 pub wants_part-place : {A : Type 0} (reader : PropositionReader A) (part : Bool)
     → is_some reader.part ≡ not part
     → (place_of (state_of reader)).0 ≡ part
@@ -61,7 +61,8 @@ wants_part-place reader part e =
     place-by_cases l os (Some p) true e = absurd cc
     place-by_cases l os (Some p) false e = refl
 
--- If there is no room for one more node, 256 have been read, and no parenthesis is next.
+-- If the test says that there is no room for a node and no parenthesis is next, 256 nodes have been read, and the next token,
+-- if there is one, is no parenthesis.
 pub node_limit_reached-no_parenthesis : (nodes : ℕ) (ts : TokenList)
     → (not (nodes == most_nodes) || (begins_token (codes "(") ts || begins_token (codes ")") ts)) ≡ false
     → (nodes ≡ most_nodes) × IfFirst (λ t. AllByRecursion (λ w. t ≢ w) (codes "(" ∷ codes ")" ∷ [])) ts
@@ -70,6 +71,7 @@ node_limit_reached-no_parenthesis nodes ts e =
     let q = or_parts (begins_token (codes "(") ts) (begins_token (codes ")") ts) p.1 in
     (eqb-true nodes most_nodes (not-false (nodes == most_nodes) p.0), place-by_cases ts q.0 q.1)
   where
+    -- If the tokens begin with neither parenthesis, their first, if there is one, is neither.
     place-by_cases : (ts : TokenList)
         → begins_token (codes "(") ts ≡ false
         → begins_token (codes ")") ts ≡ false
@@ -77,7 +79,7 @@ node_limit_reached-no_parenthesis nodes ts e =
     place-by_cases [] a b = tt
     place-by_cases (t ∷ ts) a b = (not-equal-if_bytes_differ t (codes "(") a, (not-equal-if_bytes_differ t (codes ")") b, tt))
 
--- There is room for one more node, or a parenthesis is next.
+-- If the test says so, there is room for one more node, or a parenthesis is next.
 pub HasRoomForNode-by_test : (nodes : ℕ) (ts : TokenList)
     → (not (nodes == most_nodes) || (begins_token (codes "(") ts || begins_token (codes ")") ts)) ≡ true
     → HasRoomForNode nodes ts

@@ -10,11 +10,11 @@ use Rattle.lw_text.proofs.Common.{BeforePart, AfterPart, initial_reader_state, n
 use Rattle.lw_text.proofs.Common.{ands_of, new_group, with_not, next_state, state_result}
 
 -- The terminals of a proposition, with formulas as atoms.
-abbrev pub Terms : Type 0
-Terms = List (Terminal Formula)
+abbrev pub FormulaTerminals : Type 0
+FormulaTerminals = List (Terminal Formula)
 
 -- The reader's state after some terminals, or `None` if one of them is not allowed.
-abbrev pub state_after_terminals : Option ReaderState → Terms → Option ReaderState
+abbrev pub state_after_terminals : Option ReaderState → FormulaTerminals → Option ReaderState
 state_after_terminals o ss = fold (λ o s. option_and_then (λ r. next_state r s) o) o ss
 
 -- The result of a state, or `None` if there is no state or no result.
@@ -37,24 +37,24 @@ abbrev group_after_or : Option Formula → GroupState
 group_after_or e = record { left_of_or = e; left_of_and = None; nots = 0 }
 
 -- From each state in which the level may begin, the terminals ss reach the state after the formula p.
-abbrev ReachesStateAfter : Level → Terms → Formula → Type 0
+abbrev ReachesStateAfter : Level → FormulaTerminals → Formula → Type 0
 ReachesStateAfter PartLevel ss p =
-    (l : GroupState) (os : List GroupState) (rest : Terms)
+    (l : GroupState) (os : List GroupState) (rest : FormulaTerminals)
     → state_after_terminals (Some (BeforePart l os)) (ss ++ rest)
     ≡ state_after_terminals (Some (AfterPart l.left_of_or (ands_of l p) os)) rest
 ReachesStateAfter ConjunctionLevel ss p =
-    (e : Option Formula) (os : List GroupState) (rest : Terms)
+    (e : Option Formula) (os : List GroupState) (rest : FormulaTerminals)
     → state_after_terminals (Some (BeforePart (group_after_or e) os)) (ss ++ rest)
     ≡ state_after_terminals (Some (AfterPart e p os)) rest
 ReachesStateAfter DisjunctionLevel ss p =
-    (os : List GroupState) (rest : Terms)
+    (os : List GroupState) (rest : FormulaTerminals)
     → (e : Option Formula)
     × (a : Formula)
     × (after_or e a ≡ p)
     × (state_after_terminals (Some (BeforePart new_group os)) (ss ++ rest) ≡ state_after_terminals (Some (AfterPart e a os)) rest)
 
 -- Terminals that derive p at a level reach the state after p.
-ReachesStateAfter-Derives : {k : Level} {ss : Terms} {p : Formula} → Derives k ss p → ReachesStateAfter k ss p
+ReachesStateAfter-Derives : {k : Level} {ss : FormulaTerminals} {p : Formula} → Derives k ss p → ReachesStateAfter k ss p
 ReachesStateAfter-Derives atom = λ l os rest. refl
 ReachesStateAfter-Derives (negated {p = p} d) = λ l os rest.
     ReachesStateAfter-Derives d (with_not l) os rest
@@ -82,7 +82,7 @@ ReachesStateAfter-Derives (or {ss} {ts} {p} {q} d e) = λ os rest.
     )
 
 -- After the terminals of a proposition the reader's result is that proposition.
-pub result-IsProposition : {ss : Terms} {p : Formula}
+pub result-IsProposition : {ss : FormulaTerminals} {p : Formula}
     → IsProposition ss p
     → result_of (state_after_terminals (Some initial_reader_state) ss) ≡ Some p
 result-IsProposition {ss} d =
@@ -92,7 +92,7 @@ result-IsProposition {ss} d =
     ∙ ap Some k.2
 
 -- Terminals are a proposition of at most one formula.
-pub IsProposition-unique : (ss : Terms) (p q : Formula) → IsProposition ss p → IsProposition ss q → p ≡ q
+pub IsProposition-unique : (ss : FormulaTerminals) (p q : Formula) → IsProposition ss p → IsProposition ss q → p ≡ q
 IsProposition-unique ss p q d e =
     let h = result-IsProposition d in
     let k = result-IsProposition e in
@@ -101,47 +101,52 @@ IsProposition-unique ss p q d e =
 -- ---- what is accepted has a derivation
 
 -- The terminals of a group before its last conjunction: those of a formula, followed by `\/`; or none.
-abbrev Front : Option Formula → Terms → Type 0
+abbrev Front : Option Formula → FormulaTerminals → Type 0
 Front None ts = ts ≡ []
-Front (Some a) ts = (ss : Terms) × (ts ≡ ss ++ Disjunction ∷ []) × Derives DisjunctionLevel ss a
+Front (Some a) ts = (ss : FormulaTerminals) × (ts ≡ ss ++ Disjunction ∷ []) × Derives DisjunctionLevel ss a
 
 -- The terminals ts are those outside a group, its front of formula e, and a conjunction of formula p.
-record EndsInConjunction (Outside : Terms → Type 0) (ts : Terms) (e : Option Formula) (p : Formula) : Type 0 where
-  outside : Terms
-  front : Terms
-  conjuncts : Terms
+record EndsInConjunction (Outside : FormulaTerminals → Type 0) (ts : FormulaTerminals) (e : Option Formula)
+    (p : Formula) : Type 0 where
+  outside : FormulaTerminals
+  front : FormulaTerminals
+  conjuncts : FormulaTerminals
   terminals_are : ts ≡ outside ++ (front ++ conjuncts)
   around : Outside outside
   before : Front e front
   says : Derives ConjunctionLevel conjuncts p
 
 -- The terminals up to the `(` of a group, inside these open groups, the innermost first.
-abbrev Outside : List GroupState → Terms → Type 0
+abbrev Outside : List GroupState → FormulaTerminals → Type 0
 Outside [] ts = ts ≡ []
 Outside (o ∷ os) ts =
-    (before : Terms)
+    (before : FormulaTerminals)
     × (ts ≡ before ++ Open ∷ [])
-    × ((ss : Terms) (p : Formula)
+    × ((ss : FormulaTerminals) (p : Formula)
     → Derives PartLevel ss p
     → EndsInConjunction (Outside os) (before ++ ss) o.left_of_or (ands_of o p))
 
 -- The state is right for the terminals: they end in the conjunction that the state has; before a part, they do with each part that may
 -- follow. Nothing is said if there is no state.
-abbrev IsStateAfter : Option ReaderState → Terms → Type 0
+abbrev IsStateAfter : Option ReaderState → FormulaTerminals → Type 0
 IsStateAfter None ts = Unit {0}
 IsStateAfter (Some (BeforePart l os)) ts =
-    (ss : Terms) (p : Formula) → Derives PartLevel ss p → EndsInConjunction (Outside os) (ts ++ ss) l.left_of_or (ands_of l p)
+    (ss : FormulaTerminals) (p : Formula)
+    → Derives PartLevel ss p
+    → EndsInConjunction (Outside os) (ts ++ ss) l.left_of_or (ands_of l p)
 IsStateAfter (Some (AfterPart e p os)) ts = EndsInConjunction (Outside os) ts e p
 
--- At the start of a group each part that may follow is the first.
-IsStateAfter-before_first_part : (os : List GroupState) (ts : Terms)
+-- If terminals are those up to the `(` of a new group, the group's first state is right for them: each part that may follow is
+-- its first.
+IsStateAfter-before_first_part : (os : List GroupState) (ts : FormulaTerminals)
     → Outside os ts
     → IsStateAfter (Some (BeforePart new_group os)) ts
 IsStateAfter-before_first_part os ts out = λ ss p d.
     record { outside = ts; front = []; conjuncts = ss; terminals_are = refl; around = out; before = refl; says = part d }
 
 -- The terminals of a group, its front and its last conjunction, derive its formula.
-Derives-group : {Out : Terms → Type 0} {ts : Terms} {e : Option Formula} {p : Formula} (r : EndsInConjunction Out ts e p)
+Derives-group : {Out : FormulaTerminals → Type 0} {ts : FormulaTerminals} {e : Option Formula} {p : Formula}
+    (r : EndsInConjunction Out ts e p)
     → Derives DisjunctionLevel (r.front ++ r.conjuncts) (after_or e p)
 Derives-group {e = None} {p = p} r =
     subst (λ l. Derives DisjunctionLevel (l ++ r.conjuncts) p) (sym r.before) (conjunction r.says)
@@ -151,7 +156,7 @@ Derives-group {e = Some a} {p = p} r =
     (sym (ap (λ l. l ++ r.conjuncts) f.1 ∙ append_assoc f.0 (Disjunction ∷ []) r.conjuncts)) (or f.2 r.says)
 
 -- If a state is right for the terminals so far, the next state is right for one more.
-IsStateAfter-next_state : (o : Option ReaderState) (s : Terminal Formula) (ts : Terms)
+IsStateAfter-next_state : (o : Option ReaderState) (s : Terminal Formula) (ts : FormulaTerminals)
     → IsStateAfter o ts
     → IsStateAfter (option_and_then (λ r. next_state r s) o) (ts ++ s ∷ [])
 IsStateAfter-next_state (Some (BeforePart l os)) Open ts h =
@@ -200,7 +205,7 @@ IsStateAfter-next_state (Some (AfterPart e p os)) Disjunction ts h = λ ss q d.
 IsStateAfter-next_state _ _ ts h = tt
 
 -- If a state is right for the terminals so far, the state after more terminals is right for all of them.
-IsStateAfter-state_after_terminals : (ss : Terms) (o : Option ReaderState) (ts : Terms)
+IsStateAfter-state_after_terminals : (ss : FormulaTerminals) (o : Option ReaderState) (ts : FormulaTerminals)
     → IsStateAfter o ts
     → IsStateAfter (state_after_terminals o ss) (ts ++ ss)
 IsStateAfter-state_after_terminals [] o ts h = subst (IsStateAfter o) (sym (append-nil ts)) h
@@ -210,7 +215,7 @@ IsStateAfter-state_after_terminals (s ∷ ss) o ts h =
     (IsStateAfter-state_after_terminals ss next _ (IsStateAfter-next_state o s ts h))
 
 -- If a state that is right for the terminals has a result, they are that proposition.
-IsProposition-of_result : (o : Option ReaderState) (ts : Terms) (p : Formula)
+IsProposition-of_result : (o : Option ReaderState) (ts : FormulaTerminals) (p : Formula)
     → IsStateAfter o ts
     → result_of o ≡ Some p
     → IsProposition ts p
@@ -220,7 +225,7 @@ IsProposition-of_result (Some (AfterPart e a [])) ts p h is =
 IsProposition-of_result _ ts p h is = absurd cc
 
 -- If the reader's result after some terminals is a formula, they are a proposition of that formula.
-pub IsProposition-result : {ss : Terms} {p : Formula}
+pub IsProposition-result : {ss : FormulaTerminals} {p : Formula}
     → result_of (state_after_terminals (Some initial_reader_state) ss) ≡ Some p
     → IsProposition ss p
 IsProposition-result {ss} {p} is =

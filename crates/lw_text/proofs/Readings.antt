@@ -4,13 +4,13 @@ use Rattle.lw_text.proofs.Common.{◌≡◌, ◌≤◌, List, [], ◌∷◌, ◌
 use Rattle.lw_text.proofs.Common.{arith, All, AllByRecursion, append_cancel_left, map-append, map_push}
 use Rattle.lw_text.proofs.Common.{filter_map-append, All-from_recursion, ParsesNothing, Bytes, NameTable}
 use Rattle.lw_text.proofs.Common.{TokenList, insert_names, AllByRecursion-append, All-append_inv}
-use Rattle.lw_text.proofs.Common.{insert_names-append, insert_names-longer, ParsesSepEndBy, with_sites}
+use Rattle.lw_text.proofs.Common.{insert_names-append, length_le-insert_names, ParsesSepEndBy, with_sites}
 use Rattle.lw_text.proofs.Common.{HasRoomFor, SiteSyntax, site_name, site_names, site_by_name, IsIn}
 use Rattle.lw_text.specs.declared.site.Site.{Site as Made}
-use Rattle.lw_text.proofs.Atoms.{semicolon}
+use Rattle.lw_text.proofs.SitesAndValues.{semicolon}
 use Rattle.lw_text.proofs.Lists.{ParsesMany-push, ParsesSepEndBy-unique, AreReadSepEndBy}
 use Rattle.lw_text.proofs.Lists.{ParsesSepEndBy-at_close, ParsesSepEndBy-last, IsDeterministic}
-use Rattle.lw_text.proofs.Lists.{not-ParsesSepEndBy-if_no_element, not-ParsesSepEndBy-if_no_mark}
+use Rattle.lw_text.proofs.Lists.{not-ParsesSepEndBy-if_no_element, not-ParsesSepEndBy-if_no_punctuation}
 use Rattle.lw_text.proofs.NameTables.{names_and_sites-insert_names}
 
 -- What holds of all elements of a list and of x holds of all elements of the list with x appended.
@@ -35,7 +35,7 @@ names_up_to names front s back =
       arith,
       ap length (with_sites-append names front (s ∷ back)),
       ap length (with_sites-append table (s ∷ []) back),
-      insert_names-longer (with_sites table (s ∷ [])) (site_names back),
+      length_le-insert_names (with_sites table (s ∷ [])) (site_names back),
     )
 
 -- A kind of list: its opening and closing tokens; how an element parses, as a Y, and what is required of it (`asks`). In memory the element
@@ -93,19 +93,20 @@ module _ {X Y : Type 0} (kind : ListKind X Y) where
       let f = syntax_sites names xs in
       cc
 
-  -- The list after its opening.
-  ParsesList-after_opening : (ts start : TokenList)
+  -- If tokens are the opening of a list and then `start`, the elements of a list of them parse at `start`, with separators and
+  -- the closing token.
+  ParsesSepEndBy-ParsesList : (ts start : TokenList)
       → ts ≡ kind.opening ++ start
       → (ys : List Y) (rest : TokenList)
       → ParsesList ts ys rest
       → ParsesSepEndBy kind.parses semicolon kind.close start ys rest
-  ParsesList-after_opening ts start e ys rest w = rw (append_cancel_left kind.opening w.0 start (sym w.1 ∙ e)) at w.2
+  ParsesSepEndBy-ParsesList ts start e ys rest w = rw (append_cancel_left kind.opening w.0 start (sym w.1 ∙ e)) at w.2
 
   -- The parse of a list is unique.
   pub ParsesList-unique : IsDeterministic ParsesList
   ParsesList-unique ts a b r s p q =
       ParsesSepEndBy-unique kind.parses semicolon kind.close kind.deterministic kind.separator_is_not_close kind.unlike a b p.0 r
-      s p.2 (ParsesList-after_opening ts p.0 p.1 b s q)
+      s p.2 (ParsesSepEndBy-ParsesList ts p.0 p.1 b s q)
 
 -- One more element x was read, from `here` to `mid`, and its name inserted into the table.
 pub record IsReadElement {X Y : Type 0} (kind : ListKind X Y) (names after : NameTable) (here mid : TokenList)
@@ -148,7 +149,7 @@ module _ {X Y : Type 0} {kind : ListKind X Y} {first names ts here : TokenList} 
         names_up_to first (sites_of kind names xs) (kind.syntax y) (map kind.syntax more),
         ap (λ l. length (with_sites first l)) f,
         ap (λ ns. length (with_sites ns (kind.syntax y ∷ []))) read.names_are,
-      ))) (ParsesList-after_opening kind ts read.start read.begun ys rest w)
+      ))) (ParsesSepEndBy-ParsesList kind ts read.start read.begun ys rest w)
 
   -- If neither a separator nor the closing token follows an element, there is no list.
   pub no_list-if_no_separator : (x : Y) (mid : TokenList)
@@ -157,9 +158,9 @@ module _ {X Y : Type 0} {kind : ListKind X Y} {first names ts here : TokenList} 
       → ((l : TokenList) → mid ≡ kind.close ∷ l → ⊥)
       → ParsesNothing (ParsesList kind ts)
   no_list-if_no_separator x mid p no_sep no_close ys rest w =
-      not-ParsesSepEndBy-if_no_mark kind.parses semicolon kind.close kind.deterministic kind.separator_is_not_close kind.unlike _
-      ys read.start here mid rest x read.listing p no_sep no_close
-      (ParsesList-after_opening kind ts read.start read.begun ys rest w)
+      not-ParsesSepEndBy-if_no_punctuation kind.parses semicolon kind.close kind.deterministic kind.separator_is_not_close
+      kind.unlike _ ys read.start here mid rest x read.listing p no_sep no_close
+      (ParsesSepEndBy-ParsesList kind ts read.start read.begun ys rest w)
 
   -- One more element.
   module _ {after : NameTable} {x : X} {mid : TokenList} (more : IsReadElement kind names after here mid x) where

@@ -37,11 +37,11 @@ cons_each P row more k (Some x) e all rest =
     (subst P (get_or_from_slice_get row k x x e) (all k x (slice_get_within row k x e)), rest)
 
 -- What holds of all elements of the rows holds of all elements of the column at k.
-All-column : {X : Type 0} (P : X → Type 0) (k : ℕ) (rows : List (List X))
+AllByRecursion-column : {X : Type 0} (P : X → Type 0) (k : ℕ) (rows : List (List X))
     → AllByRecursion (λ row. All P row) rows
     → AllByRecursion P (column rows k)
-All-column P k [] all = tt
-All-column P k (row ∷ rows) all = cons_each P row (column rows k) k _ refl all.0 (All-column P k rows all.1)
+AllByRecursion-column P k [] all = tt
+AllByRecursion-column P k (row ∷ rows) all = cons_each P row (column rows k) k _ refl all.0 (AllByRecursion-column P k rows all.1)
 
 -- ---- columns of rows with a cell for each thread
 
@@ -70,9 +70,8 @@ module _ {X : Type 0} (n : ℕ) (rows : List (List X)) (even : All (λ row. leng
 pub All-columns_of_rows : {X : Type 0} (P : X → Type 0) (n : ℕ) (rows : List (List X))
     → All (λ row. All P row) rows
     → All (λ c. All P c) (columns n rows)
-All-columns_of_rows {X} P n rows all =
-    All-columns (λ c. All P c) n rows
-    (λ k lt. All-from_recursion P (column rows k) (All-column P k rows (AllByRecursion-of_All rows (λ row. All P row) all)))
+All-columns_of_rows {X} P n rows all = All-columns (λ c. All P c) n rows (λ k lt.
+    All-from_recursion P (column rows k) (AllByRecursion-column P k rows (AllByRecursion-of_All rows (λ row. All P row) all)))
 
 -- ---- columns of mapped rows
 
@@ -169,7 +168,7 @@ Filling-push {X} {old} {columns} {row} {rest} {more} {column} {count} {x} f is a
           even = omega (arith, f.even, ap length some, ap length is);
         }
 
--- All columns have got their cell of the row.
+-- If no cell of the row remains, each column has got its cell of the row.
 pub Filling-all : {X : Type 0} {old columns : List (List X)} {row rest : List X} {count : ℕ}
     → Filling old columns row rest count
     → length rest ≡ 0
@@ -211,7 +210,7 @@ pub columns-one_more_row : {X : Type 0} (n : ℕ) (rows : List (List X)) (row : 
     → map with_last (zip (columns n rows) row) ≡ columns n (rows ++ row ∷ [])
 columns-one_more_row n rows row e = columns_from-one_more_row rows [] row 0 n refl e
 
--- Each remaining row has the same length as the others.
+-- If all rows have n items, so has the first of those that remain.
 pub row_length : {X : Type 0} (n : ℕ) (rows before rest more : List (List X)) (row : List X)
     → All (λ r. length r ≡ n) rows
     → before ++ rest ≡ rows

@@ -5,7 +5,8 @@ use Rattle.lw_text.proofs.Common.{map-id, AllByRecursion, TokenList, Arch, HasRo
 use Rattle.lw_text.proofs.Common.{ThreadExists, begins_token, Listed, InitializerSyntax, IsInitializer, Block}
 use Rattle.lw_text.proofs.Common.{sites_of, named_initializer, site_by_name}
 use Rattle.lw_text.specs.declared.block.Initializer.{Initializer as MadeInitializer}
-use Rattle.lw_text.proofs.Atoms.{no_site, IsSite-unique, IsInitializer-unique, brace, semicolon, bracket}
+use Rattle.lw_text.proofs.SitesAndValues.{no_site, IsSite-unique, IsInitializer-unique, brace, semicolon}
+use Rattle.lw_text.proofs.SitesAndValues.{bracket}
 use Rattle.lw_text.proofs.NameTables.{named_initializer-insert_names, site_by_name-insert_names}
 use Rattle.lw_text.proofs.Readings.{ListKind, AreReadElements, no_list-if_no_element, ParsesList-unique}
 use Rattle.lw_text.proofs.Readings.{ParsesList}
@@ -33,9 +34,9 @@ initializer_kind arch = record {
 }
 
 -- Nothing is required of initializers.
-All-Unit : (all : List InitializerSyntax) → AllByRecursion (λ e. Unit {0}) all
-All-Unit [] = tt
-All-Unit (e ∷ all) = (tt, All-Unit all)
+AllByRecursion-Unit : (all : List InitializerSyntax) → AllByRecursion (λ e. Unit {0}) all
+AllByRecursion-Unit [] = tt
+AllByRecursion-Unit (e ∷ all) = (tt, AllByRecursion-Unit all)
 
 -- If neither an initializer nor the closing brace follows, there is no initial block.
 pub no_block-if_no_initializer : (arch : Arch) {first names ts here : TokenList} {es : List MadeInitializer}
@@ -48,7 +49,7 @@ pub no_block-if_no_initializer : (arch : Arch) {first names ts here : TokenList}
     → ⊥
 no_block-if_no_initializer arch {here = here} read h never all rest block few =
     no_list-if_no_element read (λ l. not-token_is_next brace here l h) (λ e rest p none few. never e rest p few) all rest block
-    (All-Unit all) few
+    (AllByRecursion-Unit all) few
 
 -- The parse of an initial block is unique.
 pub Block-unique : (arch : Arch) → IsDeterministic (Block arch)

@@ -3,11 +3,11 @@
 use Rattle.lw_text.proofs.Common.{most_locations, ◌≡◌, ◌⊎◌, ℕ, ◌<◌, inl, inr, [], ◌∷◌, Option, None, Some}
 use Rattle.lw_text.proofs.Common.{true, false, slice_get, subst, sym, ap, ◌∙◌, arith, codes, true≢false}
 use Rattle.lw_text.proofs.Common.{ltb-false, ltb-true, length, ◌≤◌, slice_get_within, HoldsOfNothing}
-use Rattle.lw_text.proofs.Common.{ParsesNothing, Bytes, NameTable, TokenList, Arch, IsName, IsLocationName}
+use Rattle.lw_text.proofs.Common.{ParsesNothing, Bytes, NameTable, TokenList, Arch, IsName, IsUnreservedName}
 use Rattle.lw_text.proofs.Common.{IsRegisterName, insert_name, Cursor, IsNumber, with_sites, HasRoomFor}
 use Rattle.lw_text.proofs.Common.{HasRoomForName, SiteSyntax, InMemory, InThread, IsSite, ThreadExists}
 use Rattle.lw_text.proofs.Common.{ThreadAllowed, remaining_texts, AdvancesTo, is_allowed, ParsedSite}
-use Rattle.lw_text.proofs.Atoms.{not-number_and_name, bracket_no_name}
+use Rattle.lw_text.proofs.SitesAndValues.{not-number_and_name, bracket_no_name}
 use Rattle.lw_text.proofs.api.Numbers.{bracket_no_number, number-unique}
 use Rattle.lw_text.proofs.NameTables.{site_by_name-at}
 use Rattle.lw_text.specs.declared.site.Site.TheVariants as made
@@ -33,7 +33,7 @@ not-ThreadAllowed-if_above_threads (Some threads) t r e there = omega (arith, th
 -- If a location's name was inserted, and is next with or without brackets, its site was read.
 pub location_site_parsed : {arch : Arch} {threads : Option ℕ} {before after : Cursor} {names table : NameTable} {loc : ℕ}
     {t : Bytes}
-    → IsLocationName t × (slice_get table loc ≡ Some t) × (table ≡ insert_name names t) × (length table ≤ most_locations)
+    → IsUnreservedName t × (slice_get table loc ≡ Some t) × (table ≡ insert_name names t) × (length table ≤ most_locations)
     → AdvancesTo before after
     → (remaining_texts before ≡ t ∷ remaining_texts after)
     ⊎ (remaining_texts before ≡ codes "[" ∷ t ∷ codes "]" ∷ remaining_texts after)
@@ -52,7 +52,7 @@ location_site_parsed {arch} {threads} {before} {after} {names} {table} {loc} {t}
 module _ (arch : Arch) (names : NameTable) {ts l : TokenList} {t : Bytes} (e : ts ≡ t ∷ l) where
   -- If `[` is next, but no location that has room and `]` follow, no site fits.
   pub no_site-if_no_location_in_brackets : t ≡ codes "["
-      → ((x : Bytes) (rest : TokenList) → l ≡ x ∷ codes "]" ∷ rest → IsLocationName x → HasRoomForName names x → ⊥)
+      → ((x : Bytes) (rest : TokenList) → l ≡ x ∷ codes "]" ∷ rest → IsUnreservedName x → HasRoomForName names x → ⊥)
       → (s : SiteSyntax) (rest : TokenList)
       → IsSite arch ts s rest
       → HasRoomFor names (s ∷ [])
@@ -106,13 +106,13 @@ module _ (arch : Arch) (names : NameTable) {ts l : TokenList} {t : Bytes} (e : t
   -- If the token is no `[`, no number and no location that has room, no site fits.
   pub no_site-if_no_location : (t ≡ codes "[" → ⊥)
       → HoldsOfNothing (IsNumber t)
-      → (IsLocationName t → HasRoomForName names t → ⊥)
+      → (IsUnreservedName t → HasRoomForName names t → ⊥)
       → (s : SiteSyntax) (rest : TokenList)
       → IsSite arch ts s rest
       → HasRoomFor names (s ∷ [])
       → ⊥
   no_site-if_no_location no_bracket no_number never (InMemory x) rest (p, inl f) few =
-      let k : x ≡ t = cc in never (subst IsLocationName k p) (subst (λ y. HasRoomForName names y) k few)
+      let k : x ≡ t = cc in never (subst IsUnreservedName k p) (subst (λ y. HasRoomForName names y) k few)
   no_site-if_no_location no_bracket no_number never (InMemory x) rest (p, inr f) few = let k : t ≡ codes "[" = cc in no_bracket k
   no_site-if_no_location no_bracket no_number never (InThread u r) rest p few =
       let f = p.2 in

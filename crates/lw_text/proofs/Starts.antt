@@ -9,7 +9,7 @@ pub filter-push : {X : Type 0} (p : X → Bool) (f : ℕ → X) (n : ℕ)
     → filter p (map f (range_with_len 0 (n + 1))) ≡ filter p (map f (range_with_len 0 n)) ++ filter p (f n ∷ [])
 filter-push p f n = ap (filter p) (map-range_with_len_more f 0 n n (zero-add n)) ∙ filter-append p _ _
 
--- Appending h of the image of index n extends the list for the first n indices to `n + 1`.
+-- If a list is h of f of the first n indices, with h of f of index n appended it is that of the first `n + 1`.
 pub map-push : {X Y : Type 0} (h : X → Y) (f : ℕ → X) (before after : List Y) (n : ℕ) (y : Y)
     → before ≡ map h (map f (range_with_len 0 n))
     → after ≡ before ++ y ∷ []
@@ -50,7 +50,7 @@ registers-push p seen after n e f =
 
 -- ---- the whole list
 
--- What holds of the items that a loop has passed holds of the whole list at the loop's end.
+-- If f has the value y of the first i items, and i is not below the length, f has the value y of the whole list.
 pub whole_list-at_end : {X Y : Type 0} (f : List X → Y) (xs : List X) (i : ℕ) (y : Y)
     → length xs ≤ i
     → f (take i xs) ≡ y

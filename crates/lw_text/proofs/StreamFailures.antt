@@ -42,7 +42,7 @@ pub StreamFails-of_refusal : {arch : Arch} {len : ℕ} (tokens : List Token) (fa
     → StreamFails arch len (with_spans tokens) fault f.at f.cause
 StreamFails-of_refusal {arch} {len} tokens fault refusal f [] suffix place way some none = go fault (rw place at none)
   where
-    -- The tokens end too early.
+    -- The tokens fail to be a test at their end, for the cause of the refusal.
     FailsInTest-at_refusal : FailsInTest arch (texts_of_tokens (with_spans tokens)) [] refusal.cause
     FailsInTest-at_refusal = subst (λ ts. FailsInTest arch ts [] refusal.cause) (sym (texts_placed tokens)) way
 

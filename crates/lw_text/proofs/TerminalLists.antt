@@ -5,8 +5,8 @@ use Rattle.lw_text.proofs.Common.{bytes_eq, append-nil, ParsesNothing, Bytes, To
 use Rattle.lw_text.proofs.Common.{SiteSyntax, IsSite, Value, Terminal, Open, Close, Negation, Conjunction}
 use Rattle.lw_text.proofs.Common.{Disjunction, Atom, AtomSyntax, Always, Never, Holds, IsTerminal, Terminals}
 use Rattle.lw_text.proofs.Common.{begins_token, begins_part}
-use Rattle.lw_text.proofs.Atoms.{IsSite-unique, IsSite-shorter, Value-unique, Value-shorter, starts_no_site}
-use Rattle.lw_text.proofs.Atoms.{no_site}
+use Rattle.lw_text.proofs.SitesAndValues.{IsSite-unique, IsSite-shorter, Value-unique, Value-shorter}
+use Rattle.lw_text.proofs.SitesAndValues.{starts_no_site, no_site}
 use Rattle.lw_text.proofs.Lists.{ParsesMany-peel, IsDeterministic}
 use Rattle.lw_text.proofs.Texts.{not-token_is_next}
 
@@ -34,7 +34,7 @@ record ParsesSingleToken (ts : TokenList) (s : Terminal AtomSyntax) (rest : Toke
   pub word : Bytes
   pub tokens_are : ts ≡ word ∷ rest
   pub terminal_is : terminal_word word ≡ Some s
-  pub word_starts_no_site : starts_no_site word ≡ true
+  pub no_site-at_word : starts_no_site word ≡ true
 
 -- The tokens start with an atom: a site, and its value after it.
 record ParsesAtom (arch : Arch) (threads : ℕ) (ts : TokenList) (s : Terminal AtomSyntax) (rest : TokenList) : Type 0 where
@@ -50,21 +50,21 @@ terminal_front : (arch : Arch) (threads : ℕ) (ts rest : TokenList) (s : Termin
     → IsTerminal arch threads ts s rest
     → ParsesSingleToken ts s rest ⊎ ParsesAtom arch threads ts s rest
 terminal_front arch threads ts rest Open e =
-    inl (record { word = codes "("; tokens_are = e; terminal_is = refl; word_starts_no_site = refl })
+    inl (record { word = codes "("; tokens_are = e; terminal_is = refl; no_site-at_word = refl })
 terminal_front arch threads ts rest Close e =
-    inl (record { word = codes ")"; tokens_are = e; terminal_is = refl; word_starts_no_site = refl })
+    inl (record { word = codes ")"; tokens_are = e; terminal_is = refl; no_site-at_word = refl })
 terminal_front arch threads ts rest Negation (inl e) =
-    inl (record { word = codes "~"; tokens_are = e; terminal_is = refl; word_starts_no_site = refl })
+    inl (record { word = codes "~"; tokens_are = e; terminal_is = refl; no_site-at_word = refl })
 terminal_front arch threads ts rest Negation (inr e) =
-    inl (record { word = codes "not"; tokens_are = e; terminal_is = refl; word_starts_no_site = refl })
+    inl (record { word = codes "not"; tokens_are = e; terminal_is = refl; no_site-at_word = refl })
 terminal_front arch threads ts rest Conjunction e =
-    inl (record { word = codes "/\\"; tokens_are = e; terminal_is = refl; word_starts_no_site = refl })
+    inl (record { word = codes "/\\"; tokens_are = e; terminal_is = refl; no_site-at_word = refl })
 terminal_front arch threads ts rest Disjunction e =
-    inl (record { word = codes "\\/"; tokens_are = e; terminal_is = refl; word_starts_no_site = refl })
+    inl (record { word = codes "\\/"; tokens_are = e; terminal_is = refl; no_site-at_word = refl })
 terminal_front arch threads ts rest (Atom Always) e =
-    inl (record { word = codes "true"; tokens_are = e; terminal_is = refl; word_starts_no_site = refl })
+    inl (record { word = codes "true"; tokens_are = e; terminal_is = refl; no_site-at_word = refl })
 terminal_front arch threads ts rest (Atom Never) e =
-    inl (record { word = codes "false"; tokens_are = e; terminal_is = refl; word_starts_no_site = refl })
+    inl (record { word = codes "false"; tokens_are = e; terminal_is = refl; no_site-at_word = refl })
 terminal_front arch threads ts rest (Atom (Holds site n)) p =
     inr (record { site = site; n = n; mid = p.0; terminal_is = refl; site_is = p.1; value = p.3 })
 
@@ -74,7 +74,7 @@ pub no_terminal-if_site_has_no_value : (arch : Arch) (threads : ℕ) (ts mid : T
     → ParsesNothing (Value mid)
     → ParsesNothing (IsTerminal arch threads ts)
 no_terminal-if_site_has_no_value arch threads ts mid site p never s rest is = elim (terminal_front arch threads ts rest s is) [
-  | inl w ↦ no_site w.word w.word_starts_no_site arch ts rest mid site w.tokens_are p
+  | inl w ↦ no_site w.word w.no_site-at_word arch ts rest mid site w.tokens_are p
   | inr w ↦ never w.n rest (subst (λ l. Value l w.n rest) (IsSite-unique arch ts w.site site w.mid mid w.site_is p).1 w.value)
 ]
 
@@ -87,10 +87,10 @@ IsTerminal-unique arch threads ts a b r s p q = elim (terminal_front arch thread
         let f = w.tokens_are in
         let k : v.word ≡ w.word = cc in
         (cc, cc)
-    | inr w ↦ absurd (no_site v.word v.word_starts_no_site arch ts r w.mid w.site v.tokens_are w.site_is)
+    | inr w ↦ absurd (no_site v.word v.no_site-at_word arch ts r w.mid w.site v.tokens_are w.site_is)
   ]
   | inr v ↦ elim (terminal_front arch threads ts s b q) [
-    | inl w ↦ absurd (no_site w.word w.word_starts_no_site arch ts s v.mid v.site w.tokens_are v.site_is)
+    | inl w ↦ absurd (no_site w.word w.no_site-at_word arch ts s v.mid v.site w.tokens_are v.site_is)
     | inr w ↦
         let e = IsSite-unique arch ts v.site w.site v.mid w.mid v.site_is w.site_is in
         let f = Value-unique v.mid r s v.n w.n v.value (subst (λ l. Value l w.n s) (sym e.1) w.value) in
@@ -111,12 +111,12 @@ IsTerminal-shorter arch threads ts rest s p = elim (terminal_front arch threads 
 
 -- ---- sequences of terminals
 
--- No tokens have no terminals.
-Terminals-empty : (arch : Arch) (threads : ℕ) (more : List (Terminal AtomSyntax)) → Terminals arch threads [] more → more ≡ []
-Terminals-empty arch threads [] p = refl
-Terminals-empty arch threads (s ∷ ss) p = absurd (omega (arith, IsTerminal-shorter arch threads [] p.0 s p.1))
+-- The empty list of tokens has no terminals.
+Terminals-nil_inv : (arch : Arch) (threads : ℕ) (more : List (Terminal AtomSyntax)) → Terminals arch threads [] more → more ≡ []
+Terminals-nil_inv arch threads [] p = refl
+Terminals-nil_inv arch threads (s ∷ ss) p = absurd (omega (arith, IsTerminal-shorter arch threads [] p.0 s p.1))
 
--- If all tokens are terminals that start with s, the tokens after s are the others.
+-- If tokens are all terminals, and begin with s, the terminals are s, followed by those of the tokens after it.
 Terminals-tail : (arch : Arch) (threads : ℕ) (ts mid : TokenList) (s : Terminal AtomSyntax) (all : List (Terminal AtomSyntax))
     → IsTerminal arch threads ts s mid
     → Terminals arch threads ts all
@@ -127,7 +127,7 @@ Terminals-tail arch threads ts mid s (t ∷ all) p q =
     let k : s ≡ t = e.0 in
     (all, cc, subst (λ l. Terminals arch threads l all) (sym e.1) q.2)
 
--- All terminals are those read, followed by the rest.
+-- If terminals have been read, all terminals are these, followed by those of the tokens that remain.
 pub Terminals-peel : (arch : Arch) (threads : ℕ) (ss all : List (Terminal AtomSyntax)) (ts here : TokenList)
     → ParsesMany (IsTerminal arch threads) ts ss here
     → Terminals arch threads ts all
@@ -141,9 +141,9 @@ pub Terminals-unique : (arch : Arch) (threads : ℕ) (a b : List (Terminal AtomS
     → a ≡ b
 Terminals-unique arch threads a b ts p q =
     let k = Terminals-peel arch threads a b ts [] p q in
-    sym (k.1 ∙ ap (λ l. a ++ l) (Terminals-empty arch threads k.0 k.2) ∙ append-nil a)
+    sym (k.1 ∙ ap (λ l. a ++ l) (Terminals-nil_inv arch threads k.0 k.2) ∙ append-nil a)
 
--- If the token starts no other part, only a site's atom can start there.
+-- If the next token begins no other part, a terminal that begins a part is the atom of a site.
 pub terminal_is_claim : (arch : Arch) (threads : ℕ) (ts : TokenList)
     → begins_token (codes "(") ts ≡ false
     → begins_token (codes "~") ts ≡ false

@@ -7,23 +7,23 @@ use Rattle.lw_text.proofs.Common.{arith, codes, bytes_eq, begins_token, begins_s
 use Rattle.lw_text.proofs.Common.{Bytes, NameTable, TokenList, Cells, CellGrid, Quant, Exists, NotExists}
 use Rattle.lw_text.proofs.Common.{Forall, InitializerSyntax, IsInitializer, IsSite, SiteSyntax, InThread}
 use Rattle.lw_text.proofs.Common.{ThreadExists, ThreadAllowed, HasRoomFor, site_names, with_sites}
-use Rattle.lw_text.proofs.Common.{insert_names-longer, sites_of, Block, Header, Names, Row, RowCells, Rows}
+use Rattle.lw_text.proofs.Common.{length_le-insert_names, sites_of, Block, Header, Names, Row, RowCells, Rows}
 use Rattle.lw_text.proofs.Common.{Listed, Quantified, thread_name, Terminal, Open, Close, Negation}
 use Rattle.lw_text.proofs.Common.{Conjunction, Disjunction, Atom, AtomSyntax, Always, Never, Holds}
 use Rattle.lw_text.proofs.Common.{IsTerminal, is_node, sites_in, ParsesMany, ParsesManyTill, ParsesSepBy}
 use Rattle.lw_text.proofs.Common.{ParsesSepEndBy, Value, IfFirst, FailsBefore, FailsInAssignment, FailsInSite}
-use Rattle.lw_text.proofs.Common.{FailsInElements, in_element, no_mark, in_elements_after}
+use Rattle.lw_text.proofs.Common.{FailsInElements, in_element, no_separator, in_elements_after}
 use Rattle.lw_text.proofs.Common.{FailsInInitializers, FailsInBlock, no_brace, in_initializers, FailsInSites}
 use Rattle.lw_text.proofs.Common.{FailsInList, no_list_bracket, in_sites, FailsInHeader, no_thread_name}
-use Rattle.lw_text.proofs.Common.{no_thread_mark, in_next_thread, too_many_threads, FailsInRow, no_end}
+use Rattle.lw_text.proofs.Common.{no_thread_separator, in_next_thread, too_many_threads, FailsInRow, no_end}
 use Rattle.lw_text.proofs.Common.{ragged, FailsInRows, too_many_rows, in_row, in_rows_after}
 use Rattle.lw_text.proofs.Common.{FailsInQuantifier, no_quantifier, no_exists, TextCause, Unexpected}
 use Rattle.lw_text.proofs.Common.{Condition, TooManyThreads}
-use Rattle.lw_text.proofs.Atoms.{IsSite-unique, IsInitializer-unique, IsSite-shorter, brace, bracket}
-use Rattle.lw_text.proofs.Atoms.{semicolon}
+use Rattle.lw_text.proofs.SitesAndValues.{IsSite-unique, IsInitializer-unique, IsSite-shorter, brace, bracket}
+use Rattle.lw_text.proofs.SitesAndValues.{semicolon}
 use Rattle.lw_text.proofs.Cells.{Cell-exact, Row-unique, Rows-unique}
 use Rattle.lw_text.proofs.Failures.{cons-tail_unique}
-use Rattle.lw_text.proofs.FailureUniqueness.{IsSameFailure, FailsUniquely, IfFirst-of_head}
+use Rattle.lw_text.proofs.FailureUniqueness.{IsSameFailure, FailsUniquely, IfFirst-cons_inv}
 use Rattle.lw_text.proofs.FailureUniqueness.{FailsUniquely-at_first_token, FailsBefore-unique}
 use Rattle.lw_text.proofs.FailureUniqueness.{not-FailsBefore-if_parsed, FailsInSite-unique}
 use Rattle.lw_text.proofs.FailureUniqueness.{not-FailsInSite-if_parsed, FailsInAssignment-unique}
@@ -53,21 +53,21 @@ module _ {X : Type 0} (Parses : TokenList → X → TokenList → Type 0) (site_
       → FailsInElements Parses site_by Way close c s e names ts
       → IsSameFailure r d s e
   FailsInElements-unique r s d e names ts (in_element go p) (in_element too q) = way_one names ts r s d e p q
-  FailsInElements-unique r s d e names ts (in_element go p) (no_mark {x = x} too is room q) =
+  FailsInElements-unique r s d e names ts (in_element go p) (no_separator {x = x} too is room q) =
       absurd (way_not names ts r _ d x p is room)
   FailsInElements-unique r s d e names ts (in_element go p) (in_elements_after {x = x} too is room q) =
       absurd (way_not names ts r _ d x p is room)
-  FailsInElements-unique r s d e names ts (no_mark {x = x} go is room p) (in_element too q) =
+  FailsInElements-unique r s d e names ts (no_separator {x = x} go is room p) (in_element too q) =
       absurd (way_not names ts s _ e x q is room)
-  FailsInElements-unique r s d e names ts (no_mark {mid = mid} {x = x} go is room p) (no_mark {mid = other} {x = y} too also has q) =
+  FailsInElements-unique r s d e names ts (no_separator {mid = mid} {x = x} go is room p) (no_separator {mid = other} {x = y} too also has q) =
       FailsBefore-unique (close ∷ codes ";" ∷ []) c mid r s d e p
       (subst (λ l. FailsBefore (close ∷ codes ";" ∷ []) c l s e) (sym (one ts x y mid other is also).1) q)
-  FailsInElements-unique r s d e names ts (no_mark {mid = mid} {x = x} go is room p) (in_elements_after {next = next} {x = y} too also has q) =
+  FailsInElements-unique r s d e names ts (no_separator {mid = mid} {x = x} go is room p) (in_elements_after {next = next} {x = y} too also has q) =
       absurd (not-FailsBefore-if_parsed (close ∷ codes ";" ∷ []) c mid r next d (codes ";") p
       (one ts x y mid (codes ";" ∷ next) is also).1 (λ all. all.1.0 refl))
   FailsInElements-unique r s d e names ts (in_elements_after {x = x} go is room p) (in_element too q) =
       absurd (way_not names ts s _ e x q is room)
-  FailsInElements-unique r s d e names ts (in_elements_after {next = next} {x = x} go is room p) (no_mark {mid = mid} {x = y} too also has q) =
+  FailsInElements-unique r s d e names ts (in_elements_after {next = next} {x = x} go is room p) (no_separator {mid = mid} {x = y} too also has q) =
       absurd (not-FailsBefore-if_parsed (close ∷ codes ";" ∷ []) c mid s next e (codes ";") q
       (one ts y x mid (codes ";" ∷ next) also is).1 (λ all. all.1.0 refl))
   FailsInElements-unique r s d e names ts (in_elements_after {next = next} {x = x} go is room p) (in_elements_after {next = other} {x = y} too also has q) =
@@ -85,23 +85,23 @@ module _ {X : Type 0} (Parses : TokenList → X → TokenList → Type 0) (site_
     arith,
     room,
     ap length (with_sites-append names (x ∷ []) sites),
-    insert_names-longer (with_sites names (x ∷ [])) (site_names sites),
+    length_le-insert_names (with_sites names (x ∷ [])) (site_names sites),
   )
 
-  -- Elements that are closed, and for whose locations there is room, do not fail.
+  -- Tokens that begin with a closed list of elements, whose locations have room, do not satisfy `FailsInElements`.
   not-FailsInElements-if_parsed : (rest : TokenList) (cause : TextCause) (names : NameTable) (ts after : TokenList) (xs : List X)
       → FailsInElements Parses site_by Way close c rest cause names ts
       → ParsesSepEndBy Parses (codes ";") close ts xs after
       → HasRoomFor names (map site_by xs)
       → ⊥
   not-FailsInElements-if_parsed rest cause names ts after [] (in_element go p) is room = not-token_is_next close ts after go is
-  not-FailsInElements-if_parsed rest cause names ts after [] (no_mark go also has p) is room =
+  not-FailsInElements-if_parsed rest cause names ts after [] (no_separator go also has p) is room =
       not-token_is_next close ts after go is
   not-FailsInElements-if_parsed rest cause names ts after [] (in_elements_after go also has p) is room =
       not-token_is_next close ts after go is
   not-FailsInElements-if_parsed rest cause names ts after (x ∷ xs) (in_element go p) is room =
       way_not names ts rest is.0 cause x p is.1 (HasRoomFor-first names (site_by x) (map site_by xs) room)
-  not-FailsInElements-if_parsed rest cause names ts after (x ∷ xs) (no_mark {mid = mid} {x = y} go also has p) is room =
+  not-FailsInElements-if_parsed rest cause names ts after (x ∷ xs) (no_separator {mid = mid} {x = y} go also has p) is room =
       let same = (one ts y x mid is.0 also is.1).1 in
       elim is.2 [
         | inl end ↦
@@ -125,7 +125,7 @@ module _ {X : Type 0} (Parses : TokenList → X → TokenList → Type 0) (site_
 
 -- ---- The initial block.
 
--- An initializer for which there is room does not fail.
+-- Tokens that begin with an initializer whose location has room do not satisfy `FailsInAssignment`.
 not-FailsInAssignment-if_initializer : (arch : Arch) (names : NameTable) (ts rest after : TokenList) (cause : TextCause)
     (e : InitializerSyntax)
     → FailsInAssignment arch None names Unexpected ts rest cause
@@ -258,23 +258,24 @@ pub FailsInHeader-unique : (r s : TokenList) (d e : TextCause) (k : ℕ) (ts : T
     → IsSameFailure r d s e
 FailsInHeader-unique r s d e k ts (no_thread_name few p) (no_thread_name also q) =
     FailsBefore-unique (thread_name k ∷ []) Unexpected ts r s d e p q
-FailsInHeader-unique r s d e k ts (no_thread_name few p) (no_thread_mark also begins q) =
+FailsInHeader-unique r s d e k ts (no_thread_name few p) (no_thread_separator also begins q) =
     absurd (not-FailsBefore-if_parsed (thread_name k ∷ []) Unexpected ts r _ d (thread_name k) p begins (λ all. all.0 refl))
 FailsInHeader-unique r s d e k ts (no_thread_name few p) (in_next_thread also begins q) =
     absurd (not-FailsBefore-if_parsed (thread_name k ∷ []) Unexpected ts r _ d (thread_name k) p begins (λ all. all.0 refl))
 FailsInHeader-unique r s d e k ts (no_thread_name few p) (too_many_threads full is q) = absurd (omega (arith, few, full))
-FailsInHeader-unique r s d e k ts (no_thread_mark few begins p) (no_thread_name also q) =
+FailsInHeader-unique r s d e k ts (no_thread_separator few begins p) (no_thread_name also q) =
     absurd (not-FailsBefore-if_parsed (thread_name k ∷ []) Unexpected ts s _ e (thread_name k) q begins (λ all. all.0 refl))
-FailsInHeader-unique r s d e k ts (no_thread_mark {mid = mid} few begins p) (no_thread_mark also again q) =
+FailsInHeader-unique r s d e k ts (no_thread_separator {mid = mid} few begins p) (no_thread_separator also again q) =
     FailsBefore-unique (codes ";" ∷ codes "|" ∷ []) Unexpected mid r s d e p
     (subst (λ l. FailsBefore (codes ";" ∷ codes "|" ∷ []) Unexpected l s e) (sym (cons-tail_unique (sym begins ∙ again))) q)
-FailsInHeader-unique r s d e k ts (no_thread_mark {mid = mid} few begins p) (in_next_thread also again q) =
+FailsInHeader-unique r s d e k ts (no_thread_separator {mid = mid} few begins p) (in_next_thread also again q) =
     absurd (not-FailsBefore-if_parsed (codes ";" ∷ codes "|" ∷ []) Unexpected mid r _ d (codes "|") p
     (cons-tail_unique (sym begins ∙ again)) (λ all. all.1.0 refl))
-FailsInHeader-unique r s d e k ts (no_thread_mark few begins p) (too_many_threads full is q) = absurd (omega (arith, few, full))
+FailsInHeader-unique r s d e k ts (no_thread_separator few begins p) (too_many_threads full is q) =
+    absurd (omega (arith, few, full))
 FailsInHeader-unique r s d e k ts (in_next_thread few begins p) (no_thread_name also q) =
     absurd (not-FailsBefore-if_parsed (thread_name k ∷ []) Unexpected ts s _ e (thread_name k) q begins (λ all. all.0 refl))
-FailsInHeader-unique r s d e k ts (in_next_thread few begins p) (no_thread_mark {mid = mid} also again q) =
+FailsInHeader-unique r s d e k ts (in_next_thread few begins p) (no_thread_separator {mid = mid} also again q) =
     absurd (not-FailsBefore-if_parsed (codes ";" ∷ codes "|" ∷ []) Unexpected mid s _ e (codes "|") q
     (cons-tail_unique (sym again ∙ begins)) (λ all. all.1.0 refl))
 FailsInHeader-unique r s d e k ts (in_next_thread {next = next} few begins p) (in_next_thread also again q) =
@@ -282,14 +283,16 @@ FailsInHeader-unique r s d e k ts (in_next_thread {next = next} few begins p) (i
     (subst (FailsInHeader s e (suc k)) (sym (cons-tail_unique (cons-tail_unique (sym begins ∙ again)))) q)
 FailsInHeader-unique r s d e k ts (in_next_thread few begins p) (too_many_threads full is q) = absurd (omega (arith, few, full))
 FailsInHeader-unique r s d e k ts (too_many_threads full is p) (no_thread_name few q) = absurd (omega (arith, few, full))
-FailsInHeader-unique r s d e k ts (too_many_threads full is p) (no_thread_mark few begins q) = absurd (omega (arith, few, full))
+FailsInHeader-unique r s d e k ts (too_many_threads full is p) (no_thread_separator few begins q) =
+    absurd (omega (arith, few, full))
 FailsInHeader-unique r s d e k ts (too_many_threads full is p) (in_next_thread few begins q) = absurd (omega (arith, few, full))
 FailsInHeader-unique r s d e k ts (too_many_threads full is p) (too_many_threads also too q) =
     FailsUniquely-at_first_token (λ t cause.
     ((t ≡ thread_name most_threads) × (cause ≡ TooManyThreads)) ⊎ ((t ≢ thread_name most_threads) × (cause ≡ Unexpected)))
     name_cause-unique ts r s d e (is, p) (too, q)
   where
-    -- A fifth name of a thread has one cause, and any other token another.
+    -- A token in place of a thread's name fails for one cause: a fifth name for `TooManyThreads`, and any other token for
+    -- `Unexpected`.
     name_cause-unique : (t : Bytes) (cause because : TextCause)
         → ((t ≡ thread_name most_threads) × (cause ≡ TooManyThreads)) ⊎ ((t ≢ thread_name most_threads) × (cause ≡ Unexpected))
         → ((t ≡ thread_name most_threads) × (because ≡ TooManyThreads))
@@ -300,7 +303,7 @@ FailsInHeader-unique r s d e k ts (too_many_threads full is p) (too_many_threads
     name_cause-unique t cause because (inr x) (inl y) = absurd (x.0 y.0)
     name_cause-unique t cause because (inr x) (inr y) = x.1 ∙ sym y.1
 
--- The names of at most four threads do not fail to be a header.
+-- Tokens that begin with the names of n threads from k on do not satisfy `FailsInHeader` from k on, if `k + n` is at most four.
 pub not-FailsInHeader-if_parsed : (rest : TokenList) (cause : TextCause) (k n : ℕ) (ts after : TokenList)
     → FailsInHeader rest cause k ts
     → Names k n ts after
@@ -309,7 +312,7 @@ pub not-FailsInHeader-if_parsed : (rest : TokenList) (cause : TextCause) (k n : 
 not-FailsInHeader-if_parsed rest cause k zero ts after fails is few = absurd is
 not-FailsInHeader-if_parsed rest cause k (suc zero) ts after (no_thread_name low p) is few =
     not-FailsBefore-if_parsed (thread_name k ∷ []) Unexpected ts rest _ cause (thread_name k) p is (λ all. all.0 refl)
-not-FailsInHeader-if_parsed rest cause k (suc zero) ts after (no_thread_mark {mid = mid} low begins p) is few =
+not-FailsInHeader-if_parsed rest cause k (suc zero) ts after (no_thread_separator {mid = mid} low begins p) is few =
     not-FailsBefore-if_parsed (codes ";" ∷ codes "|" ∷ []) Unexpected mid rest after cause (codes ";") p
     (cons-tail_unique (sym begins ∙ is)) (λ all. all.0 refl)
 not-FailsInHeader-if_parsed rest cause k (suc zero) ts after (in_next_thread low begins p) is few =
@@ -317,7 +320,7 @@ not-FailsInHeader-if_parsed rest cause k (suc zero) ts after (in_next_thread low
 not-FailsInHeader-if_parsed rest cause k (suc zero) ts after (too_many_threads full at p) is few = omega (arith, full, few)
 not-FailsInHeader-if_parsed rest cause k (suc (suc n)) ts after (no_thread_name low p) is few =
     not-FailsBefore-if_parsed (thread_name k ∷ []) Unexpected ts rest _ cause (thread_name k) p is.1 (λ all. all.0 refl)
-not-FailsInHeader-if_parsed rest cause k (suc (suc n)) ts after (no_thread_mark {mid = mid} low begins p) is few =
+not-FailsInHeader-if_parsed rest cause k (suc (suc n)) ts after (no_thread_separator {mid = mid} low begins p) is few =
     not-FailsBefore-if_parsed (codes ";" ∷ codes "|" ∷ []) Unexpected mid rest is.0 cause (codes "|") p
     (cons-tail_unique (sym begins ∙ is.1)) (λ all. all.1.0 refl)
 not-FailsInHeader-if_parsed rest cause k (suc (suc n)) ts after (in_next_thread {next = next} low begins p) is few =
@@ -343,7 +346,7 @@ module _ (threads : ℕ) where
     λ some. because ∙ sym cause,
   )
 
-  -- A row does not fail.
+  -- Tokens that begin with a row of a cell for each thread do not satisfy `FailsInRow`.
   not-FailsInRow-if_parsed : (ts rest after : TokenList) (cause : TextCause) (cells : Cells)
       → FailsInRow threads ts rest cause
       → Row threads ts cells after
@@ -374,7 +377,7 @@ module _ (threads : ℕ) where
       FailsInRows-unique r s d e (suc k) next p
       (subst (FailsInRows threads s e (suc k)) (sym (Row-unique threads ts cells more next other row line).1) q)
 
-  -- Rows of which there are not too many do not fail.
+  -- Tokens that begin with rows, of which there are at most 64 with the k before them, do not satisfy `FailsInRows`.
   pub not-FailsInRows-if_parsed : (rest : TokenList) (cause : TextCause) (k : ℕ) (ts after : TokenList) (rows : CellGrid)
       → FailsInRows threads rest cause k ts
       → ParsesManyTill begins_stop (Row threads) ts rows after
@@ -419,7 +422,7 @@ FailsInQuantifier-unique ts r s d e (no_exists {mid = mid} begins p) (no_exists 
     FailsBefore-unique (codes "exists" ∷ []) Condition mid r s d e p
     (subst (λ l. FailsBefore (codes "exists" ∷ []) Condition l s e) (sym (cons-tail_unique (sym begins ∙ again))) q)
 
--- A quantifier does not fail.
+-- Tokens that begin with a quantifier do not satisfy `FailsInQuantifier`.
 pub not-FailsInQuantifier-if_parsed : (ts rest after : TokenList) (cause : TextCause) (quant : Quant)
     → FailsInQuantifier ts rest cause
     → Quantified ts quant after

@@ -49,7 +49,7 @@ word_next (t ∷ tokens) (suc next) w h =
 pub no_tokens-if_past_last : (tokens : List Token) (next : ℕ) → length tokens ≤ next → token_texts (drop next tokens) ≡ []
 no_tokens-if_past_last tokens next le = ap token_texts (drop_all next tokens le)
 
--- Before the last token some tokens remain.
+-- If an index is at most the number of tokens and differs from it, tokens remain from the index on.
 pub tokens_remain-before_last : (tokens : List Token) (next : ℕ)
     → next ≤ length tokens
     → (next ≡ length tokens → ⊥)

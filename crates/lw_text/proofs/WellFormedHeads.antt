@@ -4,7 +4,7 @@ use Rattle.lw_text.proofs.Common.{registers, ◌≡◌, ℕ, ◌<◌, inl, inr, 
 use Rattle.lw_text.proofs.Common.{length, map, refl, sym, ◌∙◌, subst, arith, fold, if◌then◌else◌, codes, ap}
 use Rattle.lw_text.proofs.Common.{filter, AllByRecursion, range_with_len, length-map}
 use Rattle.lw_text.proofs.Common.{length-map-range_with_len, Seen, Location, Formula, formula_of}
-use Rattle.lw_text.proofs.Common.{IsWordNumber, MentionsOnly, IsWellFormedHead, IsLocationName, IsTestName}
+use Rattle.lw_text.proofs.Common.{IsWordNumber, MentionsOnly, IsWellFormedHead, IsUnreservedName, IsTestName}
 use Rattle.lw_text.proofs.Common.{contains_name, insert_name, insert_names, IsDuplicateFree-insert_names}
 use Rattle.lw_text.proofs.Common.{position_of_name-within, Arch, ParsesSepEndBy, with_sites, SiteSyntax}
 use Rattle.lw_text.proofs.Common.{InMemory, InThread, IsSite, ThreadExists, site_names, seen_in, Terminal}
@@ -28,7 +28,7 @@ use Rattle.lw_text.proofs.NameTables.{words-site_by_name, listed-site_by_name}
 
 -- The site is a location whose name may be one, or one of six registers of a thread.
 abbrev IsValidSite : SiteSyntax → Type 0
-IsValidSite (InMemory x) = IsLocationName x
+IsValidSite (InMemory x) = IsUnreservedName x
 IsValidSite (InThread t r) = r < registers
 
 -- A site that was read satisfies `IsValidSite`.
@@ -92,7 +92,7 @@ IsWordNumber-word_of_last names s (e ∷ es) w h k =
     let now = seen_eq (seen_in names e.site) s in
     IsWordNumber-word_of_last names s es (if now then e.word else w) h.1 (IsWordNumber-if now e.word w h.0 k)
 
--- The initial value of a register or location is a word.
+-- If the values of all initializers are words, the initial value of each register and location is.
 IsWordNumber-initial_word : (names : List (List ℕ)) (es : List InitializerSyntax)
     → AllByRecursion (λ e. IsWordNumber e.word) es
     → (s : Seen)
@@ -114,26 +114,26 @@ IsValidTerminal-of_read arch threads ts rest (Atom (Holds s n)) p = (IsValidSite
 IsValidTerminal-of_read arch threads ts rest _ p = tt
 
 -- All terminals of a proposition that was read satisfy `IsValidTerminal`.
-AreValidTerminals-of_read : (arch : Arch) (threads : ℕ) (ts : List (List ℕ)) (ss : List (Terminal AtomSyntax))
+IsValidTerminal-of_all_read : (arch : Arch) (threads : ℕ) (ts : List (List ℕ)) (ss : List (Terminal AtomSyntax))
     → Terminals arch threads ts ss
     → AllByRecursion (IsValidTerminal threads) ss
-AreValidTerminals-of_read arch threads ts [] p = tt
-AreValidTerminals-of_read arch threads ts (s ∷ ss) p =
-    (IsValidTerminal-of_read arch _ ts p.0 s p.1, AreValidTerminals-of_read arch _ p.0 ss p.2)
+IsValidTerminal-of_all_read arch threads ts [] p = tt
+IsValidTerminal-of_all_read arch threads ts (s ∷ ss) p =
+    (IsValidTerminal-of_read arch _ ts p.0 s p.1, IsValidTerminal-of_all_read arch _ p.0 ss p.2)
 
--- Inserting allowed names preserves that all names of a table are allowed.
-IsLocationName-insert_names : (names ns : List (List ℕ))
-    → AllByRecursion IsLocationName names
-    → AllByRecursion IsLocationName ns
-    → AllByRecursion IsLocationName (insert_names names ns)
-IsLocationName-insert_names names [] h k = h
-IsLocationName-insert_names names (n ∷ ns) h k =
-    IsLocationName-insert_names (insert_name names n) ns (IsLocationName-insert_name (contains_name names n) refl) k.1
+-- If all names of a table and all names to be inserted are unreserved, so are all names of the table with these inserted.
+pub AreUnreserved-insert_names : (names ns : List (List ℕ))
+    → AllByRecursion IsUnreservedName names
+    → AllByRecursion IsUnreservedName ns
+    → AllByRecursion IsUnreservedName (insert_names names ns)
+AreUnreserved-insert_names names [] h k = h
+AreUnreserved-insert_names names (n ∷ ns) h k =
+    AreUnreserved-insert_names (insert_name names n) ns (IsUnreservedName-insert_name (contains_name names n) refl) k.1
   where
-    -- Inserting a location's name preserves that all names are locations' names.
-    IsLocationName-insert_name : (b : Bool) → contains_name names n ≡ b → AllByRecursion IsLocationName (insert_name names n)
-    IsLocationName-insert_name true e = rw e h
-    IsLocationName-insert_name false e = rw e (AllByRecursion-append IsLocationName names (n ∷ []) h (k.0, tt))
+    -- By whether the table has the name.
+    IsUnreservedName-insert_name : (b : Bool) → contains_name names n ≡ b → AllByRecursion IsUnreservedName (insert_name names n)
+    IsUnreservedName-insert_name true e = rw e h
+    IsUnreservedName-insert_name false e = rw e (AllByRecursion-append IsUnreservedName names (n ∷ []) h (k.0, tt))
 
 -- ---- the proposition
 
@@ -174,7 +174,7 @@ MentionsOnlyIfAtom-of_valid threads names (_ ∷ ss) f n = (tt, MentionsOnlyIfAt
 
 -- ---- the head
 
--- The head that the parts of a test say is well-formed.
+-- If tokens parse as the parts of a test, with an allowed name and a proposition, the head of these parts is well-formed.
 head_well_formed : (arch : Arch) (ts : List (List ℕ)) (name : List ℕ) (s : TestSyntax) (p : Formula)
     → IsTestName name
     → ParsesTest arch ts s
@@ -182,7 +182,7 @@ head_well_formed : (arch : Arch) (ts : List (List ℕ)) (name : List ℕ) (s : T
     → IsWellFormedHead (head_of_syntax arch name s p)
 head_well_formed arch ts name s p allowed parts whole =
     let c = parts.question in
-    let fit = AreValidTerminals-of_read arch s.threads c.after_quant s.terminals c.says in
+    let fit = IsValidTerminal-of_all_read arch s.threads c.after_quant s.terminals c.says in
     let right =
     AllByRecursion-append IsValidSite (sites_of s.initializers ++ s.listed) (sites_in s.terminals)
     (AllByRecursion-append IsValidSite (sites_of s.initializers) s.listed
@@ -200,8 +200,8 @@ head_well_formed arch ts name s p allowed parts whole =
       bounded = parts.header.1;
       table = record {
         bounded = parts.few_names;
-        are_location_names =
-            IsLocationName-insert_names [] (site_names (sites_of s.initializers ++ s.listed ++ sites_in s.terminals)) tt
+        are_unreserved =
+            AreUnreserved-insert_names [] (site_names (sites_of s.initializers ++ s.listed ++ sites_in s.terminals)) tt
             (site_names-all IsValidSite _ (λ x h. h) (sites_of s.initializers ++ s.listed ++ sites_in s.terminals) right);
         without_duplicates =
             IsDuplicateFree-insert_names [] (site_names (sites_of s.initializers ++ s.listed ++ sites_in s.terminals)) tt;
@@ -240,7 +240,7 @@ head_well_formed arch ts name s p allowed parts whole =
 pub frame_well_formed : (text : List ℕ) (f : TestFrame) → HasFrame text f → IsWellFormedHead f.head
 frame_well_formed text f h =
     subst (λ (g : TestFrame). IsWellFormedHead g.head) (sym h.frame_is)
-    (head_well_formed h.arch h.tokens h.name h.syntax h.condition h.preamble.3.is_name h.parts h.proposition)
+    (head_well_formed h.arch h.tokens h.name h.syntax h.proposition h.preamble.3.is_name h.parts h.is_proposition)
 
 -- ---- bodies in memory
 

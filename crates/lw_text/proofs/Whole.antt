@@ -5,14 +5,14 @@ use Rattle.lw_text.proofs.Common.{length, map, refl, sym, ap, ◌∙◌, subst, 
 use Rattle.lw_text.proofs.Common.{MatchOption, IfNone, codes, All, AllByRecursion, list_all, length-map}
 use Rattle.lw_text.proofs.Common.{ltb-false, All-from_recursion, ParsedBlock, ReadsBlock, HoldsOfNothing}
 use Rattle.lw_text.proofs.Common.{ParsesNothing, Bytes, NameTable, TokenList, CellGrid, Arch, Quant, Exists}
-use Rattle.lw_text.proofs.Common.{NotExists, Forall, AllByRecursion-map, All-mono, insert_names-longer, Cell}
-use Rattle.lw_text.proofs.Common.{Cursor, Token, Tokens, PlacedTokens, token_texts, Preamble, ParsesManyTill}
-use Rattle.lw_text.proofs.Common.{Header, Row, Rows, begins_stop, with_sites, HasRoomFor, SiteSyntax}
-use Rattle.lw_text.proofs.Common.{ThreadExists, site_names, Terminal, IsProposition, AtomSyntax, Quantified}
-use Rattle.lw_text.proofs.Common.{begins_token, sites_in, resolved, InitializerSyntax, sites_of, Block}
-use Rattle.lw_text.proofs.Common.{TestSyntax, location_table, ParsesTest, ParsesNoTest, HasFrame, all_texts}
-use Rattle.lw_text.proofs.Common.{with_spans, remaining_texts, site_by_name, named_initializer, thread_exists}
-use Rattle.lw_text.proofs.Common.{ParsedNameList, NoProposition, NoQuestion, ParsesQuestion}
+use Rattle.lw_text.proofs.Common.{NotExists, Forall, AllByRecursion-map, All-mono, length_le-insert_names}
+use Rattle.lw_text.proofs.Common.{Cell, Cursor, Token, Tokens, PlacedTokens, token_texts, Preamble}
+use Rattle.lw_text.proofs.Common.{ParsesManyTill, Header, Row, Rows, begins_stop, with_sites, HasRoomFor}
+use Rattle.lw_text.proofs.Common.{SiteSyntax, ThreadExists, site_names, Terminal, IsProposition, AtomSyntax}
+use Rattle.lw_text.proofs.Common.{Quantified, begins_token, sites_in, resolved, InitializerSyntax, sites_of}
+use Rattle.lw_text.proofs.Common.{Block, TestSyntax, location_table, ParsesTest, ParsesNoTest, HasFrame}
+use Rattle.lw_text.proofs.Common.{all_texts, with_spans, remaining_texts, site_by_name, named_initializer}
+use Rattle.lw_text.proofs.Common.{thread_exists, ParsedNameList, NoProposition, NoQuestion, ParsesQuestion}
 use Rattle.lw_text.proofs.api.Spelling.{list_all-AllByRecursion}
 use Rattle.lw_text.specs.declared.site.Site.{Site as MadeSite}
 use Rattle.lw_text.specs.declared.block.Initializer.{Initializer as MadeInitializer}
@@ -95,8 +95,8 @@ HasRoomFor-initial_block arch ts s p = omega (
   arith,
   p.few_names,
   ap length (table_parts s),
-  insert_names-longer (with_sites [] (sites_of s.initializers)) (site_names s.listed),
-  insert_names-longer (with_sites (with_sites [] (sites_of s.initializers)) s.listed) (site_names (sites_in s.terminals)),
+  length_le-insert_names (with_sites [] (sites_of s.initializers)) (site_names s.listed),
+  length_le-insert_names (with_sites (with_sites [] (sites_of s.initializers)) s.listed) (site_names (sites_in s.terminals)),
 )
 
 -- ---- if the question ends early
@@ -226,10 +226,10 @@ row_lengths-of_rows n [] ts rest u = tt
 row_lengths-of_rows n (row ∷ rows) ts rest u = (sym (length-map row _) ∙ u.1.1.1, row_lengths-of_rows n rows u.1.0 rest u.1.2)
 
 -- Each of a test's rows has a cell for each thread.
-pub Rows-even : {A : Type 0} (n : ℕ) (rows : List (List (Cell A))) (ts rest : TokenList)
+pub row_lengths-Rows : {A : Type 0} (n : ℕ) (rows : List (List (Cell A))) (ts rest : TokenList)
     → Rows n ts (all_texts rows) rest
     → All (λ row. length row ≡ n) rows
-Rows-even n rows ts rest r = All-from_recursion (λ row. length row ≡ n) rows (row_lengths-of_rows n rows ts rest r.0)
+row_lengths-Rows n rows ts rest r = All-from_recursion (λ row. length row ≡ n) rows (row_lengths-of_rows n rows ts rest r.0)
 
 -- ---- the text
 
@@ -244,8 +244,8 @@ pub no_frame-if_no_test : (text : Bytes) (arch : Arch) (name rest : Bytes)
     → HoldsOfNothing (HasFrame text)
 no_frame-if_no_test text arch name rest preamble never frame h =
     let e = Preamble-unique text h.arch h.name h.rest arch name rest h.preamble preamble in
-    never h.tokens (subst (λ x. Tokens x h.tokens) e.2 h.stream) h.syntax h.condition
-    (subst (λ a. ParsesTest a h.tokens h.syntax) e.0 h.parts) h.proposition
+    never h.tokens (subst (λ x. Tokens x h.tokens) e.2 h.stream) h.syntax h.proposition
+    (subst (λ a. ParsesTest a h.tokens h.syntax) e.0 h.parts) h.is_proposition
 
 -- If a lexical fault ends the tokens, or there is none and they are no test, the text's tokens are no test.
 pub HasNoTest-if_no_tokens_or_no_parse : {F : Type 0} (arch : Arch) (o : Option F) (Q : F → Type 0) (len : ℕ) (rest : Bytes)

@@ -8,7 +8,7 @@ use Rattle.lw_text.proofs.Common.{Names, Rows, ParsesMany, ParsesSepEndBy, Parse
 use Rattle.lw_text.proofs.Common.{ReadsBlock, ReadsHeader, HaveThreads, HasMissingThread, FailsInBlock}
 use Rattle.lw_text.proofs.Common.{FailsInQuestion, FailsInHeader, FailsInRows, FailsInTest, TestSyntax}
 use Rattle.lw_text.proofs.Common.{in_block, in_header, no_such_thread, in_rows, in_question, TextCause}
-use Rattle.lw_text.proofs.Atoms.{no_site, IsInitializer-unique}
+use Rattle.lw_text.proofs.SitesAndValues.{no_site, IsInitializer-unique}
 use Rattle.lw_text.proofs.Cells.{Rows-unique}
 use Rattle.lw_text.proofs.ConditionFailures.{FailsInQuestion-unique, not-FailsInQuestion-if_parsed}
 use Rattle.lw_text.proofs.Failures.{cons-tail_unique}
@@ -94,7 +94,7 @@ module _ (arch : Arch) where
             (sym (cons-tail_unique (u.1 ∙ more.1))) more.2) all.1
       ]
 
-  -- What a block and a header say is unique.
+  -- A block and a header have unique parses.
   block_and_header-unique : (ts mid end after later : TokenList) (es fs : List InitializerSyntax) (n k : ℕ)
       → Block arch ts es mid
       → Block arch ts fs end
@@ -106,7 +106,7 @@ module _ (arch : Arch) where
       let v = Names-unique 0 n k mid after later header.0 (subst (λ l. Names 0 k l later) (sym u.1) too.0) in
       (u.0, v.0, v.1)
 
-  -- After a block with this end, a header that is there does not fail.
+  -- If tokens parse as a block and then a header, no header fails after a block of the same tokens.
   not-FailsInHeader-if_after_block : (ts mid end rest after : TokenList) (cause : TextCause) (es fs : List InitializerSyntax)
       (n : ℕ)
       → Block arch ts es mid

@@ -3,7 +3,7 @@
 use Rattle.std.specs.Prelude.{◌≡◌, ◌≢◌, ℕ, suc, ◌<◌, ◌≤◌, ◌⊎◌, ◌+◌, Bool, true, false, Option, Some, None, List, [], ◌∷◌, length, filter, codes}
 use Rattle.std.specs.List.{AllByRecursion}
 use Rattle.lw_base.specs.Limits.{most_nodes, most_rows, most_threads}
-use Rattle.lw_base.specs.Names.{IsName, IsLocationName}
+use Rattle.lw_base.specs.Names.{IsName, IsUnreservedName}
 use Rattle.lw_base.specs.Registers.{IsRegisterName}
 use Rattle.lw_base.specs.Types.{NameTable, Bytes, TokenList, Cells, CellGrid}
 use Rattle.lw_base.specs.declared.head.Arch.{Arch}
@@ -36,8 +36,8 @@ IsMisfitCause c t cause = (IsName t × (cause ≡ Name)) ⊎ ((IsName t → ⊥)
 -- The token is not the name of a location, or it is that of a ninth; the cause says which.
 abbrev pub IsNoNewLocation : TextCause → NameTable → Bytes → TextCause → Type 0
 IsNoNewLocation c names t cause =
-    ((IsLocationName t → ⊥) × IsMisfitCause c t cause)
-    ⊎ (IsLocationName t × (HasRoomForName names t → ⊥) × (cause ≡ TooManyLocations))
+    ((IsUnreservedName t → ⊥) × IsMisfitCause c t cause)
+    ⊎ (IsUnreservedName t × (HasRoomForName names t → ⊥) × (cause ≡ TooManyLocations))
 
 -- Where the name of a location is expected, the next token is none, or it is that of a ninth.
 abbrev pub FailsInName : NameTable → TextCause → TokenList → TokenList → TextCause → Type 0
@@ -46,7 +46,7 @@ FailsInName names c ts rest cause = (ts ≡ rest) × IfFirst (λ t. IsNoNewLocat
 -- After a `[`, the name of a location fails, or no `]` follows it.
 pub data FailsInBrackets (names : NameTable) (c : TextCause) (ts rest : TokenList) (cause : TextCause) : Type 0 where
   in_bracketed_name : FailsInName names c ts rest cause → FailsInBrackets names c ts rest cause
-  no_bracket : {x : Bytes} {mid : TokenList} → ts ≡ x ∷ mid → IsLocationName x → HasRoomForName names x → FailsBefore (codes "]" ∷ []) c mid rest cause
+  no_bracket : {x : Bytes} {mid : TokenList} → ts ≡ x ∷ mid → IsUnreservedName x → HasRoomForName names x → FailsBefore (codes "]" ∷ []) c mid rest cause
       → FailsInBrackets names c ts rest cause
 
 -- After the number of a thread, no `:` follows, or no name of a register after it.
@@ -80,20 +80,20 @@ pub data FailsInAssignment
   in_value : (site : SiteSyntax) {mid : TokenList} → IsSite arch ts site mid → ThreadAllowed threads site → HasRoomFor names (site ∷ [])
       → FailsInValue c mid rest cause → FailsInAssignment arch threads names c ts rest cause
 
--- Elements fail, each of which names a site and is followed by a `;`, which is optional after the last, and then `close`: an element fails;
--- or neither mark follows it; or what follows it and its `;` fails.
+-- Elements fail, each of which names a site and is followed by a `;`, which is optional after the last, and then `close`: an
+-- element fails; or neither a `;` nor `close` follows it; or what follows it and its `;` fails.
 pub data FailsInElements {X : Type 0}
     (Parses : TokenList → X → TokenList → Type 0) (site_by : X → SiteSyntax) (Way : NameTable → TokenList → TokenList → TextCause → Type 0)
     (close : Bytes) (c : TextCause) (rest : TokenList) (cause : TextCause) : NameTable → TokenList → Type 0 where
   in_element : {names : NameTable} {ts : TokenList} → begins_token close ts ≡ false → Way names ts rest cause
       → FailsInElements Parses site_by Way close c rest cause names ts
-  no_mark : {names : NameTable} {ts mid : TokenList} {x : X} → begins_token close ts ≡ false → Parses ts x mid
+  no_separator : {names : NameTable} {ts mid : TokenList} {x : X} → begins_token close ts ≡ false → Parses ts x mid
       → HasRoomFor names (site_by x ∷ []) → FailsBefore (close ∷ codes ";" ∷ []) c mid rest cause → FailsInElements Parses site_by Way close c rest cause names ts
   in_elements_after : {names : NameTable} {ts next : TokenList} {x : X} → begins_token close ts ≡ false → Parses ts x (codes ";" ∷ next)
       → HasRoomFor names (site_by x ∷ []) → FailsInElements Parses site_by Way close c rest cause (with_sites names (site_by x ∷ [])) next
       → FailsInElements Parses site_by Way close c rest cause names ts
 
--- The initializers of a block fail: one of them, or a mark after one.
+-- The initializers of a block fail: one of them, or what follows one, which is neither `;` nor `}`.
 abbrev pub FailsInInitializers : Arch → TokenList → TextCause → NameTable → TokenList → Type 0
 FailsInInitializers arch rest cause names ts =
     FailsInElements (IsInitializer arch) (λ e. e.site) (λ names. FailsInAssignment arch None names Unexpected) (codes "}") Unexpected
@@ -105,7 +105,7 @@ pub data FailsInBlock (arch : Arch) (names : NameTable) (ts rest : TokenList) (c
   in_initializers : {inside : TokenList} → ts ≡ codes "{" ∷ inside → FailsInInitializers arch rest cause names inside
       → FailsInBlock arch names ts rest cause
 
--- The sites of the list of names fail: one of them, or a mark after one.
+-- The sites of the list of names fail: one of them, or what follows one, which is neither `;` nor `]`.
 abbrev pub FailsInSites : Arch → ℕ → TokenList → TextCause → NameTable → TokenList → Type 0
 FailsInSites arch threads rest cause names ts =
     FailsInElements (λ ts site mid. IsSite arch ts site mid × ThreadExists threads site) (λ site. site)
@@ -125,7 +125,7 @@ pub data FailsInList (arch : Arch) (threads : ℕ) (names : NameTable) (ts rest 
 pub data FailsInHeader (rest : TokenList) (cause : TextCause) : ℕ → TokenList → Type 0 where
   no_thread_name : {k : ℕ} {ts : TokenList} → k < most_threads → FailsBefore (thread_name k ∷ []) Unexpected ts rest cause
       → FailsInHeader rest cause k ts
-  no_thread_mark : {k : ℕ} {ts mid : TokenList} → k < most_threads → ts ≡ thread_name k ∷ mid
+  no_thread_separator : {k : ℕ} {ts mid : TokenList} → k < most_threads → ts ≡ thread_name k ∷ mid
       → FailsBefore (codes ";" ∷ codes "|" ∷ []) Unexpected mid rest cause → FailsInHeader rest cause k ts
   in_next_thread : {k : ℕ} {ts next : TokenList} → k < most_threads → ts ≡ thread_name k ∷ codes "|" ∷ next → FailsInHeader rest cause (suc k) next
       → FailsInHeader rest cause k ts

@@ -89,9 +89,9 @@ abbrev pub listed_in : ℕ → NameTable → List SiteSyntax → List Seen
 listed_in threads names sites =
     filter (λ s. list_any (λ site. seen_eq (seen_in names site) s) sites) (all_registers threads ++ locations (length names))
 
--- The head of a test with this language, name, syntax and condition.
+-- The head of a test with this language, name, syntax and proposition.
 abbrev pub head_of_syntax : Arch → Bytes → TestSyntax → Formula → TestHead
-head_of_syntax arch name s condition =
+head_of_syntax arch name s proposition =
     record {
       name = name;
       arch = arch;
@@ -102,13 +102,13 @@ head_of_syntax arch name s condition =
       init_words = map (initial_word_of (location_table s) s.initializers) (locations (length (location_table s)));
       listed = listed_in s.threads (location_table s) s.listed;
       quant = s.quant;
-      condition = condition;
+      proposition = proposition;
     }
 
--- The frame of a test with this language, name, syntax and condition: its head, and its cells by columns.
+-- The frame of a test with this language, name, syntax and proposition: its head, and its cells by columns.
 abbrev pub frame_of_syntax : Arch → Bytes → TestSyntax → Formula → TestFrame
-frame_of_syntax arch name s condition =
-    record { head = head_of_syntax arch name s condition; cells = columns s.threads s.rows }
+frame_of_syntax arch name s proposition =
+    record { head = head_of_syntax arch name s proposition; cells = columns s.threads s.rows }
 
 -- The text, UTF-8 and not too long, is a preamble and a list of tokens with the syntax of this frame.
 pub record HasFrame (text : Bytes) (frame : TestFrame) : Type 0 where
@@ -119,9 +119,9 @@ pub record HasFrame (text : Bytes) (frame : TestFrame) : Type 0 where
   pub rest : Bytes
   pub tokens : TokenList
   pub syntax : TestSyntax
-  pub condition : Formula
+  pub proposition : Formula
   pub preamble : Preamble text arch name rest
   pub stream : Tokens rest tokens
   pub parts : ParsesTest arch tokens syntax
-  pub proposition : IsProposition (map (resolved (location_table syntax)) syntax.terminals) condition
-  pub frame_is : frame ≡ frame_of_syntax arch name syntax condition
+  pub is_proposition : IsProposition (map (resolved (location_table syntax)) syntax.terminals) proposition
+  pub frame_is : frame ≡ frame_of_syntax arch name syntax proposition

@@ -6,7 +6,7 @@ use Rattle.lw_base.specs.Limits.{most_locations}
 use Rattle.lw_base.specs.declared.head.Arch.{Arch}
 use Rattle.lw_base.specs.declared.head.Seen.{Seen}
 use Rattle.lw_base.specs.declared.head.Seen.TheVariants.{Register, Location}
-use Rattle.lw_base.specs.Names.{IsLocationName}
+use Rattle.lw_base.specs.Names.{IsUnreservedName}
 use Rattle.lw_base.specs.Tables.{insert_name, insert_names, position_of_name}
 use Rattle.lw_base.specs.Registers.{IsRegisterName}
 use Rattle.lw_text.specs.Tokens.{IsNumber}
@@ -19,7 +19,7 @@ pub data SiteSyntax : Type 0 where
 -- `x` or `[x]`; or `t : r`, where r names a register of the language.
 abbrev pub IsSite : Arch → TokenList → SiteSyntax → TokenList → Type 0
 IsSite arch ts (InMemory x) rest =
-    IsLocationName x × ((ts ≡ x ∷ rest) ⊎ (ts ≡ codes "[" ∷ x ∷ codes "]" ∷ rest))
+    IsUnreservedName x × ((ts ≡ x ∷ rest) ⊎ (ts ≡ codes "[" ∷ x ∷ codes "]" ∷ rest))
 IsSite arch ts (InThread t r) rest =
     (p q : Bytes) × (ts ≡ p ∷ codes ":" ∷ q ∷ rest) × IsNumber p t × IsRegisterName arch q r
 

@@ -19,15 +19,15 @@ abbrev pub opens_comment : Bytes → Bool
 opens_comment text = begins_pair (byte "(") (byte "*") text
 
 -- Tests whether the text begins with a `(*` or a `*)`.
-abbrev pub begins_mark : Bytes → Bool
-begins_mark text = opens_comment text || begins_pair (byte "*") (byte ")") text
+abbrev pub begins_comment_sign : Bytes → Bool
+begins_comment_sign text = opens_comment text || begins_pair (byte "*") (byte ")") text
 
 -- The text after a `(*` continues to the `*)` that closes it, with whole comments between, followed by rest.
 pub data Comment : Bytes → Bytes → Type 0 where
   closed : {rest : Bytes} → Comment (byte "*" ∷ byte ")" ∷ rest) rest
   nested : {text inner rest : Bytes} → Comment text inner → Comment inner rest
       → Comment (byte "(" ∷ byte "*" ∷ text) rest
-  other : {b : ℕ} {text rest : Bytes} → begins_mark (b ∷ text) ≡ false → Comment text rest
+  other : {b : ℕ} {text rest : Bytes} → begins_comment_sign (b ∷ text) ≡ false → Comment text rest
       → Comment (b ∷ text) rest
 
 -- The text is trivia, which may lie between tokens, followed by rest: blanks and comments.

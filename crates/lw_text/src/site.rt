@@ -3,7 +3,7 @@ ghost use Rattle.std.specs.Prelude.{◌≡◌, ◌≢◌, ℕ, ◌≤◌, [], �
 ghost use Rattle.lw_base.specs.Limits.{most_locations};
 ghost use Rattle.lw_base.specs.NoParse.{ParsesNothing};
 ghost use Rattle.lw_base.specs.Types.{Bytes, TokenList};
-ghost use Rattle.lw_base.specs.Names.{IsLocationName};
+ghost use Rattle.lw_base.specs.Names.{IsUnreservedName};
 ghost use Rattle.lw_base.specs.Registers.{IsRegisterName};
 ghost use Rattle.lw_base.specs.Tables.{insert_name};
 ghost use Rattle.lw_text.specs.Causes.{IsParserCause};
@@ -18,7 +18,7 @@ ghost use Rattle.lw_text.specs.inner.Resolved as resolved;
 
 use crate::cursor::Cursor;
 use crate::fault::{Refusal, TextCause};
-use lw_base::{Arch, Loc, LocNames, Reg, Word, is_location_name, is_name, reg_from_name};
+use lw_base::{Arch, Loc, LocNames, Reg, Word, is_name, is_unreserved_name, reg_from_name};
 use std::alloc::Allocator;
 
 /// A location, by its index, or a register of a thread, which the test may not have.
@@ -108,11 +108,11 @@ impl<'t, 'a> Cursor<'t, 'a> {
         requires { IsParserCause cause }
         ensures { MatchResult result
             (λ loc. (x : Bytes) × (remaining_texts self.old ≡ x ∷ codes "]" ∷ remaining_texts self.new)
-            × (IsLocationName x × (slice_get locs.new loc ≡ Some x) × (locs.new ≡ insert_name locs.old x)
+            × (IsUnreservedName x × (slice_get locs.new loc ≡ Some x) × (locs.new ≡ insert_name locs.old x)
             × (length locs.new ≤ most_locations))
             × AdvancesTo self.old self.new)
             (λ f. f.cause ≢ Memory → ((x : Bytes) (rest : TokenList) → remaining_texts self.old ≡ x ∷ codes "]" ∷ rest
-            → IsLocationName x → HasRoomForName locs.old x → ⊥)
+            → IsUnreservedName x → HasRoomForName locs.old x → ⊥)
             × Fails self.old (FailsInBrackets locs.old cause) f) }
     {
         let misfit = self.refusal(cause);
@@ -187,12 +187,12 @@ fn enter<A: Allocator + Copy>(
     misfit: Refusal,
 ) -> Result<Loc, Refusal>
     ensures { MatchResult result
-        (λ loc. IsLocationName name.now × (slice_get locs.new loc ≡ Some name.now) × (locs.new ≡ insert_name locs.old name.now)
+        (λ loc. IsUnreservedName name.now × (slice_get locs.new loc ≡ Some name.now) × (locs.new ≡ insert_name locs.old name.now)
         × (length locs.new ≤ most_locations))
-        (λ f. f.cause ≢ Memory → (IsLocationName name.now → HasRoomForName locs.old name.now → ⊥)
+        (λ f. f.cause ≢ Memory → (IsUnreservedName name.now → HasRoomForName locs.old name.now → ⊥)
         × (f.at ≡ misfit.at) × IsNoNewLocation misfit.cause locs.old name.now f.cause) }
 {
-    if !is_location_name(name) {
+    if !is_unreserved_name(name) {
         return Err(no_name(name, misfit));
     }
     match locs.find_or_add(name)? {

@@ -5,7 +5,7 @@ use Rattle.lw_text.proofs.Common.{codes, slice_index_or, flat_map, decimal, AllB
 use Rattle.lw_text.proofs.Common.{All-from_recursion, slice_get-get_or, Bytes, NameTable, TokenList, Arch}
 use Rattle.lw_text.proofs.Common.{Quant, Exists, NotExists, Forall, Seen, Register, Location, is_or}
 use Rattle.lw_text.proofs.Common.{is_binary, Formula, No, Reg_is, Word_is, Not, And, Or, most_threads}
-use Rattle.lw_text.proofs.Common.{IsDuplicateFree, IsLocationName, IsInTable, position_of_name-again}
+use Rattle.lw_text.proofs.Common.{IsDuplicateFree, IsUnreservedName, IsInTable, position_of_name-again}
 use Rattle.lw_text.proofs.Common.{register_name, IsSeenInRange, MentionsOnly, SiteSyntax, InMemory, InThread}
 use Rattle.lw_text.proofs.Common.{IsSite, ThreadExists, Value, site_names, seen_in, ParsesSepEndBy, Terminal}
 use Rattle.lw_text.proofs.Common.{Open, Close, Negation, Conjunction, Disjunction, Atom, AtomSyntax, Always}
@@ -62,7 +62,7 @@ quantifier_tokens Forall = codes "forall" ∷ []
 
 -- The site can be printed: it is a location whose name is in the table, or a register of one of the threads.
 abbrev pub IsPrintable : ℕ → NameTable → SiteSyntax → Type 0
-IsPrintable threads names (InMemory x) = IsLocationName x × IsInTable names x
+IsPrintable threads names (InMemory x) = IsUnreservedName x × IsInTable names x
 IsPrintable threads names (InThread t r) = (t < threads) × (r < registers)
 
 -- An atom whose site can be printed, with a word.
@@ -76,7 +76,7 @@ IsPrintableTerminal threads names (Atom a) = IsPrintableClaim threads names a
 IsPrintableTerminal threads names _ = Unit {0}
 
 module _ (arch : Arch) (threads : ℕ) (few : threads ≤ most_threads) (names : NameTable) where
-  -- The tokens of a site say it.
+  -- The tokens of a site give this site.
   pub IsSite-site_tokens : (s : SiteSyntax) (rest : TokenList)
       → IsPrintable threads names s
       → IsSite arch (site_tokens arch s ++ rest) s rest
@@ -93,7 +93,7 @@ module _ (arch : Arch) (threads : ℕ) (few : threads ≤ most_threads) (names :
   site_exists (InMemory x) h = tt
   site_exists (InThread t r) h = h.0
 
-  -- The tokens of a terminal say it.
+  -- The tokens of a terminal give this terminal.
   IsTerminal-terminal_tokens : (s : Terminal AtomSyntax) (rest : TokenList)
       → IsPrintableTerminal threads names s
       → IsTerminal arch threads (terminal_tokens arch s ++ rest) s rest
@@ -150,7 +150,7 @@ pub sites_printable : (threads : ℕ) (names : NameTable) (ss : List (Terminal A
     → AllByRecursion (IsPrintable threads names) (sites_in ss)
 sites_printable threads names = sites_in-all _ (IsPrintable threads names) (λ s n h. h.0)
 
-module _ (threads : ℕ) (names : NameTable) (table : AllByRecursion IsLocationName names) where
+module _ (threads : ℕ) (names : NameTable) (table : AllByRecursion IsUnreservedName names) where
   -- A register or location of a test can be printed by its name.
   pub named_printable : (s : Seen) → IsSeenInRange threads (length names) s → IsPrintable threads names (named_site names s)
   named_printable (Register t r) h = h
@@ -240,35 +240,39 @@ module _ (threads : ℕ) (names : NameTable) (once : IsDuplicateFree names) wher
       map-append (resolved names) (enclosed_if a ss) (t ∷ enclosed_if b ws) ∙ cc ((resolved-enclosed_if a ss us e), j)
 
   -- The terminals of a formula, named by the table.
-  abbrev named_terms : Formula → List (Terminal AtomSyntax)
-  named_terms p = terminals_of (named_claim names) p
+  abbrev named_terminals : Formula → List (Terminal AtomSyntax)
+  named_terminals p = terminals_of (named_claim names) p
 
   -- The terminals of a formula, with formulas as atoms.
-  abbrev formula_terms : Formula → List (Terminal Formula)
-  formula_terms p = terminals_of (λ q. q) p
+  abbrev formula_terminals : Formula → List (Terminal Formula)
+  formula_terminals p = terminals_of (λ q. q) p
 
   -- Naming and then resolving the terminals gives those of the formula.
-  resolved-named_terms : (p : Formula)
+  resolved-named_terminals : (p : Formula)
       → MentionsOnly threads (length names) p
-      → map (resolved names) (named_terms p) ≡ formula_terms p
-  resolved-named_terms (Word_is x n) h = ap (λ (y : ℕ). Atom (Word_is y n) ∷ []) (position_of_name-again names once x h.0)
-  resolved-named_terms (Not p) h = ap (λ l. Negation ∷ l) (resolved-enclosed_if (is_binary p) _ _ (resolved-named_terms p h))
-  resolved-named_terms (And p q) h = resolved-joined _ _ _ _ _ _ _ (resolved-named_terms p h.0) (resolved-named_terms q h.1)
-  resolved-named_terms (Or p q) h = resolved-joined false _ _ _ _ _ _ (resolved-named_terms p h.0) (resolved-named_terms q h.1)
-  resolved-named_terms _ h = refl
+      → map (resolved names) (named_terminals p) ≡ formula_terminals p
+  resolved-named_terminals (Word_is x n) h = ap (λ (y : ℕ). Atom (Word_is y n) ∷ []) (position_of_name-again names once x h.0)
+  resolved-named_terminals (Not p) h =
+      ap (λ l. Negation ∷ l) (resolved-enclosed_if (is_binary p) _ _ (resolved-named_terminals p h))
+  resolved-named_terminals (And p q) h =
+      resolved-joined _ _ _ _ _ _ _ (resolved-named_terminals p h.0) (resolved-named_terminals q h.1)
+  resolved-named_terminals (Or p q) h =
+      resolved-joined false _ _ _ _ _ _ (resolved-named_terminals p h.0) (resolved-named_terminals q h.1)
+  resolved-named_terminals _ h = refl
 
   -- The terminals of a condition, named and resolved, are those of its formula.
-  pub resolved-enclosed_named_terms : (p : Formula)
+  pub resolved-enclosed_named_terminals : (p : Formula)
       → MentionsOnly threads (length names) p
-      → map (resolved names) (enclosed (named_terms p)) ≡ enclosed (formula_terms p)
-  resolved-enclosed_named_terms p h = resolved-enclosed (named_terms p) (formula_terms p) (resolved-named_terms p h)
+      → map (resolved names) (enclosed (named_terminals p)) ≡ enclosed (formula_terminals p)
+  resolved-enclosed_named_terminals p h =
+      resolved-enclosed (named_terminals p) (formula_terminals p) (resolved-named_terminals p h)
 
--- The tokens of a quantifier say it.
+-- The tokens of a quantifier give this quantifier.
 pub Quantified-quantifier_tokens : (q : Quant) (rest : TokenList) → Quantified (quantifier_tokens q ++ rest) q rest
 Quantified-quantifier_tokens Exists rest = refl
 Quantified-quantifier_tokens _ rest = refl
 
--- If the tokens of each element say it, those of all, each followed by a separator, and the closing token say the list.
+-- If the tokens of each element give this element, those of all, each followed by a separator, and the closing token say the list.
 pub ParsesSepEndBy-tokens : {X : Type 0} (P : TokenList → X → TokenList → Type 0) (tokens : X → TokenList) (sep close : Bytes)
     (xs : List X) (rest : TokenList)
     → AllByRecursion (λ x. (l : TokenList) → P (tokens x ++ l) x l) xs

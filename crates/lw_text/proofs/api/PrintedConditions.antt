@@ -1,21 +1,21 @@
 -- Printed sites and conditions: their texts spell tokens. The crates that print tests use this.
-use Rattle.lw_text.proofs.Common.{registers, most_name_bytes, ◌≡◌, ℕ, suc, ◌+◌, ◌*◌, ◌<◌, ◌≤◌, ◌^◌, Bool}
-use Rattle.lw_text.proofs.Common.{true, false, not, List, [], ◌∷◌, ◌++◌, length, refl, sym, ap, ◌∙◌, subst}
-use Rattle.lw_text.proofs.Common.{arith, append_assoc, ◌==◌, codes, slice_index_or, flat_map, decimal}
+use Rattle.lw_text.proofs.Common.{byte, registers, most_name_bytes, ◌≡◌, ℕ, suc, ◌+◌, ◌*◌, ◌<◌, ◌≤◌, ◌^◌}
+use Rattle.lw_text.proofs.Common.{Bool, true, false, not, List, [], ◌∷◌, ◌++◌, length, refl, sym, ap, ◌∙◌}
+use Rattle.lw_text.proofs.Common.{subst, arith, append_assoc, ◌==◌, codes, slice_index_or, flat_map, decimal}
 use Rattle.lw_text.proofs.Common.{AllByRecursion, not-true, nat_tests, decimal_nonempty, flat_map-append}
 use Rattle.lw_text.proofs.Common.{All-from_recursion, Bytes, NameTable, TokenList, Arch, Source, X86, Quant}
 use Rattle.lw_text.proofs.Common.{Exists, NotExists, Forall, Seen, Register, Location, is_name_byte}
 use Rattle.lw_text.proofs.Common.{first_byte_is, site_text, assignment, parenthesized, parenthesized_if}
 use Rattle.lw_text.proofs.Common.{is_binary, proposition_text, quantifier_text, Formula, Yes, No, Reg_is}
-use Rattle.lw_text.proofs.Common.{Word_is, Not, And, Or, nodes, most_threads, IsName, IsLocationName}
+use Rattle.lw_text.proofs.Common.{Word_is, Not, And, Or, nodes, most_threads, IsName, IsUnreservedName}
 use Rattle.lw_text.proofs.Common.{register_name, IsSeenInRange, MentionsOnly, is_two_byte_symbol, Terminal}
 use Rattle.lw_text.proofs.Common.{Conjunction, Disjunction, Atom, AtomSyntax, Always, Never, Holds}
 use Rattle.lw_text.proofs.Common.{is_blank-passes}
 use Rattle.lw_text.proofs.api.Spelling.{most_number_bytes, Anything, EndsName, IsBlankNext, HasNoStar}
 use Rattle.lw_text.proofs.api.Spelling.{HasNoEquals, Spells, name_by_test, Spells-append}
 use Rattle.lw_text.proofs.api.Spelling.{Spells-append_anything, Spells-before, Spells-mono, Spells-space}
-use Rattle.lw_text.proofs.api.Spelling.{Spells-symbol, Spells-mark, Spells-pair, Spells-name, Spells-number}
-use Rattle.lw_text.proofs.api.Spelling.{decimal_is_name_run}
+use Rattle.lw_text.proofs.api.Spelling.{Spells-symbol, Spells-single_symbol, Spells-pair, Spells-name}
+use Rattle.lw_text.proofs.api.Spelling.{Spells-number, decimal_is_name_run}
 use Rattle.lw_text.proofs.api.PrintedPropositions.{enclosed, enclosed_if, terminals_of}
 use Rattle.lw_text.proofs.api.ConditionTokens.{named_site, site_tokens, value_tokens, named_claim}
 use Rattle.lw_text.proofs.api.ConditionTokens.{terminal_tokens, quantifier_tokens}
@@ -35,11 +35,11 @@ pub Spells-register : (arch : Arch) (r : ℕ)
 Spells-register arch r h = Spells-name (register_name arch r) (register_is_name arch r h)
 
 -- A name byte makes no symbol with `:` before it.
-is_two_byte_symbol-false_after_colon : (b : ℕ) → is_name_byte b ≡ true → is_two_byte_symbol 58 b ≡ false
+is_two_byte_symbol-false_after_colon : (b : ℕ) → is_name_byte b ≡ true → is_two_byte_symbol (byte ":") b ≡ false
 is_two_byte_symbol-false_after_colon b h = grind (arith, nat_tests)
 
 -- A name byte is no `*`.
-is_star-false_if_name_byte : (b : ℕ) → is_name_byte b ≡ true → (b == 42) ≡ false
+is_star-false_if_name_byte : (b : ℕ) → is_name_byte b ≡ true → (b == byte "*") ≡ false
 is_star-false_if_name_byte b h = grind (arith, nat_tests)
 
 -- A name makes no symbol with `:` before it.
@@ -48,28 +48,28 @@ HasNoEquals-name [] rest n = absurd (let h = n.0.not_empty in omega arith)
 HasNoEquals-name (b ∷ w) rest n = is_two_byte_symbol-false_after_colon b n.0.are_name_bytes.0
 
 -- `:` spells one token, if no `=` follows.
-pub Spells-colon : Spells HasNoEquals 1 (58 ∷ []) ((58 ∷ []) ∷ [])
-Spells-colon = Spells-symbol 58 refl (λ rest f. f) (λ rest f. refl) (omega arith)
+pub Spells-colon : Spells HasNoEquals 1 (byte ":" ∷ []) ((byte ":" ∷ []) ∷ [])
+Spells-colon = Spells-symbol (byte ":") refl (λ rest f. f) (λ rest f. refl) (omega arith)
 
 -- A blank after `:` is no `=`.
 pub HasNoEquals-blank : (rest : Bytes) → IsBlankNext rest → HasNoEquals rest
 HasNoEquals-blank [] h = refl
 HasNoEquals-blank (b ∷ rest) h =
-    not-true (is_two_byte_symbol 58 b) (is_blank-passes (λ c. not (is_two_byte_symbol 58 c)) b refl h)
+    not-true (is_two_byte_symbol (byte ":") b) (is_blank-passes (λ c. not (is_two_byte_symbol (byte ":") c)) b refl h)
 
 -- ---- the texts
 
 -- The text is not empty, and does not start with `*`.
 abbrev pub Starts : Bytes → Type 0
-Starts text = (b : ℕ) × (more : Bytes) × (text ≡ b ∷ more) × ((b == 42) ≡ false)
+Starts text = (b : ℕ) × (more : Bytes) × (text ≡ b ∷ more) × ((b == byte "*") ≡ false)
 
 -- A text that does not start with `*` does not do so with more appended.
 Starts-append : (a b : Bytes) → Starts a → Starts (a ++ b)
 Starts-append a b s = (s.0, s.1 ++ b, ap (λ t. t ++ b) s.2, s.3)
 
 -- A text that satisfies `Starts` does not start with `*`, so `(` before it opens no comment.
-starts_no_star : (text rest : Bytes) → Starts text → HasNoStar (text ++ rest)
-starts_no_star text rest s = ap (λ t. first_byte_is (λ b. b == 42) (t ++ rest)) s.2 ∙ s.3
+no_star-at_start : (text rest : Bytes) → Starts text → HasNoStar (text ++ rest)
+no_star-at_start text rest s = ap (λ t. first_byte_is (λ b. b == byte "*") (t ++ rest)) s.2 ∙ s.3
 
 -- A run of name bytes that is not empty does not start with `*`.
 starts_name_run : (w : Bytes) → 0 < length w → AllByRecursion (λ b. is_name_byte b ≡ true) w → Starts w
@@ -77,11 +77,11 @@ starts_name_run [] some all = absurd (omega arith)
 starts_name_run (b ∷ w) some all = (b, w, refl, is_star-false_if_name_byte b all.0)
 
 -- Each name of a table of locations is a location's name.
-pub IsLocationName-in_table : (names : NameTable) (x : ℕ)
-    → AllByRecursion IsLocationName names
+pub IsUnreservedName-in_table : (names : NameTable) (x : ℕ)
+    → AllByRecursion IsUnreservedName names
     → x < length names
-    → IsLocationName (slice_index_or names x [])
-IsLocationName-in_table names x table h = All-from_recursion IsLocationName names table x [] h
+    → IsUnreservedName (slice_index_or names x [])
+IsUnreservedName-in_table names x table h = All-from_recursion IsUnreservedName names table x [] h
 
 -- The maximum length of the text of a register or a location, in bytes: a thread's number, `:` and a name.
 abbrev pub most_site_bytes : ℕ
@@ -101,7 +101,7 @@ abbrev pub most_quantifier_bytes : ℕ
 most_quantifier_bytes = 1 + most_name_bytes
 
 module _ (arch : Arch) (threads : ℕ) (few : threads ≤ most_threads) (names : NameTable)
-    (table : AllByRecursion IsLocationName names) where
+    (table : AllByRecursion IsUnreservedName names) where
   -- The text of a site spells its tokens, if no name byte follows.
   pub site_spelled : (s : Seen)
       → IsSeenInRange threads (length names) s
@@ -113,7 +113,7 @@ module _ (arch : Arch) (threads : ℕ) (few : threads ≤ most_threads) (names :
       (Spells-register arch r h.1)))
   site_spelled (Location x) h =
       Spells-mono most_site_bytes (omega arith)
-      (Spells-name (slice_index_or names x []) (IsLocationName-in_table names x table h).0)
+      (Spells-name (slice_index_or names x []) (IsUnreservedName-in_table names x table h).0)
 
   -- The text of a site does not start with `*`.
   site_starts : (s : Seen) → IsSeenInRange threads (length names) s → Starts (site_text arch names s)
@@ -122,10 +122,10 @@ module _ (arch : Arch) (threads : ℕ) (few : threads ≤ most_threads) (names :
       Starts-append (decimal t) (codes ":" ++ register_name arch r)
       (starts_name_run (decimal t) (decimal_nonempty t (omega (arith, small))) (decimal_is_name_run t small))
   site_starts (Location x) h =
-      let n = (IsLocationName-in_table names x table h).0 in
+      let n = (IsUnreservedName-in_table names x table h).0 in
       starts_name_run (slice_index_or names x []) n.0.not_empty n.0.are_name_bytes
 
-  -- The text of a site with its word, such as `x=1`, spells their tokens.
+  -- If a site is one of the test and n is a word, the text of the site with n, such as `x=1`, spells their tokens.
   pub assignment_spelled : (s : Seen) (n : ℕ)
       → IsSeenInRange threads (length names) s
       → n < 2 ^ 32
@@ -133,7 +133,7 @@ module _ (arch : Arch) (threads : ℕ) (few : threads ≤ most_threads) (names :
       (site_tokens arch (named_site names s) ++ value_tokens n)
   assignment_spelled s n h small =
       Spells-append (λ rest g. refl) (site_spelled s h)
-      (Spells-append_anything (Spells-mark 61 refl (λ c. refl) refl (omega arith)) (Spells-number n small))
+      (Spells-append_anything (Spells-single_symbol (byte "=") refl (λ c. refl) refl (omega arith)) (Spells-number n small))
 
   -- ---- propositions
 
@@ -142,8 +142,8 @@ module _ (arch : Arch) (threads : ℕ) (few : threads ≤ most_threads) (names :
   tokens_of ss = flat_map (terminal_tokens arch) ss
 
   -- The terminals of a formula, named by the table.
-  abbrev proposition_terms : Formula → List (Terminal AtomSyntax)
-  proposition_terms p = terminals_of (named_claim names) p
+  abbrev proposition_terminals : Formula → List (Terminal AtomSyntax)
+  proposition_terminals p = terminals_of (named_claim names) p
 
   -- The text spells the tokens of these terminals, with at most `most` bytes, and does not start with `*`.
   record IsSpelled (text : Bytes) (most : ℕ) (ss : List (Terminal AtomSyntax)) : Type 0 where
@@ -156,18 +156,18 @@ module _ (arch : Arch) (threads : ℕ) (few : threads ≤ most_threads) (names :
       → Spells Anything (most + 2) (parenthesized text) (tokens_of (enclosed ss))
   enclosed_spelled text most ss s =
       let opening =
-      Spells-symbol {F = HasNoStar} 40 refl (λ rest f. is_two_byte_symbol-false_after_parenthesis _) (λ rest f. f)
+      Spells-symbol {F = HasNoStar} (byte "(") refl (λ rest f. is_two_byte_symbol-false_after_parenthesis _) (λ rest f. f)
       (omega arith) in
-      let closing = Spells-mark 41 refl (λ c. refl) refl (omega arith) in
+      let closing = Spells-single_symbol (byte ")") refl (λ c. refl) refl (omega arith) in
       let whole : Spells Anything (1 + (most + 1)) (parenthesized text) ((codes "(" ∷ []) ++ (tokens_of ss ++ (codes ")" ∷ []))) =
       Spells-append
-      (λ rest g. subst HasNoStar (sym (append_assoc text (codes ")") rest)) (starts_no_star text (codes ")" ++ rest) s.starts))
+      (λ rest g. subst HasNoStar (sym (append_assoc text (codes ")") rest)) (no_star-at_start text (codes ")" ++ rest) s.starts))
       opening (Spells-append (λ rest g. refl) s.spells closing) in
       subst (λ (ts : TokenList). Spells Anything (most + 2) (parenthesized text) (codes "(" ∷ ts))
       (sym (flat_map-append (terminal_tokens arch) ss _)) (Spells-mono (most + 2) (omega arith) whole)
     where
       -- A `(` makes no symbol with the next byte.
-      is_two_byte_symbol-false_after_parenthesis : (rest : Bytes) → first_byte_is (is_two_byte_symbol 40) rest ≡ false
+      is_two_byte_symbol-false_after_parenthesis : (rest : Bytes) → first_byte_is (is_two_byte_symbol (byte "(")) rest ≡ false
       is_two_byte_symbol-false_after_parenthesis [] = refl
       is_two_byte_symbol-false_after_parenthesis (b ∷ rest) = refl
 
@@ -177,7 +177,7 @@ module _ (arch : Arch) (threads : ℕ) (few : threads ≤ most_threads) (names :
       → IsSpelled (parenthesized_if needed text) (most + 2) (enclosed_if needed ss)
   part_spelled true text most ss s = record {
     spells = Spells-before EndsName (λ rest g. tt) (enclosed_spelled text most ss s);
-    starts = (40, text ++ codes ")", refl, refl);
+    starts = (byte "(", text ++ codes ")", refl, refl);
   }
   part_spelled false text most ss s = record { spells = Spells-mono (most + 2) (omega arith) s.spells; starts = s.starts }
 
@@ -197,7 +197,7 @@ module _ (arch : Arch) (threads : ℕ) (few : threads ≤ most_threads) (names :
     starts = Starts-append a (between ++ b) s.starts;
   }
 
-  -- A greater bound on the length holds too.
+  -- A text that spells terminals in at most m bytes does so in at most n, if m ≤ n.
   IsSpelled-mono : (text : Bytes) (m n : ℕ) (ss : List (Terminal AtomSyntax)) → m ≤ n → IsSpelled text m ss → IsSpelled text n ss
   IsSpelled-mono text m n ss le s = record { spells = Spells-mono n le s.spells; starts = s.starts }
 
@@ -205,13 +205,13 @@ module _ (arch : Arch) (threads : ℕ) (few : threads ≤ most_threads) (names :
   Spells-conjunction : Spells Anything 4 (codes " /\\ ") (codes "/\\" ∷ [])
   Spells-conjunction =
       Spells-append_anything Spells-space
-      (Spells-append_anything (Spells-pair 47 92 refl (omega arith) (omega arith)) Spells-space)
+      (Spells-append_anything (Spells-pair (byte "/") (byte "\\") refl (omega arith) (omega arith)) Spells-space)
 
   -- ` \/ ` spells the sign of a disjunction.
   Spells-disjunction : Spells Anything 4 (codes " \\/ ") (codes "\\/" ∷ [])
   Spells-disjunction =
       Spells-append_anything Spells-space
-      (Spells-append_anything (Spells-pair 92 47 refl (omega arith) (omega arith)) Spells-space)
+      (Spells-append_anything (Spells-pair (byte "\\") (byte "/") refl (omega arith) (omega arith)) Spells-space)
 
   -- A keyword spells itself.
   word_spelled : (w : Bytes)
@@ -226,7 +226,7 @@ module _ (arch : Arch) (threads : ℕ) (few : threads ≤ most_threads) (names :
     starts = starts_name_run w name.0.not_empty name.0.are_name_bytes;
   }
 
-  -- The text of an atom spells its tokens.
+  -- If a site is one of the test and n is a word, the text of the atom that it has the word n spells the atom's tokens.
   claim_spelled : (s : Seen) (n : ℕ)
       → IsSeenInRange threads (length names) s
       → n < 2 ^ 32
@@ -247,26 +247,26 @@ module _ (arch : Arch) (threads : ℕ) (few : threads ≤ most_threads) (names :
   -- The text of a formula spells its tokens, within `most_node_bytes` for each node.
   proposition_spelled : (p : Formula)
       → MentionsOnly threads (length names) p
-      → IsSpelled (proposition_text arch names p) (most_node_bytes * nodes p) (proposition_terms p)
+      → IsSpelled (proposition_text arch names p) (most_node_bytes * nodes p) (proposition_terminals p)
   proposition_spelled Yes h = word_spelled (codes "true") (name_by_test _ refl) (Atom Always ∷ []) refl
   proposition_spelled No h = word_spelled (codes "false") (name_by_test _ refl) (Atom Never ∷ []) refl
   proposition_spelled (Reg_is t r n) h = claim_spelled (Register t r) n (h.0, h.1) h.2
   proposition_spelled (Word_is x n) h = claim_spelled (Location x) n h.0 h.1
   proposition_spelled (Not p) h =
-      let part = part_spelled _ (proposition_text arch names p) _ (proposition_terms p) (proposition_spelled p h) in
+      let part = part_spelled _ (proposition_text arch names p) _ (proposition_terminals p) (proposition_spelled p h) in
       record {
         spells =
             Spells-mono (most_node_bytes * suc (nodes p)) (omega arith)
-            (Spells-append_anything (Spells-mark 126 refl (λ c. refl) refl (omega arith)) part.spells);
-        starts = (126, parenthesized_if (is_binary p) (proposition_text arch names p), refl, refl);
+            (Spells-append_anything (Spells-single_symbol (byte "~") refl (λ c. refl) refl (omega arith)) part.spells);
+        starts = (byte "~", parenthesized_if (is_binary p) (proposition_text arch names p), refl, refl);
       }
   proposition_spelled (And p q) h =
-      let left = part_spelled _ (proposition_text arch names p) _ (proposition_terms p) (proposition_spelled p h.0) in
-      let right = part_spelled _ (proposition_text arch names q) _ (proposition_terms q) (proposition_spelled q h.1) in
+      let left = part_spelled _ (proposition_text arch names p) _ (proposition_terminals p) (proposition_spelled p h.0) in
+      let right = part_spelled _ (proposition_text arch names q) _ (proposition_terminals q) (proposition_spelled q h.1) in
       IsSpelled-mono _ _ (most_node_bytes * suc (nodes p + nodes q)) _ (omega arith)
       (joined_spelled _ _ _ _ _ _ (codes " /\\ ") Conjunction (λ rest. refl) Spells-conjunction left right)
   proposition_spelled (Or p q) h =
-      let right = part_spelled _ (proposition_text arch names q) _ (proposition_terms q) (proposition_spelled q h.1) in
+      let right = part_spelled _ (proposition_text arch names q) _ (proposition_terminals q) (proposition_spelled q h.1) in
       IsSpelled-mono _ _ (most_node_bytes * suc (nodes p + nodes q)) _ (omega arith)
       (joined_spelled _ _ _ _ _ _ (codes " \\/ ") Disjunction (λ rest. refl) Spells-disjunction (proposition_spelled p h.0) right)
 
@@ -274,13 +274,13 @@ module _ (arch : Arch) (threads : ℕ) (few : threads ≤ most_threads) (names :
   pub whole_spelled : (p : Formula)
       → MentionsOnly threads (length names) p
       → Spells Anything (most_node_bytes * nodes p + 2) (parenthesized (proposition_text arch names p))
-      (tokens_of (enclosed (proposition_terms p)))
-  whole_spelled p h = enclosed_spelled (proposition_text arch names p) _ (proposition_terms p) (proposition_spelled p h)
+      (tokens_of (enclosed (proposition_terminals p)))
+  whole_spelled p h = enclosed_spelled (proposition_text arch names p) _ (proposition_terminals p) (proposition_spelled p h)
 
 -- The text of a quantifier spells its tokens.
 pub quantifier_spelled : (q : Quant) → Spells EndsName most_quantifier_bytes (quantifier_text q) (quantifier_tokens q)
 quantifier_spelled Exists = Spells-mono most_quantifier_bytes (omega arith) (Spells-name _ (name_by_test _ refl))
 quantifier_spelled NotExists =
-    Spells-append_anything (Spells-mark 126 refl (λ c. refl) refl (omega arith))
+    Spells-append_anything (Spells-single_symbol (byte "~") refl (λ c. refl) refl (omega arith))
     (Spells-name (codes "exists") (name_by_test _ refl))
 quantifier_spelled Forall = Spells-mono most_quantifier_bytes (omega arith) (Spells-name _ (name_by_test _ refl))

@@ -1,4 +1,4 @@
--- The printed terminals of a formula, and that they say it. The crates that print tests use this.
+-- The printed terminals of a formula, and that they give this formula. The crates that print tests use this.
 use Rattle.lw_text.proofs.Common.{◌≡◌, Bool, true, false, List, [], ◌∷◌, ◌++◌, refl, if◌then◌else◌, Formula}
 use Rattle.lw_text.proofs.Common.{Yes, No, Reg_is, Word_is, Not, And, Or, is_or, is_binary, Terminal, Open}
 use Rattle.lw_text.proofs.Common.{Close, Negation, Conjunction, Disjunction, Atom, PartLevel}
@@ -9,7 +9,7 @@ use Rattle.lw_text.proofs.Common.{and, conjunction, or, IsProposition}
 abbrev pub enclosed : {A : Type 0} → List (Terminal A) → List (Terminal A)
 enclosed ss = Open ∷ (ss ++ Close ∷ [])
 
--- Terminals in parentheses where these are needed.
+-- Terminals in parentheses, if these are needed.
 abbrev pub enclosed_if : {A : Type 0} → Bool → List (Terminal A) → List (Terminal A)
 enclosed_if needed ss = if needed then enclosed ss else ss
 
@@ -27,59 +27,63 @@ terminals_of f (Or p q) = terminals_of f p ++ (Disjunction ∷ enclosed_if (is_o
 -- ---- what they say
 
 -- Terminals with formulas as atoms.
-abbrev Terms : Type 0
-Terms = List (Terminal Formula)
+abbrev FormulaTerminals : Type 0
+FormulaTerminals = List (Terminal Formula)
 
 -- The printed terminals of a formula.
-abbrev printed_terms : Formula → Terms
-printed_terms p = terminals_of (λ q. q) p
+abbrev printed_terminals : Formula → FormulaTerminals
+printed_terminals p = terminals_of (λ q. q) p
 
--- A formula's terminals derive it, at the level of its outermost connective.
-record Shown (p : Formula) : Type 0 where
-  part : is_binary p ≡ false → Derives PartLevel (printed_terms p) p
-  conjuncts : is_or p ≡ false → Derives ConjunctionLevel (printed_terms p) p
-  whole : Derives DisjunctionLevel (printed_terms p) p
+-- A formula's printed terminals derive it as a disjunction; as a conjunction, if it is no disjunction; and as a part, if it has
+-- no binary connective outermost.
+record IsDerivedByPrinted (p : Formula) : Type 0 where
+  at_part : is_binary p ≡ false → Derives PartLevel (printed_terminals p) p
+  at_conjunction : is_or p ≡ false → Derives ConjunctionLevel (printed_terminals p) p
+  at_disjunction : Derives DisjunctionLevel (printed_terminals p) p
 
--- A formula without a binary connective outermost is derived at every level.
-Shown-of_part : (p : Formula) → Derives PartLevel (printed_terms p) p → Shown p
-Shown-of_part p d = record { part = λ h. d; conjuncts = λ h. part d; whole = conjunction (part d) }
+-- A formula whose printed terminals derive it as a part is derived at every level.
+IsDerivedByPrinted-of_part : (p : Formula) → Derives PartLevel (printed_terminals p) p → IsDerivedByPrinted p
+IsDerivedByPrinted-of_part p d =
+    record { at_part = λ not_binary. d; at_conjunction = λ not_or. part d; at_disjunction = conjunction (part d) }
 
 -- A formula is derived as a part, in parentheses if its outermost connective is binary.
 Derives-enclosed_part : (p : Formula)
-    → Shown p
+    → IsDerivedByPrinted p
     → (b : Bool)
     → is_binary p ≡ b
-    → Derives PartLevel (enclosed_if b (printed_terms p)) p
-Derives-enclosed_part p s true e = parens s.whole
-Derives-enclosed_part p s false e = s.part e
+    → Derives PartLevel (enclosed_if b (printed_terminals p)) p
+Derives-enclosed_part p s true e = parens s.at_disjunction
+Derives-enclosed_part p s false e = s.at_part e
 
 -- A formula is derived as a conjunction, in parentheses if it is a disjunction.
 Derives-enclosed_conjuncts : (p : Formula)
-    → Shown p
+    → IsDerivedByPrinted p
     → (b : Bool)
     → is_or p ≡ b
-    → Derives ConjunctionLevel (enclosed_if b (printed_terms p)) p
-Derives-enclosed_conjuncts p s true e = part (parens s.whole)
-Derives-enclosed_conjuncts p s false e = s.conjuncts e
+    → Derives ConjunctionLevel (enclosed_if b (printed_terminals p)) p
+Derives-enclosed_conjuncts p s true e = part (parens s.at_disjunction)
+Derives-enclosed_conjuncts p s false e = s.at_conjunction e
 
 -- The printed terminals of each formula derive it.
-Shown-each : (p : Formula) → Shown p
-Shown-each Yes = Shown-of_part Yes atom
-Shown-each No = Shown-of_part No atom
-Shown-each (Reg_is t r n) = Shown-of_part (Reg_is t r n) atom
-Shown-each (Word_is x n) = Shown-of_part (Word_is x n) atom
-Shown-each (Not p) = Shown-of_part (Not p) (negated (Derives-enclosed_part p (Shown-each p) (is_binary p) refl))
-Shown-each (And p q) =
+IsDerivedByPrinted-each : (p : Formula) → IsDerivedByPrinted p
+IsDerivedByPrinted-each Yes = IsDerivedByPrinted-of_part Yes atom
+IsDerivedByPrinted-each No = IsDerivedByPrinted-of_part No atom
+IsDerivedByPrinted-each (Reg_is t r n) = IsDerivedByPrinted-of_part (Reg_is t r n) atom
+IsDerivedByPrinted-each (Word_is x n) = IsDerivedByPrinted-of_part (Word_is x n) atom
+IsDerivedByPrinted-each (Not p) =
+    IsDerivedByPrinted-of_part (Not p) (negated (Derives-enclosed_part p (IsDerivedByPrinted-each p) (is_binary p) refl))
+IsDerivedByPrinted-each (And p q) =
     let d =
-    and (Derives-enclosed_conjuncts p (Shown-each p) (is_or p) refl)
-    (Derives-enclosed_part q (Shown-each q) (is_binary q) refl) in
-    record { part = λ h. absurd cc; conjuncts = λ h. d; whole = conjunction d }
-Shown-each (Or p q) = record {
-  part = λ h. absurd cc;
-  conjuncts = λ h. absurd cc;
-  whole = or (Shown-each p).whole (Derives-enclosed_conjuncts q (Shown-each q) (is_or q) refl);
+    and (Derives-enclosed_conjuncts p (IsDerivedByPrinted-each p) (is_or p) refl)
+    (Derives-enclosed_part q (IsDerivedByPrinted-each q) (is_binary q) refl) in
+    record { at_part = λ h. absurd cc; at_conjunction = λ not_or. d; at_disjunction = conjunction d }
+IsDerivedByPrinted-each (Or p q) = record {
+  at_part = λ h. absurd cc;
+  at_conjunction = λ h. absurd cc;
+  at_disjunction =
+      or (IsDerivedByPrinted-each p).at_disjunction (Derives-enclosed_conjuncts q (IsDerivedByPrinted-each q) (is_or q) refl);
 }
 
--- A formula in parentheses is a proposition that says it.
+-- The printed terminals of a formula, in parentheses, are a proposition of this formula.
 pub printed_proposition : (p : Formula) → IsProposition (enclosed (terminals_of (λ q. q) p)) p
-printed_proposition p = let s = Shown-each p in conjunction (part (parens s.whole))
+printed_proposition p = let derived = IsDerivedByPrinted-each p in conjunction (part (parens derived.at_disjunction))

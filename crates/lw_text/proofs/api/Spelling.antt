@@ -1,8 +1,8 @@
 -- Texts that spell tokens, if what follows them is right. The crates that print tests use this.
-use Rattle.lw_text.proofs.Common.{most_name_bytes, ◌≡◌, ℕ, zero, suc, ◌+◌, ◌*◌, ◌<◌, ◌≤◌, ◌^◌, inl, inr, Bool}
-use Rattle.lw_text.proofs.Common.{true, false, not, List, [], ◌∷◌, ◌++◌, length, refl, sym, ap, ◌∙◌, subst}
-use Rattle.lw_text.proofs.Common.{arith, append_assoc, append-nil, length-append, ◌==◌, ◌&&◌, nat_lt, IsUtf8}
-use Rattle.lw_text.proofs.Common.{IsAscii, decimal, ltb-true, AllByRecursion, list_all, AllDigits}
+use Rattle.lw_text.proofs.Common.{byte, most_name_bytes, ◌≡◌, ℕ, zero, suc, ◌+◌, ◌*◌, ◌<◌, ◌≤◌, ◌^◌, inl, inr}
+use Rattle.lw_text.proofs.Common.{Bool, true, false, not, List, [], ◌∷◌, ◌++◌, length, refl, sym, ap, ◌∙◌}
+use Rattle.lw_text.proofs.Common.{subst, arith, append_assoc, append-nil, length-append, ◌==◌, ◌&&◌, nat_lt}
+use Rattle.lw_text.proofs.Common.{IsUtf8, IsAscii, decimal, ltb-true, AllByRecursion, list_all, AllDigits}
 use Rattle.lw_text.proofs.Common.{digits_value_after, digit_value, is_ascii_digit, not-true, and_parts}
 use Rattle.lw_text.proofs.Common.{nat_tests, decimal_is_IsNumeral, length-decimal-le, IsUtf8-nil}
 use Rattle.lw_text.proofs.Common.{IsUtf8-append, IsUtf8-from_ascii, digit_from_value, Bytes, TokenList}
@@ -27,11 +27,11 @@ IsBlankNext rest = first_byte_is is_blank rest ≡ true
 
 -- No `*` follows, so `(` opens no comment.
 abbrev pub HasNoStar : Bytes → Type 0
-HasNoStar rest = first_byte_is (λ b. b == 42) rest ≡ false
+HasNoStar rest = first_byte_is (λ b. b == byte "*") rest ≡ false
 
 -- No byte follows that makes a two-byte symbol with `:`.
 abbrev pub HasNoEquals : Bytes → Type 0
-HasNoEquals rest = first_byte_is (is_two_byte_symbol 58) rest ≡ false
+HasNoEquals rest = first_byte_is (is_two_byte_symbol (byte ":")) rest ≡ false
 
 -- The text spells these tokens before any text of which `Follows` holds; it is UTF-8 and has at most `most` bytes.
 pub record Spells (Follows : Bytes → Type 0) (most : ℕ) (text : Bytes) (tokens : TokenList) : Type 0 where
@@ -71,22 +71,22 @@ pub Spells-before : {F : Bytes → Type 0} (G : Bytes → Type 0) {m : ℕ} {a :
     → Spells G m a ts
 Spells-before G less p = record { before = λ rest more g t. p.before rest more (less rest g) t; short = p.short; utf8 = p.utf8 }
 
--- A text of at most m bytes has at most n bytes, if n is greater.
+-- What spells tokens in at most m bytes does so in at most n, if m ≤ n.
 pub Spells-mono : {F : Bytes → Type 0} {m : ℕ} {a : Bytes} {ts : TokenList} (n : ℕ) → m ≤ n → Spells F m a ts → Spells F n a ts
 Spells-mono n le p = record { before = p.before; short = omega (arith, p.short, le); utf8 = p.utf8 }
 
 -- A text that spells tokens before the end is, as a whole, these tokens.
-pub Spells-whole : {F : Bytes → Type 0} {m : ℕ} {a : Bytes} {ts : TokenList} → F [] → Spells F m a ts → Tokens a ts
-Spells-whole {a = a} {ts = ts} end p =
+pub Tokens-Spells : {F : Bytes → Type 0} {m : ℕ} {a : Bytes} {ts : TokenList} → F [] → Spells F m a ts → Tokens a ts
+Tokens-Spells {a = a} {ts = ts} end p =
     subst (λ (t : Bytes). Tokens t ts) (append-nil a)
     (subst (λ (us : TokenList). Tokens (a ++ []) us) (append-nil ts) (p.before [] [] end none))
 
 -- ---- blanks
 
--- A blank before a text does not change its tokens.
-tokens-blank : (b : ℕ) (rest : Bytes) (ts : TokenList) → is_blank b ≡ true → Tokens rest ts → Tokens (b ∷ rest) ts
-tokens-blank b rest [] h t = blank h t
-tokens-blank b rest (u ∷ us) h t = (t.0, (blank h t.1.0, t.1.1), t.2)
+-- If a text is a list of tokens, it is the same list with a blank before it.
+Tokens-blank : (b : ℕ) (rest : Bytes) (ts : TokenList) → is_blank b ≡ true → Tokens rest ts → Tokens (b ∷ rest) ts
+Tokens-blank b rest [] h t = blank h t
+Tokens-blank b rest (u ∷ us) h t = (t.0, (blank h t.1.0, t.1.1), t.2)
 
 -- One byte below 128 is ASCII.
 IsAscii-one : (b : ℕ) → b < 128 → IsAscii (b ∷ [])
@@ -96,18 +96,18 @@ IsAscii-one b h (suc i) = omega arith
 -- A blank spells no token.
 pub Spells-blank : (b : ℕ) → is_blank b ≡ true → b < 128 → Spells Anything 1 (b ∷ []) []
 Spells-blank b h low = record {
-  before = λ rest more f t. tokens-blank b rest more h t;
+  before = λ rest more f t. Tokens-blank b rest more h t;
   short = omega arith;
   utf8 = IsUtf8-from_ascii (b ∷ []) (IsAscii-one b low);
 }
 
 -- A space spells no token.
-pub Spells-space : Spells Anything 1 (32 ∷ []) []
-Spells-space = Spells-blank 32 refl (omega arith)
+pub Spells-space : Spells Anything 1 (byte " " ∷ []) []
+Spells-space = Spells-blank (byte " ") refl (omega arith)
 
 -- The end of a line spells no token.
-pub Spells-newline : Spells Anything 1 (10 ∷ []) []
-Spells-newline = Spells-blank 10 refl (omega arith)
+pub Spells-newline : Spells Anything 1 (byte "\n" ∷ []) []
+Spells-newline = Spells-blank (byte "\n") refl (omega arith)
 
 -- A blank ends a name.
 pub blank_ends_name : (rest : Bytes) → IsBlankNext rest → EndsName rest
@@ -138,13 +138,13 @@ Spells-symbol b single alone plain low = record {
 }
 
 -- A one-byte symbol that starts no two-byte symbol and no comment spells one token.
-pub Spells-mark : (b : ℕ)
+pub Spells-single_symbol : (b : ℕ)
     → is_one_byte_symbol b ≡ true
     → ((c : ℕ) → is_two_byte_symbol b c ≡ false)
-    → (b == 40) ≡ false
+    → (b == byte "(") ≡ false
     → b < 128
     → Spells Anything 1 (b ∷ []) ((b ∷ []) ∷ [])
-Spells-mark b single alone plain low =
+Spells-single_symbol b single alone plain low =
     Spells-symbol b single (λ rest f. no_two_byte_symbol-first_byte b alone rest) (λ rest f. rw plain refl) low
 
 -- Two bytes below 128 are ASCII.
@@ -226,7 +226,7 @@ decimal_is_number n h =
     let is = decimal_is_IsNumeral n (omega (arith, h)) in (h, inl (is.0.0, Digits-AllDigits 0 (decimal n) n is.0.1 is.1))
 
 -- A decimal digit is a name byte.
-digit_is_name_byte : (d : ℕ) → (48 ≤ d) × (d ≤ 57) → is_name_byte d ≡ true
+digit_is_name_byte : (d : ℕ) → (byte "0" ≤ d) × (d ≤ byte "9") → is_name_byte d ≡ true
 digit_is_name_byte d h = grind (arith, nat_tests)
 
 -- All decimal digits are name bytes.

@@ -78,7 +78,7 @@ resolved_head arch name s =
       init_words = map (word_at s.initializers) (locations (length s.locs));
       listed = filter (is_listed s.listed) (all_registers s.threads ++ locations (length s.locs));
       quant = s.quant;
-      condition = formula_of s.prop;
+      proposition = formula_of s.prop;
     }
 
 -- The syntax of a `ParsedBody` in memory, by the names of its table, whose proposition was parsed from these terminals.

@@ -5,6 +5,7 @@ use Rattle.lw_text.proofs.Common.{◌∙◌, length, ap, arith}
 use Rattle.lw_text.proofs.RowColumns.{Filling-none, Filling-in_range, Filling-push, Filling-all}
 use Rattle.lw_text.proofs.columns.add_row.Goals as goal
 
+-- Before the first round no column has got its cell.
 pub loop-index-init : goal.loop-index-init
 loop-index-init g c =
     let given = c.into_iter-index-iterator.ensures.into_iter_gives in

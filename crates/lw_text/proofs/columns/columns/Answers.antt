@@ -20,6 +20,7 @@ add_row-requires g c =
     row_length c.args.threads c.args.rows c.loop-row.yielded _ _ _ c.requires inv.rest c.in-Some.ensures.steps.0
     ∙ sym (ap length inv.made ∙ length-map-range_with_len (column c.loop-row.yielded) 0 c.args.threads)
 
+-- A round adds one row to the columns of the rows before it.
 pub loop-row-preserved : goal.loop-row-preserved
 loop-row-preserved g c =
     let s = c.in-Some.ensures.steps in

@@ -13,6 +13,7 @@ returns-then-n-from-clause-none c =
     not-Digits-if_too_large c.loop-first.invariant.reads c.in-Some.ensures (omega arith)
     (omega (arith, next, c.if-n-from.true, c.from-in-Some-3.ensures))
 
+-- A digit after which the number is still a word extends the number.
 pub loop-first-preserved : goal.loop-first-preserved
 loop-first-preserved c =
     let digit : c.from-in-Some-2.result ≡ digit_value c.in-Some.first =

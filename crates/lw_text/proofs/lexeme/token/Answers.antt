@@ -25,6 +25,7 @@ returns-clause-none c =
     no_token c.in-Some.ensures (sym c.is_name_byte.ensures ∙ c.if-is_name_byte.false)
     (λ p. false≢true (c.if-begins_short.ensures.1 p)) (λ b d more e p. false≢true (c.if-begins_long.ensures.1 (b, d, more, e, p)))
 
+-- A run that is a name or a number is the token.
 pub returns-then-is_name_byte-clause-found : goal.returns-then-is_name_byte-clause-found
 returns-then-is_name_byte-clause-found c =
     let same = c.ascii_text-text.ensures in

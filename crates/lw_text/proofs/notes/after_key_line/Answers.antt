@@ -25,6 +25,7 @@ returns-in-Some c =
     KeyLine-of_parts c.args.bytes.now _ _ _ _ k.parts k.bytes_pass k.longest s.parts s.bytes_pass s.longest _ _ _
     (grind (arith, nat_tests)) c.in-Some.ensures u.parts u.bytes_pass u.longest
 
+-- If no `=` follows the key and its spaces, there is no line `Key=value`, and it fails there.
 pub returns-in-None : goal.returns-in-None
 returns-in-None c =
     let k = c.prefix_of_kind.ensures in

@@ -18,6 +18,7 @@ returns-in-Some-split c =
     let u = c.prefix_of_kind.ensures in
     inl (Quoted-up_to_quote _ _ _ _ c.in-Some.ensures u.parts u.bytes_pass u.longest _ _ c.in-Some-split.ensures)
 
+-- If no second quote follows, there is no quoted text, so no note, and it fails at the end.
 pub returns-in-None : goal.returns-in-None
 returns-in-None c =
     let u = c.prefix_of_kind.ensures in (

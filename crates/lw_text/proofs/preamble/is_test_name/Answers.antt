@@ -6,6 +6,7 @@ use Rattle.lw_text.proofs.Starts.{whole_list-at_end}
 use Rattle.lw_text.proofs.api.Spelling.{list_all-AllByRecursion}
 use Rattle.lw_text.proofs.preamble.is_test_name.Goals as goal
 
+-- At the loop's end the bytes are a test's name exactly if there is one at least.
 pub returns : goal.returns
 returns c = (
   λ e. record {

@@ -2,7 +2,7 @@
 -- in this order: the text has no frame; the place is within the text; the text fails there, for this cause (`in_preamble`, or
 -- `in_body` with `FailsInBody-StreamFails`). At `in_err-stream` and at `in_err-finish` memory ran out, and there is nothing more to show
 -- (`MatchResult-out_of_memory`). If the tokens end early or are no test, the text has no frame by `no_frame-if_no_test` and
--- `HasNoTest-if_no_tokens_or_no_parse`. In each answer `whole` says that the lexer's text is the argument. The head computed in memory is
+-- `HasNoTest-if_no_tokens_or_no_parse`. Where an answer has `whole`, it says that the lexer's text is the argument. The head computed in memory is
 -- the head that the text says (`resolved_head-head_of_syntax`).
 use Rattle.lw_text.proofs.Common.{◌≡◌, ◌≢◌, ℕ, ◌≤◌, length, sym, ap, ◌∙◌, subst, arith, All, IfSome, Option}
 use Rattle.lw_text.proofs.Common.{None, Some, MatchOption, Result, IsErrAnd, MatchResult, Fault, Memory}
@@ -19,7 +19,7 @@ use Rattle.lw_text.proofs.Whole.{no_frame-if_no_test, HasNoTest-if_no_tokens_or_
 use Rattle.lw_text.proofs.Faults.{MatchResult-weakened_error, Err-clause_known}
 use Rattle.lw_text.proofs.read.read_text.Goals as goal
 
--- If a result is `None` for one reason, or a value with Q, and Q implies R, each value has R.
+-- If an option satisfies `MatchOption` with Q of its value, and Q implies R, the value, if there is one, has R.
 IfSome-of_match : {F : Type 0} (P : Type 0) (Q R : F → Type 0) (o : Option F)
     → MatchOption o P Q
     → ((f : F) → Q f → R f)
@@ -27,7 +27,7 @@ IfSome-of_match : {F : Type 0} (P : Type 0) (Q R : F → Type 0) (o : Option F)
 IfSome-of_match P Q R None p h = tt
 IfSome-of_match P Q R (Some f) q h = h f q
 
--- The first two of what holds of a fault.
+-- If an option satisfies `MatchOption` with A, B and C of its value, it does with A and B.
 MatchOption-first_two : {F : Type 0} (P : Type 0) (A B C : F → Type 0) (o : Option F)
     → MatchOption o P (λ f. A f × B f × C f)
     → MatchOption o P (λ f. A f × B f)
@@ -41,6 +41,7 @@ MatchResult-out_of_memory : {T : Type 0} (P : T → Type 0) (X : Type 0) (Y : Fa
 MatchResult-out_of_memory P X Y len r h =
     MatchResult-weakened_error P _ r h (λ f k. (λ other. absurd (other k.1), omega (arith, k.0), λ other. absurd (other k.1)))
 
+-- If the preamble fails, the text has no frame and fails where the preamble does.
 pub returns-in_err-preamble : goal.returns-in_err-preamble
 returns-in_err-preamble g c = Err-clause_known _ _ _ c.from_residual.ensures.1 (
   λ _ frame h.
@@ -65,6 +66,7 @@ body-read-requires-clause-fault g c =
     let whole = c.in_ok-preamble.ensures.same ∙ c.new-lexer.ensures.text in
     IfSome-of_match _ _ _ c.in_ok-stream.stream.fault c.in_ok-stream.ensures.0 (λ f h. omega (arith, h.1, ap length whole))
 
+-- If the body fails, the text has no frame and fails where the body does.
 pub returns-in_err-body : goal.returns-in_err-body
 returns-in_err-body g c =
     let arch = c.in_ok-preamble.preamble.arch in
@@ -98,6 +100,7 @@ finish-requires-clause-within g c =
 TestFrame-eq : (f : TestFrame) {h : TestHead} {a : CellGrid} → f.head ≡ h → f.cells ≡ a → f ≡ record { head = h; cells = a }
 TestFrame-eq f p q = rw (← p, ← q)
 
+-- The parts that were read are the frame of the text, and its cells those of the token stream.
 pub returns : goal.returns
 returns g c =
     let arch = c.in_ok-preamble.preamble.arch in
@@ -124,11 +127,11 @@ returns g c =
         rest = rest;
         tokens = token_texts all.tokens;
         syntax = syntax_of body says.terminals;
-        condition = formula_of body.parts.prop;
+        proposition = formula_of body.parts.prop;
         preamble = preamble;
         stream = Tokens-with_spans (length c.args.text.now) rest all.tokens stream;
         parts = says.parts;
-        proposition = body_proposition arch (token_texts all.tokens) body says;
+        is_proposition = body_proposition arch (token_texts all.tokens) body says;
         frame_is = TestFrame-eq _ head cells;
       },
       record {

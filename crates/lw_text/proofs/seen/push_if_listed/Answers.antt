@@ -5,7 +5,7 @@ use Rattle.lw_text.proofs.Common.{is_listed, list_any, list_any_at, list_any_mor
 use Rattle.lw_text.proofs.Common.{take_all, ◌∙◌}
 use Rattle.lw_text.proofs.seen.push_if_listed.Goals as goal
 
--- No element up to the next index passes the test.
+-- If neither an element before index i nor the one at i passes the test, none before `i + 1` does.
 list_any-take_next : {X : Type 0} (p : X → Bool) (xs : List X) (i : ℕ) (x : X)
     → list_any p (take i xs) ≡ false
     → i < length xs

@@ -5,6 +5,7 @@ use Rattle.lw_text.proofs.Common.{Register}
 use Rattle.lw_text.proofs.Starts.{filtered_seen-push}
 use Rattle.lw_text.proofs.seen.push_listed_registers.Goals as goal
 
+-- A round appends the register of the loop's index, if it is listed.
 pub loop-reg-preserved : goal.loop-reg-preserved
 loop-reg-preserved g c =
     let i = c.loop-reg.reg-index in

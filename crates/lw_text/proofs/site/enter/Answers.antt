@@ -10,14 +10,14 @@ returns-in-None g c =
     λ _. (
       λ _ few. absurd (omega (arith, many, few)),
       refl,
-      inr (c.if-not-is_location_name.ensures.0 refl, λ few. absurd (omega (arith, many, few)), refl),
+      inr (c.if-not-is_unreserved_name.ensures.0 refl, λ few. absurd (omega (arith, many, few)), refl),
     )
 
 pub returns-in-Some : goal.returns-in-Some
 returns-in-Some g c =
     let index = rw c.in-Some.is at c.in_ok-loc.ensures.index in
     let names = rw c.in-Some.is at c.in_ok-loc.ensures.names in (
-      c.if-not-is_location_name.ensures.0 refl,
+      c.if-not-is_unreserved_name.ensures.0 refl,
       insert_name-get c.args.locs.now c.find_or_add.new.self c.in-Some.loc c.args.name.now names index,
       names,
       c.in_ok-loc.ensures.table.bounded,

@@ -7,11 +7,12 @@ use Rattle.lw_text.proofs.Common.{most_locations, ℕ, ◌≡◌, ◌<◌, ◌�
 use Rattle.lw_text.proofs.Common.{None, refl, subst, ap, arith, remaining_texts, remaining, IsSuffix, IsSite}
 use Rattle.lw_text.proofs.Common.{IsInitializer, TokenList, Unexpected, named_initializer, site_by_name, ◌∷◌}
 use Rattle.lw_text.proofs.Common.{codes, map, FailsInAssignment, FailsInInitializers, FailsInBlock, no_brace}
-use Rattle.lw_text.proofs.Common.{in_initializers, in_element, no_mark, in_elements_after, in_site, in_value}
-use Rattle.lw_text.proofs.Common.{TextCause, BeginsInitializer}
+use Rattle.lw_text.proofs.Common.{in_initializers, in_element, no_separator, in_elements_after, in_site}
+use Rattle.lw_text.proofs.Common.{in_value, TextCause, BeginsInitializer}
 use Rattle.lw_text.proofs.Faults.{Err-clause_known, MatchResult-Memory_error, IsParserCause-Unexpected}
 use Rattle.lw_text.proofs.Lists.{IsSuffix-join, tail-shorter}
-use Rattle.lw_text.proofs.Atoms.{brace, semicolon, IsSite-shorter, Value-shorter, no_initializer-if_no_value}
+use Rattle.lw_text.proofs.SitesAndValues.{brace, semicolon, IsSite-shorter, Value-shorter}
+use Rattle.lw_text.proofs.SitesAndValues.{no_initializer-if_no_value}
 use Rattle.lw_text.proofs.SiteLists.{initializer_kind, no_block-if_no_initializer}
 use Rattle.lw_text.proofs.Failures.{Fails-later, BeginInitializers-push, ParsesMany-of_read}
 use Rattle.lw_text.proofs.Readings.{AreReadElements-none, IsReadList-at_close, AreReadElements-next}
@@ -37,6 +38,7 @@ initializers-init g c = rw c.new-initializers.ensures (record {
   fails = λ rest cause w. in_initializers c.in_ok-expect.ensures.ok w;
 })
 
+-- If `}` is next, the initializers read are the whole block.
 pub returns-then-accept : goal.returns-then-accept
 returns-then-accept g c =
     let whole = IsReadList-at_close c.initializers.invariant.read _ (c.accept.ensures.taken c.if-accept.true) in
@@ -54,7 +56,7 @@ remaining_texts-if_no_brace : (g : Over) (c : After-parse_site g)
     → remaining_texts c.accept.new.self ≡ remaining_texts c.initializers.self
 remaining_texts-if_no_brace g c = ap remaining_texts (c.accept.ensures.kept c.if-accept.false)
 
--- An initializer was read.
+-- The initializer whose site and word were read is one more element of the list.
 IsReadElement-initializer_read : (g : Over) (c : In_ok-word g)
     → IsReadElement (initializer_kind c.args.arch) c.initializers.locs c.parse_site.new.locs (remaining_texts c.initializers.self)
     (remaining_texts c.parse_value.new.self)
@@ -68,7 +70,7 @@ IsReadElement-initializer_read g c = record {
       (remaining_texts c.parse_site.new.self, rw same at c.in_ok-site.ensures.parsed, c.in_ok-word.ensures.0));
 }
 
--- What remains after the initializer and its mark is a suffix of the text.
+-- What remains after the initializer and the token that follows it is a suffix of what remained at the call.
 IsSuffix-after_initializer : (g : Over) (c : In_ok-expect_either g)
     → IsSuffix (remaining c.args.self.now) (remaining c.expect_either.new.self)
 IsSuffix-after_initializer g c =
@@ -86,7 +88,7 @@ FailsInBlock-initializer g c rest cause w =
     (subst (λ ts. FailsInAssignment c.args.arch None c.initializers.locs Unexpected ts rest cause)
     (remaining_texts-if_no_brace g c) w))
 
--- What remains before an initializer is a suffix of the text.
+-- What remains before an initializer is a suffix of what remained at the call.
 IsSuffix-before_initializer : (g : Over) (c : After-parse_site g)
     → IsSuffix (remaining c.args.self.now) (remaining c.accept.new.self)
 IsSuffix-before_initializer g c = IsSuffix-join c.initializers.invariant.advances c.accept.ensures.advances
@@ -120,6 +122,7 @@ BeginsInitializer-at_place g c =
       );
     }
 
+-- If no site can be read, no initializer follows, so there is no block, and it fails where the site does.
 pub returns-in_err-site : goal.returns-in_err-site
 returns-in_err-site g c =
     let d = (goal.at.returns-in_err-site g c).After-parse_site in
@@ -131,6 +134,7 @@ returns-in_err-site g c =
       Fails-later (IsSuffix-before_initializer g d) (λ rest cause w. FailsInBlock-initializer g d rest cause (in_site w)) lost.1,
     ))
 
+-- If no value follows the site, no initializer follows, so there is no block, and it fails where the value does.
 pub returns-in_err-word : goal.returns-in_err-word
 returns-in_err-word g c =
     let d = (goal.at.returns-in_err-word g c).After-parse_site in
@@ -147,6 +151,7 @@ returns-in_err-word g c =
           c.in_ok-site.ensures.bounded) w)) c.in_err-word.ensures.1,
     ))
 
+-- If neither `;` nor `}` follows the initializer, there is no block, and it fails there.
 pub returns-in_err-expect_either : goal.returns-in_err-expect_either
 returns-in_err-expect_either g c =
     let d = goal.at.returns-in_err-expect_either g c in
@@ -159,18 +164,19 @@ returns-in_err-expect_either g c =
           (IsSuffix-join (IsSuffix-before_initializer g d.After-parse_site)
           (IsSuffix-join c.in_ok-site.ensures.advances c.in_ok-word.ensures.1)) (λ rest cause w.
           c.initializers.invariant.fails rest cause
-          (no_mark (c.accept.ensures.other c.if-accept.false) initializer.parsed
+          (no_separator (c.accept.ensures.other c.if-accept.false) initializer.parsed
           (subst (λ (table : NameTable). length table ≤ most_locations) initializer.grows c.in_ok-site.ensures.bounded) w))
           c.in_err-expect_either.ensures.2,
     ))
 
+-- If `}` follows the initializer, the initializers read and this one are the whole block.
 pub returns-then-branch : goal.returns-then-branch
 returns-then-branch g c =
     let d = goal.at.returns-then-branch g c in
-    let mark = rw c.if-branch.true at c.in_ok-expect_either.ensures.0 in
+    let punctuation = rw c.if-branch.true at c.in_ok-expect_either.ensures.0 in
     let whole =
     IsReadList-after_last c.initializers.invariant.read (IsReadElement-initializer_read g d.In_ok-word)
-    (remaining_texts c.expect_either.new.self) mark in
+    (remaining_texts c.expect_either.new.self) punctuation in
     rw c.in_ok-push.ensures.ok (record {
       parsed = whole.whole;
       names_are = whole.names_are;
@@ -186,21 +192,22 @@ lt_trans k m n p q = omega arith
 
 pub initializers-smaller : goal.initializers-smaller
 initializers-smaller g c =
-    let mark = rw c.if-branch.false at c.in_ok-expect_either.ensures.0 in
+    let punctuation = rw c.if-branch.false at c.in_ok-expect_either.ensures.0 in
     let same = remaining_texts-if_no_brace g (goal.at.initializers-smaller g c).After-parse_site in
     tail-shorter _ _ _ _
     (rw same at
     (lt_trans _ _ _ (Value-shorter _ _ _ c.in_ok-word.ensures.0) (IsSite-shorter c.args.arch _ _ _ c.in_ok-site.ensures.parsed)))
-    mark
+    punctuation
 
+-- If `;` follows the initializer, it is one more initializer read.
 pub initializers-preserved : goal.initializers-preserved
 initializers-preserved g c =
     let d = goal.at.initializers-preserved g c in
-    let mark = rw c.if-branch.false at c.in_ok-expect_either.ensures.0 in
+    let punctuation = rw c.if-branch.false at c.in_ok-expect_either.ensures.0 in
     rw c.in_ok-push.ensures.ok (record {
       read =
           AreReadElements-next c.initializers.invariant.read (IsReadElement-initializer_read g d.In_ok-word)
-          (remaining_texts c.expect_either.new.self) mark;
+          (remaining_texts c.expect_either.new.self) punctuation;
       advances = IsSuffix-after_initializer g d.In_ok-expect_either;
       places = BeginInitializers-push _ _ [] _ _ c.initializers.invariant.places (BeginsInitializer-at_place g d.In_ok-word);
       bounded = c.in_ok-site.ensures.bounded;
@@ -209,7 +216,7 @@ initializers-preserved g c =
           (in_elements_after (c.accept.ensures.other c.if-accept.false)
           (subst (λ mid.
           IsInitializer c.args.arch (remaining_texts c.initializers.self) (named_initializer c.parse_site.new.locs
-          (record { at = c.place-at.result; site = c.in_ok-site.site; word = c.in_ok-word.word })) mid) mark
+          (record { at = c.place-at.result; site = c.in_ok-site.site; word = c.in_ok-word.word })) mid) punctuation
           (IsReadElement-initializer_read g d.In_ok-word).parsed)
           (subst (λ (table : NameTable). length table ≤ most_locations) (IsReadElement-initializer_read g d.In_ok-word).grows
           c.in_ok-site.ensures.bounded)

@@ -13,7 +13,7 @@ use Rattle.lw_text.proofs.api.Places.{texts_placed}
 use Rattle.lw_text.proofs.Bodies.{HasSyntax-of_parts}
 use Rattle.lw_text.proofs.Whole.{names_of_initializers, HasRoomFor-initial_block, no_test-if_no_header}
 use Rattle.lw_text.proofs.Whole.{no_test-if_thread_is_missing, no_test-if_no_rows, no_test-if_no_question}
-use Rattle.lw_text.proofs.Whole.{header_has_thread, Rows-even, ThreadExists-all_initializers}
+use Rattle.lw_text.proofs.Whole.{header_has_thread, row_lengths-Rows, ThreadExists-all_initializers}
 use Rattle.lw_text.proofs.Whole.{site_is_register-missing_thread, ReadsBlock-ParsedBlock}
 use Rattle.lw_text.proofs.Failures.{Fails-later, BeginsInitializer-at}
 use Rattle.lw_text.proofs.Faults.{Err-clause_known}
@@ -51,6 +51,7 @@ reads_header g c = record {
   header = c.in_ok-threads.ensures.0;
 }
 
+-- If the thread of an initializer does not exist, the tokens are no test, and they fail at the first such initializer.
 pub returns-in_err-check_threads : goal.returns-in_err-check_threads
 returns-in_err-check_threads g c =
     let lost = rw c.as_slice.ensures at c.in_err-check_threads.ensures.place in
@@ -93,6 +94,7 @@ returns-in_err-rows g c = Err-clause_known _ _ _ c.from_residual-in_err-rows.ens
           (ThreadExists-all_initializers _ _ _ (rw c.as_slice.ensures at c.in_ok-check_threads.ensures.ok)) w) lost.1,
     ))
 
+-- If there is no question, the tokens are no test, and they fail where the question does.
 pub returns : goal.returns
 returns g c = λ ne.
     let lost = c.in-Err.ensures ne in
@@ -117,10 +119,11 @@ invariant_of-result g c =
     let rows = c.in_ok-rows.rows in
     record {
       some = header_has_thread _ _ c.in_ok-threads.threads c.in_ok-threads.ensures.0;
-      even = Rows-even c.in_ok-threads.threads rows _ _ c.in_ok-rows.ensures.0;
+      even = row_lengths-Rows c.in_ok-threads.threads rows _ _ c.in_ok-rows.ensures.0;
       low = omega (arith, length-map rows cells_texts, c.in_ok-rows.ensures.0.1);
     }
 
+-- If all parts were read, the body has the syntax of the tokens, and its rows are parts of them.
 pub returns-in-Ok : goal.returns-in-Ok
 returns-in-Ok g c =
     let threads = c.in_ok-threads.threads in

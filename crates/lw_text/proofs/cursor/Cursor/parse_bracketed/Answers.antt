@@ -3,7 +3,7 @@
 -- Each exit with a fault shows two things, in this order: that there is no such reading, and where it fails
 -- (`Fails-later`).
 use Rattle.lw_text.proofs.Common.{most_locations, cons-head_eq, ◌≤◌, length, NameTable, ◌∷◌, [], ◌∙◌, ap}
-use Rattle.lw_text.proofs.Common.{refl, sym, subst, IsLocationName, HasRoomForName, remaining}
+use Rattle.lw_text.proofs.Common.{refl, sym, subst, IsUnreservedName, HasRoomForName, remaining}
 use Rattle.lw_text.proofs.Common.{IsNoNewLocation, in_bracketed_name, no_bracket, BeginsAt}
 use Rattle.lw_text.proofs.Lists.{IsSuffix-join}
 use Rattle.lw_text.proofs.Faults.{Err-clause_known}
@@ -19,12 +19,13 @@ returns g c =
       IsSuffix-join (name ∷ [], c.in_ok-name.ensures.token) c.in_ok-expect.ensures.advances,
     )
 
+-- If the token is no name with room in the table, no location in brackets follows, and it fails at this token.
 pub returns-in_err-loc : goal.returns-in_err-loc
 returns-in_err-loc g c = Err-clause_known _ _ _ c.from_residual-in_err-loc.ensures.1 (λ ne.
     let lost = c.in_err-loc.ensures ne in (
       λ x rest e loc room.
           let same = cons-head_eq _ _ _ _ (sym c.in_ok-name.ensures.ok ∙ e) in
-          lost.0 (subst IsLocationName (sym same) loc) (subst (HasRoomForName c.args.locs.now) (sym same) room),
+          lost.0 (subst IsUnreservedName (sym same) loc) (subst (HasRoomForName c.args.locs.now) (sym same) room),
       Fails-here c.args.self.now _ (subst (BeginsAt (remaining c.args.self.now)) (sym lost.1) c.refusal-misfit.ensures.place)
           (in_bracketed_name (
             refl,

@@ -13,6 +13,7 @@ cell-smaller g c = omega (arith, ap length c.in_ok-token.ensures.token)
 pub cell-init : goal.cell-init
 cell-init g c = rw c.requires (record { tokens = refl; plain = tt })
 
+-- A token that ends no cell is one more token of the cell.
 pub cell-preserved : goal.cell-preserved
 cell-preserved g c =
     let token = c.in_ok-token.token in

@@ -4,7 +4,7 @@
 -- (`Fails-later`).
 use Rattle.lw_text.proofs.Common.{◌∷◌, ◌∙◌, ap, add-one, arith, codes, inl, inr, rules, subst, sym}
 use Rattle.lw_text.proofs.Common.{thread_name, remaining_texts, [], refl, Unexpected, FailsBefore}
-use Rattle.lw_text.proofs.Common.{FailsInHeader, in_next_thread, no_thread_name, no_thread_mark}
+use Rattle.lw_text.proofs.Common.{FailsInHeader, in_next_thread, no_thread_name, no_thread_separator}
 use Rattle.lw_text.proofs.Common.{too_many_threads}
 use Rattle.lw_text.proofs.Faults.{Err-clause_known}
 use Rattle.lw_text.proofs.Failures.{Fails-here, Fails-later, IfFirst-map, IfFirst-begins, IfFirst-begins_not}
@@ -12,6 +12,7 @@ use Rattle.lw_text.proofs.Headers.{NamesContinueAt-next, NamesContinueAt-none_ye
 use Rattle.lw_text.proofs.Lists.{IsSuffix-join}
 use Rattle.lw_text.proofs.cursor.Cursor.parse_header.Goals as goal
 
+-- A name with a `|` after it is one more name read.
 pub loop-thread-preserved : goal.loop-thread-preserved
 loop-thread-preserved c = record {
   names =
@@ -31,6 +32,7 @@ loop-thread-preserved c = record {
       (rw add-one at w));
 }
 
+-- If `;` follows the name, the names read and this one are the header.
 pub returns-then-branch : goal.returns-then-branch
 returns-then-branch c = (
   (
@@ -65,7 +67,7 @@ returns-in_err-expect_either c = Err-clause_known _ _ _ c.from_residual-in_err-e
   search rules,
   Fails-later (IsSuffix-join c.loop-thread.invariant.advances c.in_ok-expect.ensures.advances) (λ rest cause w.
       c.loop-thread.invariant.fails rest cause
-      (no_thread_mark (omega (arith, c.loop-thread-test.true))
+      (no_thread_separator (omega (arith, c.loop-thread-test.true))
       (c.in_ok-expect.ensures.ok ∙ ap (λ x. x ∷ remaining_texts c.expect.new.self) c.thread_name.ensures) w))
       c.in_err-expect_either.ensures.2,
 )

@@ -5,10 +5,10 @@
 use Rattle.lw_text.proofs.Common.{most_locations, ◌≤◌, length, NameTable, ◌≡◌, ◌∷◌, ◌∙◌, inl, inr, refl, ap}
 use Rattle.lw_text.proofs.Common.{subst, sym, codes, All-nil, IsIn, Some, IsSite, IsSuffix, site_by_name}
 use Rattle.lw_text.proofs.Common.{remaining, remaining_texts, FailsInSite, FailsInSites, no_list_bracket}
-use Rattle.lw_text.proofs.Common.{in_sites, in_element, no_mark, in_elements_after, Condition}
+use Rattle.lw_text.proofs.Common.{in_sites, in_element, no_separator, in_elements_after, Condition}
 use Rattle.lw_text.proofs.Failures.{Fails-later}
 use Rattle.lw_text.proofs.Lists.{IsSuffix-join, tail-unique, tail-shorter}
-use Rattle.lw_text.proofs.Atoms.{IsSite-shorter, bracket}
+use Rattle.lw_text.proofs.SitesAndValues.{IsSite-shorter, bracket}
 use Rattle.lw_text.proofs.Faults.{Err-clause_known, MatchResult-Memory_error}
 use Rattle.lw_text.proofs.SiteLists.{site_kind, ParsesList-Listed, HasRoomFor-map_same}
 use Rattle.lw_text.proofs.Readings.{AreReadElements-none, IsReadList-at_close, AreReadElements-next}
@@ -19,6 +19,7 @@ use Rattle.lw_text.proofs.cursor.Cursor.parse_listed.Given.{Over}
 use Rattle.lw_text.proofs.cursor.Cursor.parse_listed.Goals.{After-parse_site, In_ok-parse_site}
 use Rattle.lw_text.proofs.cursor.Cursor.parse_listed.Goals as goal
 
+-- Without the word `locations` the list is empty.
 pub returns-then-not-accept : goal.returns-then-not-accept
 returns-then-not-accept g c = rw c.new.ensures (record {
   parsed =
@@ -54,6 +55,7 @@ sites-init g c =
       fails = λ rest cause w. in_sites begins w;
     })
 
+-- If `]` is next, the sites read are the whole list.
 pub returns-then-accept : goal.returns-then-accept
 returns-then-accept g c =
     let whole = IsReadList-at_close c.sites.invariant.read _ (c.accept-in-sites.ensures.taken c.if-accept.true) in
@@ -71,7 +73,7 @@ remaining_texts-if_no_bracket : (g : Over) (c : After-parse_site g)
     → remaining_texts c.accept-in-sites.new.self ≡ remaining_texts c.sites.self
 remaining_texts-if_no_bracket g c = ap remaining_texts (c.accept-in-sites.ensures.kept c.if-accept.false)
 
--- A site was read.
+-- The site that was read is one more element of the list.
 IsReadElement-site_read : (g : Over) (c : In_ok-parse_site g)
     → IsReadElement (site_kind c.args.arch c.args.threads) c.sites.locs c.parse_site.new.locs (remaining_texts c.sites.self)
     (remaining_texts c.parse_site.new.self) c.in_ok-parse_site.field-0
@@ -84,11 +86,12 @@ IsReadElement-site_read g c = record {
       rw same at c.in_ok-parse_site.ensures.parsed);
 }
 
--- What remains before a site is a suffix of the text.
+-- What remains before a site is a suffix of what remained at the call.
 IsSuffix-before_site : (g : Over) (c : After-parse_site g)
     → IsSuffix (remaining c.args.self.now) (remaining c.accept-in-sites.new.self)
 IsSuffix-before_site g c = IsSuffix-join c.sites.invariant.advances c.accept-in-sites.ensures.advances
 
+-- If no site can be read, there is no list, and it fails where the site does.
 pub returns-in_err-parse_site : goal.returns-in_err-parse_site
 returns-in_err-parse_site g c =
     let d = (goal.at.returns-in_err-parse_site g c).After-parse_site in
@@ -107,6 +110,7 @@ returns-in_err-parse_site g c =
           (subst (λ ts. FailsInSite c.args.arch (Some c.args.threads) c.sites.locs Condition ts rest cause) same w))) lost.1,
     ))
 
+-- If neither `;` nor `]` follows the site, there is no list, and it fails there.
 pub returns-in_err-expect_either : goal.returns-in_err-expect_either
 returns-in_err-expect_either g c =
     let d = goal.at.returns-in_err-expect_either g c in
@@ -119,17 +123,18 @@ returns-in_err-expect_either g c =
           listed),
       Fails-later (IsSuffix-join (IsSuffix-before_site g d.After-parse_site) c.in_ok-parse_site.ensures.advances) (λ rest cause w.
           c.sites.invariant.fails rest cause
-          (no_mark (c.accept-in-sites.ensures.other c.if-accept.false) (site.parsed, site.fits)
+          (no_separator (c.accept-in-sites.ensures.other c.if-accept.false) (site.parsed, site.fits)
           (subst (λ (table : NameTable). length table ≤ most_locations) site.grows c.in_ok-parse_site.ensures.bounded) w))
           c.in_err-expect_either.ensures.2,
     ))
 
+-- If `]` follows the site, the sites read and this one are the whole list.
 pub returns-then-branch : goal.returns-then-branch
 returns-then-branch g c =
     let d = goal.at.returns-then-branch g c in
     let site = IsReadElement-site_read g d.In_ok-parse_site in
-    let mark = rw c.if-branch.true at c.in_ok-expect_either.ensures.0 in
-    let whole = IsReadList-after_last c.sites.invariant.read site (remaining_texts c.expect_either.new.self) mark in
+    let punctuation = rw c.if-branch.true at c.in_ok-expect_either.ensures.0 in
+    let whole = IsReadList-after_last c.sites.invariant.read site (remaining_texts c.expect_either.new.self) punctuation in
     rw c.in_ok-push.ensures.ok (record {
       parsed = inl whole.whole;
       threads_exist = whole.fits;
@@ -144,16 +149,17 @@ returns-then-branch g c =
 pub sites-smaller : goal.sites-smaller
 sites-smaller g c =
     let same = remaining_texts-if_no_bracket g (goal.at.sites-smaller g c).After-parse_site in
-    let mark = rw c.if-branch.false at c.in_ok-expect_either.ensures.0 in
-    tail-shorter _ _ _ _ (rw same at (IsSite-shorter c.args.arch _ _ _ c.in_ok-parse_site.ensures.parsed)) mark
+    let punctuation = rw c.if-branch.false at c.in_ok-expect_either.ensures.0 in
+    tail-shorter _ _ _ _ (rw same at (IsSite-shorter c.args.arch _ _ _ c.in_ok-parse_site.ensures.parsed)) punctuation
 
+-- If `;` follows the site, it is one more site read.
 pub sites-preserved : goal.sites-preserved
 sites-preserved g c =
     let d = goal.at.sites-preserved g c in
     let site = IsReadElement-site_read g d.In_ok-parse_site in
-    let mark = rw c.if-branch.false at c.in_ok-expect_either.ensures.0 in
+    let punctuation = rw c.if-branch.false at c.in_ok-expect_either.ensures.0 in
     rw c.in_ok-push.ensures.ok (record {
-      read = AreReadElements-next c.sites.invariant.read site (remaining_texts c.expect_either.new.self) mark;
+      read = AreReadElements-next c.sites.invariant.read site (remaining_texts c.expect_either.new.self) punctuation;
       advances =
           IsSuffix-join (IsSuffix-before_site g d.After-parse_site)
           (IsSuffix-join c.in_ok-parse_site.ensures.advances c.in_ok-expect_either.ensures.1);
@@ -163,7 +169,7 @@ sites-preserved g c =
           (in_elements_after (c.accept-in-sites.ensures.other c.if-accept.false) (
             subst (λ mid.
                 IsSite c.args.arch (remaining_texts c.sites.self) (site_by_name c.parse_site.new.locs c.in_ok-parse_site.field-0)
-                mid) mark site.parsed,
+                mid) punctuation site.parsed,
             site.fits,
           ) (subst (λ (table : NameTable). length table ≤ most_locations) site.grows c.in_ok-parse_site.ensures.bounded)
           (subst (λ names. FailsInSites c.args.arch c.args.threads rest cause names (remaining_texts c.expect_either.new.self))

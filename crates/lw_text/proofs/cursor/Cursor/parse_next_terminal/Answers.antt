@@ -13,6 +13,7 @@ use Rattle.lw_text.proofs.PropositionCases.{begins_part-if_allowed}
 use Rattle.lw_text.proofs.Faults.{MatchResult-Memory_error, Err-clause_known}
 use Rattle.lw_text.proofs.cursor.Cursor.parse_next_terminal.Goals as goal
 
+-- If the terminal is not possible in the reader's state, it is a `)` that closes nothing, and the proposition fails there.
 pub returns-then-not-branch : goal.returns-then-not-branch
 returns-then-not-branch g c =
     let refused = rw c.if-not-branch.true at c.in_ok-take.ensures in
@@ -36,6 +37,7 @@ returns-then-not-has_room g c =
           (too_many_nodes c.requires.some room.0 refl room.1 c.refusal-misfit.ensures.cause),
     )
 
+-- If no terminal can be read, none is possible next, and the proposition fails where the terminal does.
 pub returns-in_err-terminal : goal.returns-in_err-terminal
 returns-in_err-terminal g c = Err-clause_known _ _ _ c.from_residual.ensures.1 (λ ne.
     let lost = c.in_err-terminal.ensures ne in (

@@ -11,6 +11,7 @@ use Rattle.lw_text.proofs.TerminalLists.{no_terminal-if_site_has_no_value}
 use Rattle.lw_text.proofs.Faults.{Err-clause_known}
 use Rattle.lw_text.proofs.cursor.Cursor.parse_opening.Goals as goal
 
+-- If no site can be read, no atom follows, so no terminal that begins a part.
 pub returns-in_err-site : goal.returns-in_err-site
 returns-in_err-site g c =
     let same = c.parse_opening_keyword.ensures.kept c.in_default.is in
@@ -28,6 +29,7 @@ returns-in_err-site g c =
           )) lost.1,
     ))
 
+-- If no value follows the site, no atom follows, so no terminal.
 pub returns-in_err-word : goal.returns-in_err-word
 returns-in_err-word g c =
     let same = c.parse_opening_keyword.ensures.kept c.in_default.is in
@@ -46,6 +48,7 @@ returns-in_err-word g c =
       )) c.in_err-word.ensures.1,
     ))
 
+-- A site and its value are an atom, which begins a part.
 pub returns : goal.returns
 returns g c =
     let same = c.parse_opening_keyword.ensures.kept c.in_default.is in

@@ -5,6 +5,7 @@ use Rattle.lw_text.proofs.Common.{refl}
 use Rattle.lw_text.proofs.TerminalLists.{terminal_is_claim}
 use Rattle.lw_text.proofs.cursor.Cursor.parse_opening_keyword.Goals as goal
 
+-- If none of the five words is next, a terminal that begins a part is the atom of a site.
 pub returns-clause-none : goal.returns-clause-none
 returns-clause-none c =
     let one = c.if-accept.ensures.kept refl in

@@ -24,6 +24,7 @@ IsParserCause-unterminated = (λ e. cc, λ e. cc)
 pub refusal-requires : goal.refusal-requires
 refusal-requires g c = IsParserCause-unterminated
 
+-- At the end of the tokens they are the proposition of the reader's state, or none if it has no result.
 pub returns-then-self : goal.returns-then-self
 returns-then-self g c =
     let read = c.terminals.invariant.read in
@@ -65,6 +66,7 @@ terminals-init g c = record {
       (remaining_texts c.args.self.now)) c.new-reader.ensures w;
 }
 
+-- A terminal that is possible is one more terminal read.
 pub terminals-preserved : goal.terminals-preserved
 terminals-preserved g c =
     let counts = ap (λ (n : ℕ). c.terminals.nodes + n) c.nodes-nodes.ensures in

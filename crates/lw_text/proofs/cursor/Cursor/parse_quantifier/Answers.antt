@@ -18,6 +18,7 @@ returns-in_err-expect c = Err-clause_known _ _ _ c.from_residual.ensures.1 (
       c.in_err-expect.ensures.fails,
 )
 
+-- If none of the three words is next, there is no quantifier, and it fails there.
 pub returns-in_err-expect_either : goal.returns-in_err-expect_either
 returns-in_err-expect_either c =
     let kept = ap remaining_texts (c.accept.ensures.kept c.if-accept.false) in

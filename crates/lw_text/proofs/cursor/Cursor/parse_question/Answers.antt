@@ -3,7 +3,7 @@
 -- read what precedes it: a list of names is unique (`Listed-unique`). Each exit with a fault shows two things, in
 -- this order: that there is no such reading, and where it fails (`Fails-later`).
 use Rattle.lw_text.proofs.Common.{most_locations, ◌≤◌, length, NameTable, [], map, refl, sym, subst, arith}
-use Rattle.lw_text.proofs.Common.{IsDuplicateFree, IsDuplicateFree-insert_names, insert_names-longer}
+use Rattle.lw_text.proofs.Common.{IsDuplicateFree, IsDuplicateFree-insert_names, length_le-insert_names}
 use Rattle.lw_text.proofs.Common.{site_names, with_sites, sites_in, site_by_name, remaining_texts}
 use Rattle.lw_text.proofs.Common.{FailsInProposition, first_place, in_list, in_quantifier, in_proposition}
 use Rattle.lw_text.proofs.Bodies.{ParsedQuestion-of_parts}
@@ -19,10 +19,11 @@ returns-in_err-listed g c = Err-clause_known _ _ _ c.from_residual.ensures.1 (λ
     let lost = c.in_err-listed.ensures ne in (
       λ all q ss p condition fits.
           lost.0 all condition.after_list condition.lists condition.threads_exist
-          (omega (arith, fits.room, insert_names-longer (with_sites c.args.locs.now all) (site_names (sites_in ss)))),
+          (omega (arith, fits.room, length_le-insert_names (with_sites c.args.locs.now all) (site_names (sites_in ss)))),
       Fails-later ([], refl) (λ rest cause w. in_list w) lost.1,
     ))
 
+-- If no quantifier follows the list of names, there is no question: the list is unique.
 pub returns-in_err-quant : goal.returns-in_err-quant
 returns-in_err-quant g c = Err-clause_known _ _ _ c.from_residual-in_err-quant.ensures.1 (λ ne. (
   λ all q ss p condition fits.
@@ -42,6 +43,7 @@ parse_proposition-requires-clause-once g c =
     (IsDuplicateFree-insert_names _ (site_names (map (site_by_name c.parse_listed.new.locs) c.in_ok-listed.listed))
     c.requires.once)
 
+-- If no proposition follows the quantifier, there is no question: list and quantifier are unique.
 pub returns-in-Err : goal.returns-in-Err
 returns-in-Err g c = λ ne.
     let lost = c.in-Err.ensures ne in (

@@ -11,6 +11,7 @@ use Rattle.lw_text.proofs.Cells.{no_cells-if_no_mark, no_row-if_count_differs}
 use Rattle.lw_text.proofs.CellPlaces.{CellsRead-push, RowCells-CellsRead}
 use Rattle.lw_text.proofs.cursor.Cursor.parse_row.Goals as goal
 
+-- If no token left ends a cell, there is no row, and it fails at the end of the tokens.
 pub returns-in_err-mark : goal.returns-in_err-mark
 returns-in_err-mark g c = Err-clause_known _ _ _ c.from_residual.ensures.1 (λ ne.
     let lost = c.in_err-mark.ensures ne in
@@ -26,6 +27,7 @@ returns-in_err-mark g c = Err-clause_known _ _ _ c.from_residual.ensures.1 (λ n
       },
     ))
 
+-- If `;` ends the row with another number of cells than threads, there is no row of the test, and it fails at the `;`.
 pub returns-then-eq : goal.returns-then-eq
 returns-then-eq g c =
     let closed = RowCells-CellsRead c.cells.invariant.read c.in_ok-mark.ensures (sym c.eq.ensures ∙ c.if-eq.true) in
@@ -46,6 +48,7 @@ returns-then-eq g c =
       },
     )
 
+-- If `;` ends the row with a cell for each thread, the cells read are the row.
 pub returns-then-len-threads : goal.returns-then-len-threads
 returns-then-len-threads g c =
     let closed = RowCells-CellsRead c.cells.invariant.read c.in_ok-mark.ensures (sym c.eq.ensures ∙ c.if-eq.true) in (

@@ -21,6 +21,7 @@ returns-then-at_stop g c = (
   c.rows.invariant.advances,
 )
 
+-- If 64 rows have been read, and the next token does not end the rows, there are too many.
 pub returns-then-len-eq-MAX_ROWS : goal.returns-then-len-eq-MAX_ROWS
 returns-then-len-eq-MAX_ROWS g c =
     let full : length c.rows.rows ≡ most_rows = omega (arith, c.if-len-eq-MAX_ROWS.true, c.len.ensures) in
@@ -46,6 +47,7 @@ returns-in_err-parse_row g c = Err-clause_known _ _ _ c.from_residual.ensures.1 
 pub rows-smaller : goal.rows-smaller
 rows-smaller g c = Row-shorter c.args.threads _ _ _ c.in_ok-parse_row.ensures.0
 
+-- A row that follows is one more row read.
 pub rows-preserved : goal.rows-preserved
 rows-preserved g c = record {
   passed =

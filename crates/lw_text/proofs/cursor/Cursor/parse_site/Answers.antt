@@ -5,7 +5,7 @@
 use Rattle.lw_text.proofs.Common.{◌∷◌, [], ◌∙◌, inl, inr, refl, sym, ap, subst, arith, codes}
 use Rattle.lw_text.proofs.Common.{MatchResult-weaker, remaining, remaining_texts, ParsedSite, in_name}
 use Rattle.lw_text.proofs.Common.{in_brackets, no_thread, in_register, BeginsAt}
-use Rattle.lw_text.proofs.Atoms.{no_site-if_empty}
+use Rattle.lw_text.proofs.SitesAndValues.{no_site-if_empty}
 use Rattle.lw_text.proofs.Lists.{IsSuffix-join}
 use Rattle.lw_text.proofs.Texts.{bytes_equal, not-equal-if_bytes_differ}
 use Rattle.lw_text.proofs.Sites.{location_site_parsed, allowed_thread, not-ThreadAllowed-if_above_threads}
@@ -16,6 +16,7 @@ use Rattle.lw_text.proofs.Failures.{Fails-here, Fails-later, IfFirst-cons, IfFir
 use Rattle.lw_text.proofs.Failures.{BeginsAt-nil}
 use Rattle.lw_text.proofs.cursor.Cursor.parse_site.Goals as goal
 
+-- If the first token is no name of a location with room, no site follows, and it fails there.
 pub returns-in-Err : goal.returns-in-Err
 returns-in-Err g c = λ ne.
     let lost = c.in-Err.ensures ne in
@@ -37,6 +38,7 @@ returns-in_err-first g c =
           (in_name (IfFirst-nil _ _ none) (refl, IfFirst-nil _ _ none)),
     ))
 
+-- If no location in brackets follows `[`, no site does, and it fails where the location does.
 pub returns-in_err-inside : goal.returns-in_err-inside
 returns-in_err-inside g c = Err-clause_known _ _ _ c.from_residual-in_err-inside.ensures.1 (λ ne.
     let lost = c.in_err-inside.ensures ne in
@@ -56,6 +58,7 @@ returns-then-eq g c =
     ∙ ap (λ y. y ∷ remaining_texts c.take.new.self) (bytes_equal _ _ (sym c.eq.ensures ∙ c.if-eq.true))
     ∙ ap (λ l. codes "[" ∷ l) inside.1))
 
+-- If the thread's number is not allowed, no site follows, and it fails at the number.
 pub returns-then-not-is_allowed : goal.returns-then-not-is_allowed
 returns-then-not-is_allowed g c = λ ne.
     let refused = sym c.is_allowed.ensures ∙ c.if-not-is_allowed.true in (
@@ -67,6 +70,7 @@ returns-then-not-is_allowed g c = λ ne.
           (λ r. not-ThreadAllowed-if_above_threads c.args.threads _ r refused) refl),
     )
 
+-- After an allowed thread's number a `:` and a register are a site; without them no site follows.
 pub returns-in-Some : goal.returns-in-Some
 returns-in-Some g c =
     let names = c.args.locs.now in

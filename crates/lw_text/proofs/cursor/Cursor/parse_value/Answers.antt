@@ -2,7 +2,7 @@
 -- there is no value (`no_value-if_no_number`).
 use Rattle.lw_text.proofs.Common.{codes, ◌∷◌, [], ◌∙◌, ap, remaining, no_number}
 use Rattle.lw_text.proofs.Lists.{IsSuffix-join}
-use Rattle.lw_text.proofs.Atoms.{no_value-if_no_number}
+use Rattle.lw_text.proofs.SitesAndValues.{no_value-if_no_number}
 use Rattle.lw_text.proofs.Failures.{IfFirst-cons}
 use Rattle.lw_text.proofs.cursor.Cursor.parse_value.Goals as goal
 
@@ -12,6 +12,7 @@ returns-in-Some c = (
   IsSuffix-join c.in_ok-expect.ensures.advances (c.in_ok-token.token ∷ [], c.in_ok-token.ensures.token),
 )
 
+-- If the token after `=` is no number, there is no value, and it fails at this token.
 pub returns-in-None : goal.returns-in-None
 returns-in-None c = (
   no_value-if_no_number _ _ _ _ c.in_ok-expect.ensures.ok c.in_ok-token.ensures.ok c.in-None.ensures,

@@ -22,6 +22,7 @@ invariant_of-self c = record {
   );
 }
 
+-- The token after the trivia is the first token of the rest.
 pub returns-in-Ok-clause-reads : goal.returns-in-Ok-clause-reads
 returns-in-Ok-clause-reads c =
     let shorter = Trivia-shorter c.in-Some.ensures.found in (
@@ -43,6 +44,7 @@ returns-in_default-clause-reads c = (
   record { rest = []; place = omega arith; way = open_comment c.in_default.ensures.none refl refl },
 )
 
+-- If something remains after the trivia, but no token, the text fails there.
 pub returns-in-Err-clause-reads : goal.returns-in-Err-clause-reads
 returns-in-Err-clause-reads c = (
   not-ended-if_nonempty c.args.self.now.rest.now c.in-Some.start.now c.in-Some.ensures.found c.in-Some.ensures.stops

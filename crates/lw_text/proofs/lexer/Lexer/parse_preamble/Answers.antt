@@ -10,6 +10,7 @@ use Rattle.lw_text.proofs.Preambles.{no_preamble-if_no_name, no_preamble-if_no_n
 use Rattle.lw_text.proofs.TokenRows.{no_first_token-if_only_trivia, IsFirstToken-unique}
 use Rattle.lw_text.proofs.lexer.Lexer.parse_preamble.Goals as goal
 
+-- If no name follows the keyword, there is no preamble, and it fails where the name does.
 pub returns-in_err-name : goal.returns-in_err-name
 returns-in_err-name c =
     let here = rw c.in-Some.is at c.in_ok-token.ensures.reads in
@@ -27,6 +28,7 @@ returns-in_err-name c =
       same = c.in_err-name.ensures.same ∙ c.in_ok-token.ensures.same;
     }
 
+-- If the notes fail, there is no preamble, and it fails where they do.
 pub returns-in-Err : goal.returns-in-Err
 returns-in-Err c =
     let here = rw c.in-Some.is at c.in_ok-token.ensures.reads in
@@ -52,6 +54,7 @@ returns-in_default-clause-reads c =
       record { rest = []; place = omega (arith, ap length c.in_ok-token.ensures.same); way = no_keyword here refl refl },
     )
 
+-- If the first token is no keyword of a language, there is no preamble, and it fails at this token.
 pub returns-in_default-arch_from_keyword-clause-reads : goal.returns-in_default-arch_from_keyword-clause-reads
 returns-in_default-arch_from_keyword-clause-reads c =
     let here = rw c.in-Some.is at c.in_ok-token.ensures.reads in (

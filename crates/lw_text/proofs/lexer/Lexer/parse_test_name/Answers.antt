@@ -7,6 +7,7 @@ use Rattle.lw_text.proofs.Common.{first_byte_is, is_blank, no_name, no_blank, ba
 use Rattle.lw_text.proofs.Preambles.{ParsesTestName-parts, all_blank-no_name, append-empty_front}
 use Rattle.lw_text.proofs.lexer.Lexer.parse_test_name.Goals as goal
 
+-- If nothing follows the blanks, there is no name, and the text ends too early.
 pub returns-then-is_empty-clause-reads : goal.returns-then-is_empty-clause-reads
 returns-then-is_empty-clause-reads c =
     let b = c.prefix_of_kind.ensures in
@@ -25,6 +26,7 @@ returns-then-is_empty-clause-reads c =
       },
     )
 
+-- If no blank precedes the name, there is none, and it fails at once.
 pub returns-then-is_empty-2-clause-reads : goal.returns-then-is_empty-2-clause-reads
 returns-then-is_empty-2-clause-reads c =
     let b = c.prefix_of_kind.ensures in
@@ -56,6 +58,7 @@ returns-then-is_empty-2-clause-reads c =
       },
     )
 
+-- If what follows the blanks is no test's name, there is none, and it fails after the blanks.
 pub returns-then-not-is_test_name-clause-reads : goal.returns-then-not-is_test_name-clause-reads
 returns-then-not-is_test_name-clause-reads c =
     let b = c.prefix_of_kind.ensures in
@@ -90,6 +93,7 @@ overflow_sub-at c = omega (
 pub ascii_text-requires : goal.ascii_text-requires
 ascii_text-requires c = name_ascii c.prefix_of_kind-2.result.0.now (c.if-not-is_test_name.ensures.0 refl)
 
+-- The rest after blanks and name is within the text.
 pub invariant_of-self : goal.invariant_of-self
 invariant_of-self c = record {
   within = omega (
@@ -102,6 +106,7 @@ invariant_of-self c = record {
   );
 }
 
+-- Blanks and name are the longest runs, so they are the test's name.
 pub returns-clause-reads : goal.returns-clause-reads
 returns-clause-reads c =
     let space = c.prefix_of_kind.result.0.now in

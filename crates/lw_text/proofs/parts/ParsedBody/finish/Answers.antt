@@ -6,6 +6,7 @@ use Rattle.lw_text.proofs.WellFormedHeads.{resolved_well_formed}
 use Rattle.lw_text.proofs.RowColumns.{length-columns, columns-height, columns-even, All-columns_of_rows}
 use Rattle.lw_text.proofs.parts.ParsedBody.finish.Goals as goal
 
+-- The head is well-formed, and the columns, one for each thread, are of one length and within the text.
 pub invariant_of-result : goal.invariant_of-result
 invariant_of-result g c =
     let body = c.args.self in

@@ -19,6 +19,7 @@ returns-in_default g c =
     nil_from_length _ (sym c.args.self.now.outer.ok.0 ∙ c.in_default.ensures.cases.0) in
     rw (c.in-Close.is, none)
 
+-- A `)` closes the innermost group, which becomes the part of the group around it.
 pub returns-in_ok-part-in-Close : goal.returns-in_ok-part-in-Close
 returns-in_ok-part-in-Close g c = rw (
   c.in-Close.is,

@@ -3,6 +3,7 @@
 use Rattle.lw_text.proofs.Common.{reverse-append, inl, inr, map-append, refl}
 use Rattle.lw_text.proofs.proposition_reader.PropositionReader.before_part.Goals as goal
 
+-- A `(` opens a new group inside the present one.
 pub returns-in_ok-push-in-Open : goal.returns-in_ok-push-in-Open
 returns-in_ok-push-in-Open g c = rw (
   c.in-Open.is,

@@ -14,6 +14,7 @@ no_result-if_group_open None l os ne = refl
 no_result-if_group_open (Some p) l [] ne = absurd (ne refl)
 no_result-if_group_open (Some p) l (o ∷ os) ne = refl
 
+-- While a group is open, there is no proposition yet.
 pub returns-then-not-is_empty : goal.returns-then-not-is_empty
 returns-then-not-is_empty g c =
     let groups = c.args.self.now.outer.items in
@@ -29,6 +30,7 @@ returns-then-not-is_empty g c =
       refl,
     )
 
+-- If no group is open and a part has been read, the proposition is the group's formula with this part.
 pub returns-in_ok-close-in-Some : goal.returns-in_ok-close-in-Some
 returns-in_ok-close-in-Some g c =
     let r = c.args.self.now in

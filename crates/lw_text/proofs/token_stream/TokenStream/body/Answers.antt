@@ -16,6 +16,7 @@ fault_of-requires-clause-place g c = λ ne.
     place_within c.args.len c.args.self.now.tokens fails.rest _ c.requires.places
     (subst (λ ts. IsSuffix ts fails.rest) read fails.suffix) fails.place
 
+-- If the parser refuses a token, the stream fails at this token, or where the tokens end.
 pub returns-in-Err : goal.returns-in-Err
 returns-in-Err g c =
     let read = c.new-cursor.ensures ∙ c.as_slice.ensures in (
@@ -33,6 +34,7 @@ returns-in-Err g c =
           (c.fault_of.ensures.token known) (c.fault_of.ensures.end known),
     )
 
+-- If a lexical fault ends tokens that are a body, the stream fails at this fault.
 pub returns-in-Some : goal.returns-in-Some
 returns-in-Some g c =
     let read = ap token_texts (c.new-cursor.ensures ∙ c.as_slice.ensures) in

@@ -9,6 +9,7 @@ use Rattle.lw_text.proofs.TokenRows.{no_tokens-if_no_first_token, IsFirstToken-s
 use Rattle.lw_text.proofs.Failures.{FailsFrom-later}
 use Rattle.lw_text.proofs.token_stream.TokenStream.read.Goals as goal
 
+-- A token that follows is one more token read.
 pub tokens-preserved : goal.tokens-preserved
 tokens-preserved g c =
     let f = rw c.in-Ok-Some.field-0-is at c.in-Ok-Some.ensures.reads in
@@ -37,6 +38,7 @@ returns-in-Ok-None g c =
       All-from_recursion (λ (t : Token). t.at ≤ len) c.tokens.tokens c.tokens.invariant.within,
     )
 
+-- If the next token fails, the text is no list of tokens, and the list stops there.
 pub returns-in-Err : goal.returns-in-Err
 returns-in-Err g c =
     let len = length c.args.lexer.text.now in (

@@ -3,9 +3,9 @@
 use Rattle.lw_text.proofs.Common.{◌≡◌, ℕ, ◌<◌, ◌⊎◌, inl, inr, Bool, true, false, not, [], ◌∷◌, length, ap}
 use Rattle.lw_text.proofs.Common.{subst, arith, codes, ◌&&◌, ◌||◌, ◌==◌, sym, ◌∙◌, is_ascii_digit, and_parts}
 use Rattle.lw_text.proofs.Common.{or_cases, not-true, HoldsOfNothing, ParsesNothing, is_name_byte}
-use Rattle.lw_text.proofs.Common.{first_byte_is, Bytes, TokenList, Arch, IsName, IsLocationName, is_reserved}
-use Rattle.lw_text.proofs.Common.{IsRegisterName, register_of_name-unique, IsNumber, SiteSyntax, InMemory}
-use Rattle.lw_text.proofs.Common.{InThread, IsSite, Value, IsInitializer}
+use Rattle.lw_text.proofs.Common.{first_byte_is, Bytes, TokenList, Arch, IsName, IsUnreservedName}
+use Rattle.lw_text.proofs.Common.{is_reserved, IsRegisterName, register_of_name-unique, IsNumber, SiteSyntax}
+use Rattle.lw_text.proofs.Common.{InMemory, InThread, IsSite, Value, IsInitializer}
 use Rattle.lw_text.proofs.api.Numbers.{number_first, bracket_no_number, number-unique}
 use Rattle.lw_text.proofs.Lists.{IsDeterministic}
 
@@ -16,7 +16,7 @@ not-number_and_name w n p q =
     let k = q.0.front in
     cc
 
--- If the token after `=` is no number, there is no value.
+-- If tokens begin with `=` and then a token that is no number, they begin with no value.
 pub no_value-if_no_number : (ts l m : TokenList) (t : Bytes)
     → ts ≡ codes "=" ∷ l
     → l ≡ t ∷ m
@@ -25,7 +25,7 @@ pub no_value-if_no_number : (ts l m : TokenList) (t : Bytes)
 no_value-if_no_number ts l m t e f none v rest (w, g, number) =
     let same : w ≡ t = cc in none v (subst (λ w. IsNumber w v) same number)
 
--- The parse of `= n` is unique.
+-- If tokens begin with a value, the value and what follows it are unique.
 pub Value-unique : (ts r s : TokenList) (v w : ℕ) → Value ts v r → Value ts w s → (v ≡ w) × (r ≡ s)
 Value-unique ts r s v w (a, e, is_v) (b, f, is_w) =
     let same : b ≡ a = cc in (number-unique a v w is_v (subst (λ x. IsNumber x w) same is_w), cc)
@@ -86,8 +86,8 @@ first_token_of_site : (arch : Arch) (ts rest : TokenList) (s : SiteSyntax)
     → IsSite arch ts s rest
     → (t : Bytes) (l : TokenList)
     → ts ≡ t ∷ l
-    → IsLocationName t ⊎ (((n : ℕ) × IsNumber t n) ⊎ (t ≡ codes "["))
-first_token_of_site arch ts rest (InMemory x) (p, inl e) t l f = let k : x ≡ t = cc in inl (subst IsLocationName k p)
+    → IsUnreservedName t ⊎ (((n : ℕ) × IsNumber t n) ⊎ (t ≡ codes "["))
+first_token_of_site arch ts rest (InMemory x) (p, inl e) t l f = let k : x ≡ t = cc in inl (subst IsUnreservedName k p)
 first_token_of_site arch ts rest (InMemory x) (p, inr e) t l f = inr (inr cc)
 first_token_of_site arch ts rest (InThread u r) (w, v, e, number, register) t l f =
     let k : w ≡ t = cc in inr (inl (u, subst (λ w. IsNumber w u) k number))
@@ -126,7 +126,7 @@ no_site (b ∷ w) h arch ts rest mid site e p =
           cc
     ]
 
--- No tokens are no site.
+-- The empty list of tokens begins with no site.
 pub no_site-if_empty : (arch : Arch) (ts rest : TokenList) (s : SiteSyntax) → ts ≡ [] → IsSite arch ts s rest → ⊥
 no_site-if_empty arch ts rest (InMemory x) e (p, inl f) = cc
 no_site-if_empty arch ts rest (InMemory x) e (p, inr f) = cc
@@ -134,14 +134,14 @@ no_site-if_empty arch ts rest (InThread t r) e p = let f = p.2 in cc
 
 -- ---- initializers
 
--- The parse of an initializer is unique: its site, and then its word.
+-- The parse of an initializer, which is a site and then its word, is unique.
 pub IsInitializer-unique : (arch : Arch) → IsDeterministic (IsInitializer arch)
 IsInitializer-unique arch ts a b r s p q =
     let e = IsSite-unique arch ts a.site b.site p.0 q.0 p.1 q.1 in
     let f = Value-unique p.0 r s a.word b.word p.2 (subst (λ l. Value l b.word s) (sym e.1) q.2) in
     (ap (λ x. record { site = x; word = a.word }) e.0 ∙ ap (λ w. record { site = b.site; word = w }) f.0, f.1)
 
--- A site that no value follows is no initializer.
+-- If tokens begin with a site that no value follows, they begin with no initializer.
 pub no_initializer-if_no_value : (arch : Arch) (ts mid : TokenList) (site : SiteSyntax)
     → IsSite arch ts site mid
     → ParsesNothing (Value mid)
