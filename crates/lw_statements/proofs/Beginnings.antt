@@ -3,7 +3,7 @@
 use Rattle.lw_statements.proofs.Common.{◌≡◌, ℕ, inl, inr, Bool, true, false, true≢false, not, ◌||◌, Option}
 use Rattle.lw_statements.proofs.Common.{Some, List, [], ◌∷◌, ◌++◌, refl, sym, ap, ◌∙◌, subst, arith}
 use Rattle.lw_statements.proofs.Common.{append_assoc, cases_Bool, and_parts, codes, Contains, decimal}
-use Rattle.lw_statements.proofs.Common.{name_in, IsLocationName, IsRegisterName, register_name, Bytes}
+use Rattle.lw_statements.proofs.Common.{name_in, IsUnreservedName, IsRegisterName, register_name, Bytes}
 use Rattle.lw_statements.proofs.Common.{TokenList, name_by_test, decimal_is_number, Operands, Slot, Keyword}
 use Rattle.lw_statements.proofs.Common.{Register, Location, Value, Number, Label, BeginsStatement, CanBegin}
 use Rattle.lw_statements.proofs.Common.{IsLocationAfter, IsBeforeRegister, Spelling, SlotValue, Filling}
@@ -103,7 +103,8 @@ module _ {W Form Stmt : Type 0} (spelling : Spelling W Form Stmt) where
 
   -- ---- a location or a register after tokens
 
-  -- After the same tokens, no form has a word where another has a location or a register.
+  -- If two forms are clear, and after some tokens the first has a slot of a location or a register, the second has no slot of a
+  -- word there.
   is_word_slot-false_after : (ts : TokenList) (first second : List (Slot W)) (a b : Slot W)
       → are_clear_forms spelling first second ≡ true
       → IsSlotAfter spelling ts first a
@@ -147,13 +148,13 @@ module _ {W Form Stmt : Type 0} (spelling : Spelling W Form Stmt) where
         → Contains spelling.forms other
         → IsSlotAfter spelling ts (spelling.slots_of other) b
         → CanFill spelling (x ∷ []) (b ∷ [])
-        → IsLocationName x
+        → IsUnreservedName x
         → b ≡ Location
     only_location other b x here later stand loc =
         location_slot spelling x b stand.0.0
         (is_word_slot-false_after ts _ _ slot b (are_clear_forms-of_other other here) after later operand) stand.1.0 loc
 
-  -- No slot is a location's after one, in the slots of a form.
+  -- If slots have no further slot of a location, none follows tokens that they accept.
   no_location_slot-after : (ts : TokenList) (slots : List (Slot W))
       → has_no_location_slot spelling slots ≡ true
       → IsSlotAfter spelling ts slots Location
@@ -164,7 +165,7 @@ module _ {W Form Stmt : Type 0} (spelling : Spelling W Form Stmt) where
   no_location_slot-after (t ∷ ts) (Location ∷ slots) e h = absurd cc
   no_location_slot-after (t ∷ ts) (slot ∷ slots) e h = no_location_slot-after ts slots e h.1
 
-  -- The token in the slot of a location is the name of the statement's location.
+  -- If slots have at most one slot of a location, the token that fills it is the name of the statement's location.
   pub location_name-in_slot : (ts rest : TokenList) (x : Bytes) (slots : List (Slot W)) (f : Filling slots)
       → has_at_most_one_location_slot spelling slots ≡ true
       → IsSlotAfter spelling ts slots Location
@@ -182,7 +183,7 @@ module _ {W Form Stmt : Type 0} (spelling : Spelling W Form Stmt) where
       → (form : Form) (ts : TokenList) (x : Bytes)
       → Contains spelling.forms form
       → IsSlotAfter spelling ts (spelling.slots_of form) Location
-      → IsLocationName x
+      → IsUnreservedName x
       → IsLocationAfter (grammar_of spelling) ts x
   IsLocationAfter-of_slots made lawful form ts x there after loc = record {
     begins = BeginsStatement-after form Location ts x there after ((x, tt), ((refl, loc), tt));
@@ -194,7 +195,7 @@ module _ {W Form Stmt : Type 0} (spelling : Spelling W Form Stmt) where
         (subst (λ (b : Slot W). IsSlotAfter spelling ts (spelling.slots_of s.form) b) is r.1) says.1;
   }
 
-  -- No keyword among the slots is a register's name.
+  -- If slots are free of registers' names, a keyword among them, after tokens that they accept, names no register.
   no_register_name-keyword : (ts : TokenList) (slots : List (Slot W)) (w : W)
       → is_register_free spelling slots ≡ true
       → IsSlotAfter spelling ts slots (Keyword w)
@@ -208,7 +209,7 @@ module _ {W Form Stmt : Type 0} (spelling : Spelling W Form Stmt) where
       no_register_name-keyword ts slots w (and_parts _ (is_register_free spelling slots) e).1 h.1
   no_register_name-keyword (t ∷ ts) (slot ∷ slots) w e h = no_register_name-keyword ts slots w e h.1
 
-  -- A slot that accepts a register's name, and is no such keyword, is that of a register.
+  -- A slot that accepts a register's name is that of a register, unless it is a keyword that names one.
   IsRegisterSlot-of_name : (slot : Slot W) (g : SlotValue slot) (q : Bytes) (r : ℕ)
       → ((w : W) → slot ≡ Keyword w → not (names_register spelling (spelling.text_of w)) ≡ true)
       → IsRegisterName spelling.language.arch q r
@@ -217,11 +218,11 @@ module _ {W Form Stmt : Type 0} (spelling : Spelling W Form Stmt) where
   IsRegisterSlot-of_name (Keyword w) g q r free reg h = absurd (no_register-if_keyword spelling q w r (free w refl) h reg)
   IsRegisterSlot-of_name Register g q r free reg h = inl refl
   IsRegisterSlot-of_name Location x q r free reg h =
-      absurd (not-register_and_location _ q r reg (subst IsLocationName (sym h.0) h.1))
+      absurd (not-register_and_location _ q r reg (subst IsUnreservedName (sym h.0) h.1))
   IsRegisterSlot-of_name Value g q r free reg h = inr refl
   IsRegisterSlot-of_name Number n q r free reg h = absurd (not-register_and_number _ q r n reg h)
   IsRegisterSlot-of_name Label x q r free reg h =
-      absurd (not-register_and_location _ q r reg (subst IsLocationName (sym h.0) h.1))
+      absurd (not-register_and_location _ q r reg (subst IsUnreservedName (sym h.0) h.1))
 
   module _ (made : Form → Operands → Option Stmt) (lawful : IsSpelling spelling made) (ts : TokenList) where
     -- If a register may follow the tokens, some form has one there.
@@ -240,13 +241,13 @@ module _ {W Form Stmt : Type 0} (spelling : Spelling W Form Stmt) where
           ),
         )
 
-    -- If some form has a location after the tokens, a location may follow.
+    -- If some form has a location after the tokens, it is not so that a register may follow and no location.
     pub not-IsBeforeRegister-before_location : HasSlotAfter spelling IsLocationSlot ts
         → IsBeforeRegister (grammar_of spelling) ts
         → ⊥
     not-IsBeforeRegister-before_location (form, there, (slot, after, is)) b =
         let x = codes "x" in
-        let loc : IsLocationName x = (name_by_test (codes "x") refl, refl) in
+        let loc : IsUnreservedName x = (name_by_test (codes "x") refl, refl) in
         b.no_location x loc
         (BeginsStatement-after form Location ts x there
         (subst (λ (u : Slot W). IsSlotAfter spelling ts (spelling.slots_of form) u) is after) ((x, tt), ((refl, loc), tt)))

@@ -10,7 +10,7 @@ IsMisfitCause-iff Form f g h = λ b. h (g b)
 IsMisfitCause-iff Register f g h = f h
 IsMisfitCause-iff cause f g h = absurd h
 
--- A misfit is Form or Register, of which it claims what it is.
+-- The cause of a misfit, which is `Form` or `Register`, claims that something is wrong with this cause, and nothing else.
 pub FaultClaim-wrong : {wrong : CellCause → Type 0} {no_label second_label backward one_more : Type 0} (IsMeant : Type 0)
     (cause : CellCause)
     → IsMisfitCause IsMeant cause

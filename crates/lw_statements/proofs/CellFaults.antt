@@ -5,7 +5,7 @@ use Rattle.lw_statements.proofs.Common.{◌≡◌, ℕ, ◌<◌, ◌≤◌, ◌+
 use Rattle.lw_statements.proofs.Common.{[], ◌∷◌, ◌++◌, length, length-append, refl, sym, ap, ◌∙◌, subst}
 use Rattle.lw_statements.proofs.Common.{arith, slice_get, codes, Contains, append_assoc, append-nil}
 use Rattle.lw_statements.proofs.Common.{CellCause, TooMany, LabelTwice, most_locations, IsDuplicateFree}
-use Rattle.lw_statements.proofs.Common.{IsLocationName, insert_name, Bytes, NameTable, TokenList, Grammar}
+use Rattle.lw_statements.proofs.Common.{IsUnreservedName, insert_name, Bytes, NameTable, TokenList, Grammar}
 use Rattle.lw_statements.proofs.Common.{IsGrammar, BeginsStatement, CanBegin, IsLocationAfter, MaybeStatement}
 use Rattle.lw_statements.proofs.Common.{Labels, BeginsFitting, BeginsWithLabel, IsMeantAsRegister}
 use Rattle.lw_statements.proofs.Common.{IsMisfitCause, IsUnknownRegister, insert_name-if_new}
@@ -27,6 +27,7 @@ split_order (w ∷ xs) (v ∷ zs) x z ys ws e =
     let tail : xs ++ x ∷ ys ≡ zs ++ z ∷ ws = cc in
     go head (split_order xs zs x z ys ws tail)
   where
+    -- If the first items are equal, the cases of the other items are those of the whole lists.
     go : w ≡ v
         → ((xs ≡ zs) × (x ≡ z) × (ys ≡ ws))
         ⊎ (((more : List _) × (zs ≡ xs ++ x ∷ more)) ⊎ ((more : List _) × (xs ≡ zs ++ z ∷ more)))
@@ -48,7 +49,8 @@ longer_front (w ∷ xs) (z ∷ zs) x ys ws e less =
     let r = longer_front xs zs x ys ws (let tail : xs ++ x ∷ ys ≡ zs ++ ws = cc in tail) (omega (arith, less)) in
     (r.0, (let tail : zs ≡ xs ++ x ∷ r.0 = r.1 in cc))
 
--- If two lists are the same when others follow, and are of the same length, they are the same, and so are the others.
+-- If a list with others appended equals another with others appended, and both lists have the same length, the lists are equal,
+-- and so are the others.
 pub same_front : {X : Type 0} (xs zs ys ws : List X) → xs ++ ys ≡ zs ++ ws → length xs ≡ length zs → (xs ≡ zs) × (ys ≡ ws)
 same_front [] [] ys ws e same = (refl, e)
 same_front [] (z ∷ zs) ys ws e same = absurd (omega (arith, same))
@@ -73,6 +75,7 @@ labels_meet ts m n (l ∷ ls) (j ∷ ks) h k =
     let first : l ≡ j = cc in
     go first (labels_meet h.0 m n ls ks h.3 (subst (λ (t : TokenList). Labels t ks n) same k.3))
   where
+    -- If the first labels are equal, the cases of the other labels are those of all labels.
     go : l ≡ j
         → ((more : List Bytes) × (ks ≡ ls ++ more) × Labels m more n)
         ⊎ ((more : List Bytes) × (ls ≡ ks ++ more) × Labels n more m)
@@ -116,7 +119,7 @@ module _ {Syntax Stmt : Type 0} (grammar : Grammar Syntax Stmt) where
     -- The token in the place of a label is none, or a second one, for this cause.
     abbrev pub IsBadLabel : List Bytes → Bytes → CellCause → Type 0
     IsBadLabel labels t c =
-        ((IsLocationName t → ⊥) × IsMisfitCause (IsUnknownRegister t) c) ⊎ ((c ≡ LabelTwice) × Contains (known ++ labels) t)
+        ((IsUnreservedName t → ⊥) × IsMisfitCause (IsUnknownRegister t) c) ⊎ ((c ≡ LabelTwice) × Contains (known ++ labels) t)
 
     -- The token after `mid` fits no statement, is one too many, or a ninth location, for this cause.
     abbrev pub IsBadToken : TokenList → Bytes → CellCause → Type 0
@@ -144,11 +147,11 @@ module _ {Syntax Stmt : Type 0} (grammar : Grammar Syntax Stmt) where
 
     -- ---- nothing continues past the place of a fault
 
-    -- A bad label is no label of a longer front.
+    -- If t is bad as a label after some labels, no labels that continue these with t are all names without duplicates.
     not-label-if_bad : (labels : List Bytes) (t : Bytes) (c : CellCause)
         → IsBadLabel labels t c
         → (ks : List Bytes)
-        → IsLocationName t
+        → IsUnreservedName t
         → IsDuplicateFree (known ++ (labels ++ t ∷ ks))
         → ⊥
     not-label-if_bad labels t c (inl (none, m)) ks loc once = none loc
@@ -156,7 +159,7 @@ module _ {Syntax Stmt : Type 0} (grammar : Grammar Syntax Stmt) where
         not-in_both-if_duplicate_free (known ++ labels) (t ∷ ks) t
         (subst IsDuplicateFree (sym (append_assoc known labels (t ∷ ks))) once) there (0, omega arith, refl)
 
-    -- With a bad token no statement that fits begins.
+    -- If t is bad after `mid`, and the thread has room for a statement, no statement that fits begins with `mid` and t.
     not-statement-if_bad_token : (mid : TokenList) (t : Bytes) (c : CellCause)
         → IsBadToken mid t c
         → HasRoomForStatement
@@ -175,7 +178,7 @@ module _ {Syntax Stmt : Type 0} (grammar : Grammar Syntax Stmt) where
     begins_with_label : (rest more : TokenList) (t : Bytes) → rest ≡ t ∷ codes ":" ∷ more → BeginsWithLabel rest
     begins_with_label rest more t is = ap (λ (us : TokenList). slice_get us 1) is
 
-    -- No front goes on past a bad label.
+    -- If a bad label follows some labels, no front of the cell is longer than these labels.
     no_front-past_bad_label : (labels : List Bytes) (rest more : TokenList) (t : Bytes) (c : CellCause)
         → Labels ts labels rest
         → rest ≡ t ∷ codes ":" ∷ more
@@ -187,13 +190,14 @@ module _ {Syntax Stmt : Type 0} (grammar : Grammar Syntax Stmt) where
     no_front-past_bad_label labels rest more t c says is bad ks mid after f less =
         go (labels_meet ts rest (mid ++ after) labels ks says f.says)
       where
-        -- Fronts that end at different places do not have the same labels.
+        -- Fronts that end at different places do not have equally many labels, followed by the same tokens.
         label_counts_differ : length labels ≡ length ks → rest ≡ mid ++ after → ⊥
         label_counts_differ long same = elim f.phase [
           | inl stops ↦ stops (subst BeginsWithLabel same (begins_with_label rest more t is))
           | inr none ↦ omega (arith, less, long, ap length none)
         ]
 
+        -- By which of the two readings of labels continues the other.
         go : ((ms : List Bytes) × (ks ≡ labels ++ ms) × Labels rest ms (mid ++ after))
             ⊎ ((ms : List Bytes) × (labels ≡ ks ++ ms) × Labels (mid ++ after) ms rest)
             → ⊥
@@ -201,7 +205,7 @@ module _ {Syntax Stmt : Type 0} (grammar : Grammar Syntax Stmt) where
         go (inl (m ∷ ms, same, h)) =
             let e : t ∷ codes ":" ∷ more ≡ m ∷ codes ":" ∷ h.0 = sym is ∙ h.1 in
             let one : m ≡ t = cc in
-            not-label-if_bad labels t c bad ms (subst IsLocationName one h.2)
+            not-label-if_bad labels t c bad ms (subst IsUnreservedName one h.2)
             (subst (λ (l : Bytes). IsDuplicateFree (known ++ (labels ++ l ∷ ms))) one
             (subst (λ (ls : List Bytes). IsDuplicateFree (known ++ ls)) same f.without_duplicates))
         go (inr ([], same, h)) = label_counts_differ (omega (arith, ap length same, length-append ks [])) (sym h)
@@ -210,7 +214,7 @@ module _ {Syntax Stmt : Type 0} (grammar : Grammar Syntax Stmt) where
           | inr none ↦ omega (arith, less, ap length none, ap length same, length-append ks (m ∷ ms))
         ]
 
-    -- No front goes on past a bad token.
+    -- If a bad token follows labels and `mid`, no front of the cell is longer than these.
     no_front-past_bad_token : (labels : List Bytes) (mid rest back : TokenList) (t : Bytes) (c : CellCause)
         → Labels ts labels (mid ++ rest)
         → (BeginsWithLabel (mid ++ rest) → ⊥)
@@ -223,6 +227,7 @@ module _ {Syntax Stmt : Type 0} (grammar : Grammar Syntax Stmt) where
     no_front-past_bad_token labels mid rest back t c says stops is bad ks far after f less =
         go (labels_meet ts (mid ++ rest) (far ++ after) labels ks says f.says)
       where
+        -- Fronts that end at different places do not have equally many labels, followed by the same tokens.
         label_counts_differ : length labels ≡ length ks → mid ++ rest ≡ far ++ after → ⊥
         label_counts_differ long same =
             let m =
@@ -231,6 +236,7 @@ module _ {Syntax Stmt : Type 0} (grammar : Grammar Syntax Stmt) where
             not-statement-if_bad_token mid t c bad b.0
             (fitting_prefix table mid m.0 t (subst (BeginsFitting grammar table) m.1 b.1))
 
+        -- By which of the two readings of labels continues the other.
         go : ((ms : List Bytes) × (ks ≡ labels ++ ms) × Labels (mid ++ rest) ms (far ++ after))
             ⊎ ((ms : List Bytes) × (labels ≡ ks ++ ms) × Labels (far ++ after) ms (mid ++ rest))
             → ⊥
@@ -282,6 +288,7 @@ module _ {Syntax Stmt : Type 0} (grammar : Grammar Syntax Stmt) where
     not-label_index_eq_rest_index labels rest more t says is ks far after h stops same =
         go (labels_meet ts rest (far ++ after) labels ks says h)
       where
+        -- By which of the two readings of labels continues the other.
         go : ((ms : List Bytes) × (ks ≡ labels ++ ms) × Labels rest ms (far ++ after))
             ⊎ ((ms : List Bytes) × (labels ≡ ks ++ ms) × Labels (far ++ after) ms rest)
             → ⊥
@@ -298,6 +305,7 @@ module _ {Syntax Stmt : Type 0} (grammar : Grammar Syntax Stmt) where
         → (labels ≡ ks) × (rest ≡ after)
     Labels-unique_length labels ks rest after h k same = go (labels_meet ts rest after labels ks h k)
       where
+        -- By which of the two readings of labels continues the other.
         go : ((ms : List Bytes) × (ks ≡ labels ++ ms) × Labels rest ms after)
             ⊎ ((ms : List Bytes) × (labels ≡ ks ++ ms) × Labels after ms rest)
             → (labels ≡ ks) × (rest ≡ after)
@@ -339,9 +347,9 @@ module _ {Syntax Stmt : Type 0} (grammar : Grammar Syntax Stmt) where
         absurd (let no : t ∷ back ≡ [] = sym is ∙ none in cc)
     IsBadRest-unique mid rest c d (inr (none, some, e, never)) (inr (nothing, other, f, always)) = e ∙ sym f
 
-    -- A bad label has one cause: it is no name, or a label already.
+    -- If the labels before it are locations' names, a bad label has one cause: it is no name, or a label already.
     IsBadLabel-unique : (labels : List Bytes) (t : Bytes) (c d : CellCause)
-        → ((n : Bytes) → Contains (known ++ labels) n → IsLocationName n)
+        → ((n : Bytes) → Contains (known ++ labels) n → IsUnreservedName n)
         → IsBadLabel labels t c
         → IsBadLabel labels t d
         → c ≡ d
@@ -350,9 +358,9 @@ module _ {Syntax Stmt : Type 0} (grammar : Grammar Syntax Stmt) where
     IsBadLabel-unique labels t c d named (inr (e, there)) (inl (none, m)) = absurd (none (named t there))
     IsBadLabel-unique labels t c d named (inr (e, there)) (inr (f, again)) = e ∙ sym f
 
-    -- A front that is stuck has one cause.
+    -- If the labels before them are locations' names, two fronts of one length that are stuck are stuck for one cause.
     pub IsStuck-unique : (labels ks : List Bytes) (mid far rest after : TokenList) (c d : CellCause)
-        → ((n : Bytes) → Contains (known ++ labels) n → IsLocationName n)
+        → ((n : Bytes) → Contains (known ++ labels) n → IsUnreservedName n)
         → IsFront labels mid rest
         → IsFront ks far after
         → IsStuck labels mid rest c
@@ -384,7 +392,7 @@ module _ {Syntax Stmt : Type 0} (grammar : Grammar Syntax Stmt) where
 
     -- ---- a cell with a fault has no content that fits
 
-    -- No content of the cell goes on from a front that is stuck.
+    -- If some front of a cell is stuck, no labels with a statement or nothing after them are the whole cell.
     pub not-IsStuck-if_whole_cell : IsGrammar grammar
         → (labels : List Bytes) (mid rest : TokenList) (c : CellCause)
         → IsFront labels mid rest
@@ -419,6 +427,7 @@ module _ {Syntax Stmt : Type 0} (grammar : Grammar Syntax Stmt) where
         let same : mid ≡ far = sym (append-nil mid) ∙ ap (λ (us : TokenList). mid ++ us) (sym is) ∙ one.1 ∙ append-nil far in
         go o (subst (λ (us : TokenList). MaybeStatement grammar us o) (sym same) says)
       where
+        -- By what the cell has after its labels: a statement, or nothing.
         go : (p : Option Syntax) → MaybeStatement grammar mid p → ⊥
         go None h = some h
         go (Some s) h = none s h

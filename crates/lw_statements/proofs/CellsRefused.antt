@@ -17,7 +17,7 @@ use Rattle.lw_statements.proofs.Leads.{labels_of-append, count-append}
 use Rattle.lw_statements.proofs.OneReading.{ParsesCell-unique, no_label-if_statement}
 use Rattle.lw_statements.proofs.ResolvedNames.{names_in-append}
 use Rattle.lw_statements.proofs.TablesRead.{syntaxes_above_read, room_for_read_names}
-use Rattle.lw_statements.proofs.api.Zips.{Cut, AllZip-split}
+use Rattle.lw_statements.proofs.api.Zips.{Cut, Cut-AllZip}
 
 -- A prefix of a list without duplicates has none.
 pub IsDuplicateFree-front : (xs ys : List (List ℕ)) → IsDuplicateFree (xs ++ ys) → IsDuplicateFree xs
@@ -40,7 +40,7 @@ module _ {Syntax Stmt : Type 0} (grammar : Grammar Syntax Stmt) where
       module _ (t : List (CellSyntax Syntax)) (fits : ColumnFits grammar before (cells_texts (front ++ cell ∷ rest)) t) where
         -- The syntaxes of the thread, split at this cell.
         cut : Cut (ParsesCell grammar) (cells_texts front) (cell_texts cell) (cells_texts rest) t
-        cut = AllZip-split _ _ _ _ t (rw (map-append cell_texts front (cell ∷ rest)) at fits.0.says)
+        cut = Cut-AllZip _ _ _ _ t (rw (map-append cell_texts front (cell ∷ rest)) at fits.0.says)
 
         -- In a parse of all cells, the syntaxes above this cell are those that were read.
         syntaxes_above_equal : cut.above ≡ drafted.read.syntax

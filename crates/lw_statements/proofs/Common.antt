@@ -29,8 +29,8 @@ pub use Rattle.std.specs.List.{AllByRecursion, AllZip, cons_option, list_all, li
 pub use Rattle.std.specs.Map.{update}
 pub use Rattle.std.specs.Option.{ForSome, option_len, option_or}
 pub use Rattle.std.specs.Ordering.{ord_max}
-pub use Rattle.lw_base.proofs.Common.{Bytes, CellGrid, Cells, IsDuplicateFree, IsLocationName, IsNameTable}
-pub use Rattle.lw_base.proofs.Common.{IsRegisterIndex, IsRegisterName, IsWellFormedHead, IsWordNumber}
+pub use Rattle.lw_base.proofs.Common.{Bytes, CellGrid, Cells, IsDuplicateFree, IsNameTable, IsRegisterIndex}
+pub use Rattle.lw_base.proofs.Common.{IsRegisterName, IsUnreservedName, IsWellFormedHead, IsWordNumber}
 pub use Rattle.lw_base.proofs.Common.{NameTable, TestHead, TokenList, contains_name, first_byte_is, head_of}
 pub use Rattle.lw_base.proofs.Common.{insert_name, insert_names, is_name_byte, is_numbered_register}
 pub use Rattle.lw_base.proofs.Common.{is_reserved, keywords, lowercase_if_x86, most_locations}
@@ -39,15 +39,16 @@ pub use Rattle.lw_base.proofs.Common.{x86_registers}
 pub use Rattle.lw_base.proofs.api.Elements.{All-append_inv, AllByRecursion-append}
 pub use Rattle.lw_base.proofs.api.GrowingTables.{IsDuplicateFree-insert_names, contains_name-insert_names}
 pub use Rattle.lw_base.proofs.api.GrowingTables.{contains_name-of_inserted, insert_names-append}
-pub use Rattle.lw_base.proofs.api.GrowingTables.{insert_names-longer, position_of_name-insert_names}
+pub use Rattle.lw_base.proofs.api.GrowingTables.{length_le-insert_names, position_of_name-insert_names}
 pub use Rattle.lw_base.proofs.api.GrowingTables.{position_of_name-within}
 pub use Rattle.lw_base.proofs.api.Lists.{at_index, cons-head_eq, drop-cons_at, drop-past_end}
-pub use Rattle.lw_base.proofs.api.Lists.{get-append_middle, slice_get-append_cases, take-suc, take_drop-at}
+pub use Rattle.lw_base.proofs.api.Lists.{slice_get-append_cases, slice_get-append_middle, take-suc}
+pub use Rattle.lw_base.proofs.api.Lists.{take_drop-at}
 pub use Rattle.lw_base.proofs.api.Registers.{register_of_name-unique}
 pub use Rattle.lw_base.proofs.api.Returns.{Err-clause_known}
 pub use Rattle.lw_base.proofs.api.Tables.{IsDuplicateFree-push, contains_name-Contains}
 pub use Rattle.lw_base.proofs.api.Tables.{insert_name-if_in_table, insert_name-if_new}
-pub use Rattle.lw_base.proofs.api.WellFormedHeads.{set_location_names-well_formed}
+pub use Rattle.lw_base.proofs.api.WellFormedHeads.{IsWellFormedHead-set_location_names}
 pub use Rattle.lw_base.specs.declared.fault.CellCause.{CellCause}
 pub use Rattle.lw_base.specs.declared.fault.CellCause.TheVariants.{Backward, Form, LabelMissing, LabelTwice}
 pub use Rattle.lw_base.specs.declared.fault.CellCause.TheVariants.{Memory, TooMany}
@@ -62,6 +63,7 @@ pub use Rattle.lw_text.proofs.Common.{EndsBefore, IsNumber, PlacedCell, PlacedTo
 pub use Rattle.lw_text.proofs.Common.{cell_texts, cells_texts, frame_of, placed_cell, placed_cells}
 pub use Rattle.lw_text.proofs.Common.{placed_row, texts_of_cells, texts_of_grid, texts_of_tokens, token_texts}
 pub use Rattle.lw_text.proofs.Common.{with_span, with_spans}
+pub use Rattle.lw_text.proofs.api.Frames.{AreUnreserved-insert_names}
 pub use Rattle.lw_text.proofs.api.Numbers.{number-unique, number_first}
 pub use Rattle.lw_text.proofs.api.Places.{cells_placed, grid_placed, texts_placed}
 pub use Rattle.lw_text.proofs.api.Spelling.{decimal_is_number, name_by_test}
@@ -71,12 +73,13 @@ pub use Rattle.lw_statements.specs.Bindings.{AcceptAtMost, BeginsWith, CanFill, 
 pub use Rattle.lw_statements.specs.Bindings.{IsAcceptedLength, IsDrafted, IsFirstRejected, IsLocationSlot}
 pub use Rattle.lw_statements.specs.Bindings.{IsLongestAccepted, IsMade, IsNameAmong, IsNotDrafted}
 pub use Rattle.lw_statements.specs.Bindings.{IsOverflowSlot, IsRegisterSlot, IsSlotAfter, IsSpelling}
-pub use Rattle.lw_statements.specs.Bindings.{all_disjoint, are_clear_forms, are_disjoint_forms, bind_slot}
-pub use Rattle.lw_statements.specs.Bindings.{bindings_of, draft_of, draft_on, has_at_most_one_location_slot}
-pub use Rattle.lw_statements.specs.Bindings.{has_no_location_slot, is_label_last, is_no_colon, is_no_location}
-pub use Rattle.lw_statements.specs.Bindings.{is_operand_slot, is_register_free, is_statement, is_word_slot}
-pub use Rattle.lw_statements.specs.Bindings.{names_register, no_bindings, numbers_in, registers_in}
-pub use Rattle.lw_statements.specs.Bindings.{tokens_differ, with_target}
+pub use Rattle.lw_statements.specs.Bindings.{all_disjoint, are_clear_forms, are_disjoint_forms}
+pub use Rattle.lw_statements.specs.Bindings.{begins_without_colon, bind_slot, bindings_of, cannot_be_location}
+pub use Rattle.lw_statements.specs.Bindings.{draft_of, draft_on, has_at_most_one_location_slot}
+pub use Rattle.lw_statements.specs.Bindings.{has_no_location_slot, is_label_last, is_operand_slot}
+pub use Rattle.lw_statements.specs.Bindings.{is_register_free, is_statement, is_word_slot, names_register}
+pub use Rattle.lw_statements.specs.Bindings.{no_bindings, numbers_in, registers_in, tokens_differ}
+pub use Rattle.lw_statements.specs.Bindings.{with_target}
 pub use Rattle.lw_statements.specs.Cells.{CellSyntax, Column, FrameHasTest, Labels, LabelsLeadForward}
 pub use Rattle.lw_statements.specs.Cells.{MaybeStatement, ParsesCell, code_in, labels_of, location_index}
 pub use Rattle.lw_statements.specs.Cells.{names_in, names_of, resolve_test, resolved_statement}

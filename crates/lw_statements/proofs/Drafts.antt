@@ -94,6 +94,7 @@ module _ {Syntax Stmt D : Type 0} (grammar : Grammar Syntax Stmt) (draft_of : �
       place = λ len lies. omega (arith, place, All-get (λ (u : Token). u.at ≤ len) tokens 0 t (sym first) lies.0);
     }
       where
+        -- The fault of a statement beyond the limit is true of what follows the labels.
         go : IsSurplusFault f → OptionalStatementFaultIsTrue grammar above tokens phrase.end names f.at f.cause
         go (inl (e, here, begins)) = rw e (FaultClaim-TooMany (inl (full, (t, sym first, sym here, begins))))
         go (inr (m, at_first)) = FaultClaim-wrong _ f.cause m.meant (inl (m, inl at_first))
@@ -137,6 +138,7 @@ module _ {Syntax Stmt D : Type 0} (grammar : Grammar Syntax Stmt) (draft_of : �
       ap (λ (o : Option D). (let c : DraftCell D = record { start = 2 * length syntax.labels; stmt = o } in c))
       (go syntax.stmt all)
     where
+      -- By whether the cell has a statement.
       go : (o : Option Syntax)
           → AreIn names (names_in grammar (cell_without_labels o ∷ []))
           → option_map (draft_in grammar draft_of (insert_names names ns)) o ≡ option_map (draft_in grammar draft_of names) o

@@ -3,8 +3,8 @@
 use Rattle.lw_statements.proofs.Common.{◌≡◌, ℕ, suc, ◌+◌, ◌<◌, Option, Some, None, List, [], ◌∷◌, ◌++◌}
 use Rattle.lw_statements.proofs.Common.{length, get_or, take, drop, refl, sym, ap, ◌∙◌, subst, arith}
 use Rattle.lw_statements.proofs.Common.{slice_get, All, option_map, AllByRecursion, cons_option, ForSome}
-use Rattle.lw_statements.proofs.Common.{slice_get_within, get_or_from_slice_get, at_index, get-append_middle}
-use Rattle.lw_statements.proofs.Common.{take_drop-at, take-suc}
+use Rattle.lw_statements.proofs.Common.{slice_get_within, get_or_from_slice_get, at_index}
+use Rattle.lw_statements.proofs.Common.{slice_get-append_middle, take_drop-at, take-suc}
 
 -- What holds of all items holds of the one at an index.
 pub All-get : {X : Type 0} (P : X → Type 0) (xs : List X) (k : ℕ) (x : X) → slice_get xs k ≡ Some x → All P xs → P x
@@ -12,18 +12,18 @@ All-get P xs k x is all = subst P (get_or_from_slice_get xs k x x is) (all k x (
 
 -- What holds of all items holds of one in the middle.
 pub All-middle : {X : Type 0} (P : X → Type 0) (front rest : List X) (x : X) → All P (front ++ x ∷ rest) → P x
-All-middle P front rest x all = All-get P _ (length front) x (get-append_middle front x rest (length front) refl) all
+All-middle P front rest x all = All-get P _ (length front) x (slice_get-append_middle front x rest (length front) refl) all
 
 -- A loop's item is the one at its index in the list.
-pub get-in_range : {X : Type 0} (xs : List X) (k : ℕ) (x : X) → k < length xs → x ≡ get_or xs k x → slice_get xs k ≡ Some x
-get-in_range xs k x within is = at_index xs k x within ∙ ap Some (sym is)
+pub slice_get-of_get_or : {X : Type 0} (xs : List X) (k : ℕ) (x : X) → k < length xs → x ≡ get_or xs k x → slice_get xs k ≡ Some x
+slice_get-of_get_or xs k x within is = at_index xs k x within ∙ ap Some (sym is)
 
 -- A list is split at an item into the items before it, the item, and those after it.
 pub take-item-drop : {X : Type 0} (xs : List X) (k : ℕ) (x : X)
     → k < length xs
     → x ≡ get_or xs k x
     → xs ≡ take k xs ++ x ∷ drop (suc k) xs
-take-item-drop xs k x within is = take_drop-at xs k x (get-in_range xs k x within is)
+take-item-drop xs k x within is = take_drop-at xs k x (slice_get-of_get_or xs k x within is)
 
 -- The items before the next index are those before this index, followed by the one there.
 pub take_further : {X : Type 0} (xs : List X) (k : ℕ) (x : X)
@@ -31,7 +31,8 @@ pub take_further : {X : Type 0} (xs : List X) (k : ℕ) (x : X)
     → x ≡ get_or xs k x
     → take (k + 1) xs ≡ take k xs ++ x ∷ []
 take_further {X} xs k x within is =
-    let next : k + 1 ≡ suc k = omega arith in ap (λ (n : ℕ). take n xs) next ∙ take-suc xs k x (get-in_range xs k x within is)
+    let next : k + 1 ≡ suc k = omega arith in
+    ap (λ (n : ℕ). take n xs) next ∙ take-suc xs k x (slice_get-of_get_or xs k x within is)
 
 -- What holds of an optional item and of a list holds of the list with the item prepended.
 pub AllByRecursion-cons_option : {X : Type 0} (P : X → Type 0) (o : Option X) (xs : List X)

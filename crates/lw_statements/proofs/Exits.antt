@@ -19,6 +19,7 @@ pub MatchResult-propagated : {T : Type 0} (P : T → Type 0) (Q : CellFault → 
 MatchResult-propagated P Q R first (Ok t) h made refused = (made.0, MatchResult-at_ok P Q t made.1 h)
 MatchResult-propagated P Q R first (Err f) h made refused = go made
   where
+    -- By the fault of `next`: it is that of `first`, or memory ran out.
     go : (first ≡ Err f) ⊎ ((f.at ≡ 0) × (f.cause ≡ Memory)) → Q f
     go (inl same) = MatchResult-at_err P Q f same h
     go (inr memory) = refused f memory.1 memory.0

@@ -39,27 +39,29 @@ module _ {Syntax Stmt : Type 0} (grammar : Grammar Syntax Stmt) (names : NameTab
       ⊎ ((cause ≡ Form) × (c : CellPosition columns) × EndsEarly grammar names c at)
 
   -- What a cause claims by the table `FaultClaim`, of tokens in the columns, it claims by the rule of cells.
-  pub FaultClaim-by_cause : (cause : CellCause)
+  pub CellCauseIsTrue-FaultClaim : (cause : CellCause)
       → FaultClaim IsWrongAt ((p : TokenPosition columns at) × IsMissing grammar names p)
       ((p : TokenPosition columns at) × IsSecondLabel grammar names p)
       ((p : TokenPosition columns at) × IsBackward grammar names p)
       ((p : TokenPosition columns at) × (IsSurplus grammar names p ⊎ IsNinth grammar names p)) cause
       → CellCauseIsTrue grammar names columns at cause
-  FaultClaim-by_cause Form t = go (t.form refl)
+  CellCauseIsTrue-FaultClaim Form t = go (t.form refl)
     where
+      -- If something is wrong at the place with the cause `Form`, this cause is true there.
       go : IsWrongAt Form → CellCauseIsTrue grammar names columns at Form
       go (inl wrong) = inl wrong
       go (inr ends) = inr (ends.1, ends.2)
-  FaultClaim-by_cause Register t = go (t.register refl)
+  CellCauseIsTrue-FaultClaim Register t = go (t.register refl)
     where
+      -- If something is wrong at the place with the cause `Register`, this cause is true there.
       go : IsWrongAt Register → CellCauseIsTrue grammar names columns at Register
       go (inl wrong) = wrong
       go (inr ends) = absurd (let same : Register ≡ Form = ends.0 in cc)
-  FaultClaim-by_cause LabelMissing t = t.missing refl
-  FaultClaim-by_cause LabelTwice t = t.twice refl
-  FaultClaim-by_cause Backward t = t.back refl
-  FaultClaim-by_cause TooMany t = t.many refl
-  FaultClaim-by_cause Memory t = tt
+  CellCauseIsTrue-FaultClaim LabelMissing t = t.missing refl
+  CellCauseIsTrue-FaultClaim LabelTwice t = t.twice refl
+  CellCauseIsTrue-FaultClaim Backward t = t.back refl
+  CellCauseIsTrue-FaultClaim TooMany t = t.many refl
+  CellCauseIsTrue-FaultClaim Memory t = tt
 
 -- The position of a cell in its thread between the others.
 abbrev pub position_of_cell : {A : Type 0} (others later : List (List PlacedCell)) (cells above below : List (Cell A))
@@ -140,7 +142,7 @@ module _ {Syntax Stmt A : Type 0} (grammar : Grammar Syntax Stmt) (front rest : 
         FaultClaim (HasNoLabelAt cell.tokens labels at) ⊥ (HasDuplicateLabelAt cell.tokens labels at) ⊥ ⊥ cause
         → ColumnFaultIsTrue grammar (placed_row (front ++ cell ∷ rest)) before at cause
     ColumnFaultIsTrue-labels told names others later threads others_say grown =
-        FaultClaim-by_cause grammar names _ at cause
+        CellCauseIsTrue-FaultClaim grammar names _ at cause
         (FaultClaim-weakened IsWrongAt-of_cause IsSecondLabel-duplicate (λ none. absurd none) told)
       where
         -- The position of a label's token.
@@ -188,7 +190,7 @@ module _ {Syntax Stmt A : Type 0} (grammar : Grammar Syntax Stmt) (front rest : 
         → OptionalStatementFaultIsTrue grammar (length (statements syntaxes)) (drop next cell.tokens) cell.end mid at cause
         → ColumnFaultIsTrue grammar (placed_row (front ++ cell ∷ rest)) before at cause
     ColumnFaultIsTrue-statement after next taken told names others later threads others_say grown =
-        FaultClaim-by_cause grammar names _ at cause
+        CellCauseIsTrue-FaultClaim grammar names _ at cause
         (FaultClaim-weakened IsWrongAt-of_cause (λ none. absurd none) IsSurplus_or_IsNinth told)
       where
         -- No label of the cell is one of the cells above.
@@ -243,6 +245,7 @@ module _ {Syntax Stmt A : Type 0} (grammar : Grammar Syntax Stmt) (front rest : 
             (t ∷ drop (suc k) (drop next cell.tokens)))
             ∙ ap token_texts (sym (take_drop-at (drop next cell.tokens) k t is))) label)
 
+        -- What precedes a token after the labels is read: the labels, and the tokens of the statement before it.
         IsReadTo-token : (k : ℕ) (t : Token) (is : slice_get (drop next cell.tokens) k ≡ Some t) (begins : t.at ≡ at)
             → IsReadTo grammar names (token_position k t is begins).place (texts_of_tokens (token_position k t is begins).front)
             (token_texts (take k (drop next cell.tokens)))
@@ -250,11 +253,12 @@ module _ {Syntax Stmt A : Type 0} (grammar : Grammar Syntax Stmt) (front rest : 
             IsReadTo-labels_and_tokens names others later threads others_say grown taken.read.names _
             (token_texts (take k (drop next cell.tokens))) (Labels-tokens_before k) labels_are_duplicate_free
 
-        -- If tokens precede it, it is not the first.
+        -- If the first k tokens after the labels are not none, k is not 0.
         front_not_empty-index_nonzero : (k : ℕ) → (token_texts (take k (drop next cell.tokens)) ≡ [] → ⊥) → k ≡ 0 → ⊥
         front_not_empty-index_nonzero k some first = some (ap (λ (n : ℕ). token_texts (take n (drop next cell.tokens))) first)
 
-        -- If it is not the first token, the thread has room for its statement.
+        -- If a token after the labels is not the first of them, and only for the first the thread may be full, the thread has
+        -- room for one more statement.
         count_below_most : (k : ℕ)
             → (token_texts (take k (drop next cell.tokens)) ≡ [] → ⊥)
             → (k ≡ 0) ⊎ (length (statements syntaxes) ≡ grammar.language.most → ⊥)
@@ -286,6 +290,8 @@ module _ {Syntax Stmt A : Type 0} (grammar : Grammar Syntax Stmt) (front rest : 
           none = m.none;
         }
 
+        -- If the cause is that of a token that fits no statement, or of a cell that ends too early, it is wrong at the
+        -- position.
         IsWrongAt-of_cause : (e : CellCause)
             → ((m : HasMisfitIn grammar (drop next cell.tokens) mid at e)
             × ((m.place ≡ 0) ⊎ (length (statements syntaxes) ≡ grammar.language.most → ⊥)))

@@ -1,12 +1,12 @@
 -- The fault of the first token after a cell's labels, if the thread has as many statements as it may have.
--- `maybe_statement` fails by it.
+-- `read_statement_if_any` fails by it.
 use Rattle.lw_statements.proofs.Common.{◌≡◌, ℕ, inl, inr, ◌⊎◌, Some, slice_get, TooMany, NameTable, CellFault}
 use Rattle.lw_statements.proofs.Common.{Token, Phrase, CanBegin, Spelling, grammar_of, draft_of}
 use Rattle.lw_statements.proofs.Common.{IsFirstRejected}
 use Rattle.lw_statements.proofs.Drafts.{IsSurplusFault}
 use Rattle.lw_statements.proofs.Fronts.{HasMisfitIn-first_token}
 
--- What `maybe_statement` reports of the first token is true: the token begins a statement beyond the limit, or no
+-- What `read_statement_if_any` reports of the first token is true: the token begins a statement beyond the limit, or no
 -- statement begins with it, and then the token itself is the fault.
 pub fault_at_first_token : {W Form Stmt : Type 0} (spelling : Spelling W Form Stmt) (phrase : Phrase) (t : Token)
     (first : Some t ≡ slice_get phrase.tokens.now 0) (names : NameTable) (above : ℕ) (f : CellFault)

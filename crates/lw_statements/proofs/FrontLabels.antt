@@ -7,7 +7,7 @@ use Rattle.lw_statements.proofs.Common.{slice_index_or, codes, Contains, if◌th
 use Rattle.lw_statements.proofs.Common.{append-nil, append_assoc, take-append-drop, bytes_eq, slice_get-map}
 use Rattle.lw_statements.proofs.Common.{slice_get_within, take-map, drop-map, length-map, map-append}
 use Rattle.lw_statements.proofs.Common.{list_any-append, Contains-append_right, unsigned_Decides}
-use Rattle.lw_statements.proofs.Common.{pointwise_decides, update, IsDuplicateFree, IsLocationName}
+use Rattle.lw_statements.proofs.Common.{pointwise_decides, update, IsDuplicateFree, IsUnreservedName}
 use Rattle.lw_statements.proofs.Common.{contains_name, Bytes, TokenList, take-suc, contains_name-Contains}
 use Rattle.lw_statements.proofs.Common.{IsDuplicateFree-push, Token, token_texts, Labels, LabelMap, target_by}
 use Rattle.lw_statements.proofs.Common.{BeginsWithLabel, HasExactlyLabels, IsAtLabel, LabelsRead, LabelsFit}
@@ -22,18 +22,19 @@ pub get_text : (tokens : List Token) (k : ℕ) (t : Token)
 get_text tokens k t is = slice_get-map (λ u. u.text.now) tokens k ∙ ap (option_map (λ u. u.text.now)) is
 
 -- The text at index j after the first k is the text at index `k + j`.
-get-drop_texts : (ts : TokenList) (k j : ℕ) → slice_get (drop k ts) j ≡ slice_get ts (k + j)
-get-drop_texts [] zero j = refl
-get-drop_texts [] (suc k) j = refl
-get-drop_texts (x ∷ ts) zero j = let e : j ≡ zero + j = omega arith in ap (slice_get (x ∷ ts)) e
-get-drop_texts (x ∷ ts) (suc k) j =
-    let e : suc (k + j) ≡ suc k + j = omega arith in get-drop_texts ts k j ∙ ap (slice_get (x ∷ ts)) e
+slice_get-drop_texts : (ts : TokenList) (k j : ℕ) → slice_get (drop k ts) j ≡ slice_get ts (k + j)
+slice_get-drop_texts [] zero j = refl
+slice_get-drop_texts [] (suc k) j = refl
+slice_get-drop_texts (x ∷ ts) zero j = let e : j ≡ zero + j = omega arith in ap (slice_get (x ∷ ts)) e
+slice_get-drop_texts (x ∷ ts) (suc k) j =
+    let e : suc (k + j) ≡ suc k + j = omega arith in slice_get-drop_texts ts k j ∙ ap (slice_get (x ∷ ts)) e
 
 -- The text at index j of the tokens after the first k is the text at index `k + j` of all.
-pub get-drop_tokens : (tokens : List Token) (k j : ℕ)
+pub slice_get-drop_tokens : (tokens : List Token) (k j : ℕ)
     → slice_get (token_texts (drop k tokens)) j ≡ slice_get (token_texts tokens) (k + j)
-get-drop_tokens tokens k j =
-    ap (λ (ts : TokenList). slice_get ts j) (sym (drop-map (λ t. t.text.now) k tokens)) ∙ get-drop_texts (token_texts tokens) k j
+slice_get-drop_tokens tokens k j =
+    ap (λ (ts : TokenList). slice_get ts j) (sym (drop-map (λ t. t.text.now) k tokens))
+    ∙ slice_get-drop_texts (token_texts tokens) k j
 
 -- If there is a token at the index `next + 1`, there are at least `next + 2` tokens.
 pub next_within : (tokens : List Token) (next : ℕ) (w : Bytes)
@@ -59,6 +60,7 @@ pub name_contained : (ns : List Bytes) (n : Bytes) → contains_name ns n ≡ tr
 name_contained [] n e = absurd cc
 name_contained (m ∷ ns) n e = go (bytes_eq m n) refl (name_contained ns n)
   where
+    -- By whether the name is the first of the list.
     go : (b : Bool) → bytes_eq m n ≡ b → (contains_name ns n ≡ true → Contains ns n) → Contains (m ∷ ns) n
     go true f further = (0, omega arith, (pointwise_decides unsigned_Decides m n).0 f)
     go false f further = Contains-append_right (m ∷ []) ns n (further (rw f at e))
@@ -82,7 +84,7 @@ not-in_both-if_duplicate_free (m ∷ ns) ms n once h there = go h.0 h.1 h.2 (not
 -- Tokens that are only labels remain so when a label with its `:` is appended.
 Labels-more : (front : TokenList) (ls : List Bytes) (l : Bytes)
     → Labels front ls []
-    → IsLocationName l
+    → IsUnreservedName l
     → Labels (front ++ l ∷ codes ":" ∷ []) (ls ++ l ∷ []) []
 Labels-more front [] l h loc = rw h ([], refl, loc, refl)
 Labels-more front (k ∷ ls) l h loc =
@@ -118,17 +120,17 @@ Labels-cut ts rest mid (l ∷ ls) (m ∷ ks) h k none =
     (go.0, (let tail : ks ≡ ls ++ go.0 = go.1 in cc), go.2)
 
 -- If a `:` follows the next token, that token is the next label.
-Labels-next : (rest mid : TokenList) (more : List Bytes) (a : Bytes)
+Labels-next_inv : (rest mid : TokenList) (more : List Bytes) (a : Bytes)
     → slice_get rest 0 ≡ Some a
     → slice_get rest 1 ≡ Some (codes ":")
     → Labels rest more mid
     → (BeginsWithLabel mid → ⊥)
-    → (ks : List Bytes) × (more ≡ a ∷ ks) × IsLocationName a
-Labels-next rest mid [] a first colon h none = absurd (none (subst BeginsWithLabel h colon))
-Labels-next rest mid (m ∷ ks) a first colon h none =
+    → (ks : List Bytes) × (more ≡ a ∷ ks) × IsUnreservedName a
+Labels-next_inv rest mid [] a first colon h none = absurd (none (subst BeginsWithLabel h colon))
+Labels-next_inv rest mid (m ∷ ks) a first colon h none =
     let e : slice_get rest 0 ≡ Some m = ap (λ t. slice_get t 0) h.1 in
     let same : m ≡ a = cc in
-    (ks, ap (λ x. x ∷ ks) same, subst IsLocationName same h.2)
+    (ks, ap (λ x. x ∷ ks) same, subst IsUnreservedName same h.2)
 
 -- The maximal sequence of labels at the start of tokens is unique, and so is what follows it.
 pub Labels-unique : (ts m n : TokenList) (ls ks : List Bytes)
@@ -139,6 +141,7 @@ pub Labels-unique : (ts m n : TokenList) (ls ks : List Bytes)
     → (ls ≡ ks) × (m ≡ n)
 Labels-unique ts m n ls ks h k p q = let cut = Labels-cut ts m n ls ks h k q in go cut.0 cut.1 cut.2
   where
+    -- By the labels that `ks` has after `ls`: there are none.
     go : (more : List Bytes) → ks ≡ ls ++ more → Labels m more n → (ls ≡ ks) × (m ≡ n)
     go [] same here = (sym (same ∙ append-nil ls), here)
     go (l ∷ more) same here = absurd (p (ap (λ (t : TokenList). slice_get t 1) here.1))
@@ -175,6 +178,7 @@ module _ (tokens : List Token) (to : ℕ) (labels : LabelMap) (next : ℕ) (now 
       rw (read.made n, list_any-append (λ m. bytes_eq m n) known read.names, ← knows n)
       (go (contains_name read.names n) (target_by labels n))
     where
+      -- By whether the name is among those read, and by its target before.
       go : (b : Bool) (o : Option ℕ) → is_some (if b then Some to else o) ≡ (is_some o || b)
       go true None = refl
       go true (Some k) = refl
@@ -185,7 +189,7 @@ module _ (tokens : List Token) (to : ℕ) (labels : LabelMap) (next : ℕ) (now 
       (colon : slice_get (token_texts tokens) (next + 1) ≡ Some (codes ":")) where
     -- If that token is a location's name that is not in the map, it is one more label.
     pub LabelsRead-push : (after : LabelMap)
-        → IsLocationName token.text.now
+        → IsUnreservedName token.text.now
         → is_some (target_by now token.text.now) ≡ false
         → ((m : Bytes) → target_by after m ≡ update bytes_eq (target_by now) token.text.now (Some to) m)
         → LabelsRead tokens to labels (next + 2) after
@@ -235,19 +239,20 @@ module _ (tokens : List Token) (to : ℕ) (labels : LabelMap) (next : ℕ) (now 
         target-if_cases false true o = refl
         target-if_cases false false o = refl
 
-    -- The labels of the cell continue with this one.
-    pub Labels-continue : (ks : List Bytes) (mid : TokenList)
+    -- If a `:` follows the next token, all labels of the cell are those read, this token and others, and the token may be a
+    -- label.
+    pub Labels-with_next_inv : (ks : List Bytes) (mid : TokenList)
         → Labels (token_texts tokens) ks mid
         → (BeginsWithLabel mid → ⊥)
-        → (more : List Bytes) × (ks ≡ read.names ++ token.text.now ∷ more) × IsLocationName token.text.now
-    Labels-continue ks mid h none =
+        → (more : List Bytes) × (ks ≡ read.names ++ token.text.now ∷ more) × IsUnreservedName token.text.now
+    Labels-with_next_inv ks mid h none =
         let rest = token_texts (drop next tokens) in
         let cut = Labels-cut (token_texts tokens) rest mid read.names ks (Labels-whole tokens next read.names read.says) h none in
         let here : next ≡ next + 0 = omega arith in
         let go =
-        Labels-next rest mid cut.0 token.text.now
-        (get-drop_tokens tokens next 0 ∙ ap (slice_get (token_texts tokens)) (sym here) ∙ get_text tokens next token is)
-        (get-drop_tokens tokens next 1 ∙ colon) cut.2 none in
+        Labels-next_inv rest mid cut.0 token.text.now
+        (slice_get-drop_tokens tokens next 0 ∙ ap (slice_get (token_texts tokens)) (sym here) ∙ get_text tokens next token is)
+        (slice_get-drop_tokens tokens next 1 ∙ colon) cut.2 none in
         (go.0, cut.1 ∙ ap (λ (ns : List Bytes). read.names ++ ns) go.1, go.2)
 
     -- The token is in the place of a label.
@@ -273,7 +278,7 @@ module _ (tokens : List Token) (to : ℕ) (labels : LabelMap) (next : ℕ) (now 
       -- If the next label is one that the thread has already, no labels of the cell fit.
       pub no_labels-if_duplicate : (ks : List Bytes) → LabelsFit labels (token_texts tokens) ks → ⊥
       no_labels-if_duplicate ks fit =
-          let on = Labels-continue ks fit.rest fit.says fit.stops in
+          let on = Labels-with_next_inv ks fit.rest fit.says fit.stops in
           let row : fit.known ++ ks ≡ (fit.known ++ read.names) ++ token.text.now ∷ on.0 =
           ap (λ (ns : List Bytes). fit.known ++ ns) on.1 ∙ sym (append_assoc fit.known read.names (token.text.now ∷ on.0)) in
           not-in_both-if_duplicate_free (fit.known ++ read.names) (token.text.now ∷ on.0) token.text.now

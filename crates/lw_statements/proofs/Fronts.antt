@@ -7,7 +7,7 @@ use Rattle.lw_statements.proofs.Common.{sym, ap, ◌∙◌, subst, arith, IsTrue
 use Rattle.lw_statements.proofs.Common.{MatchOption, length-take, length-append, take_drop-at, take-map}
 use Rattle.lw_statements.proofs.Common.{slice_get_within, insert_name, insert_names, insert_name-if_in_table}
 use Rattle.lw_statements.proofs.Common.{contains_name, contains_name-Contains, cons_option, most_locations}
-use Rattle.lw_statements.proofs.Common.{codes, IsLocationName, IsNameTable, name_by_test, Bytes, NameTable}
+use Rattle.lw_statements.proofs.Common.{codes, IsUnreservedName, IsNameTable, name_by_test, Bytes, NameTable}
 use Rattle.lw_statements.proofs.Common.{TokenList, Token, token_texts, Slot, Keyword, Register, Location}
 use Rattle.lw_statements.proofs.Common.{Value, Number, Label, Spelling, Filling, Fills, name_in, grammar_of}
 use Rattle.lw_statements.proofs.Common.{ParsesStatement, CanFill, HasNext, IsSlotAfter, IsAcceptedLength}
@@ -31,7 +31,7 @@ length_at_most-no_item [] k e = omega arith
 length_at_most-no_item (t ∷ tokens) zero e = absurd cc
 length_at_most-no_item (t ∷ tokens) (suc k) e = let less = length_at_most-no_item tokens k e in omega (arith, less)
 
--- No tokens have no texts.
+-- The empty list of tokens has the empty list of texts.
 token_texts-empty : (tokens : List Token) → length tokens ≡ 0 → token_texts tokens ≡ []
 token_texts-empty [] e = refl
 token_texts-empty (t ∷ tokens) e = absurd (omega (arith, e))
@@ -39,7 +39,7 @@ token_texts-empty (t ∷ tokens) e = absurd (omega (arith, e))
 module _ {W Form Stmt : Type 0} (spelling : Spelling W Form Stmt) where
   -- ---- the slot after those that accept tokens
 
-  -- If there are no slots, none follows.
+  -- In the empty list of slots no slot follows tokens.
   pub no_slot-if_empty : (slots : List (Slot W)) (ts : TokenList)
       → length slots ≡ 0
       → (next : Slot W)
@@ -48,14 +48,15 @@ module _ {W Form Stmt : Type 0} (spelling : Spelling W Form Stmt) where
   no_slot-if_empty [] ts a next h = h
   no_slot-if_empty (slot ∷ slots) ts a next h = absurd (omega (arith, a))
 
-  -- After no tokens, the first slot follows.
+  -- If there are no tokens, the first slot follows them.
   pub slot_next : (rest : List (Slot W)) (slot : Slot W) (tokens : List Token)
       → length tokens ≡ 0
       → IsSlotAfter spelling (token_texts tokens) (slot ∷ rest) slot
   slot_next rest slot [] b = refl
   slot_next rest slot (t ∷ tokens) b = absurd (omega (arith, b))
 
-  -- With a token and a slot that accepts it before them, the same slot follows.
+  -- If a slot accepts t, the slot that follows t and `ts`, in slots with that slot before them, is the one that follows `ts`;
+  -- or there is none in both.
   pub slot_further : (rest : List (Slot W)) (slot : Slot W) (ts : TokenList) (t : Bytes) (o : Option (Slot W))
       → CanFill spelling (t ∷ []) (slot ∷ [])
       → MatchOption o ((next : Slot W) → IsSlotAfter spelling ts rest next → ⊥) (IsSlotAfter spelling ts rest)
@@ -73,7 +74,7 @@ module _ {W Form Stmt : Type 0} (spelling : Spelling W Form Stmt) where
   IsSlotAfter-unique (slot ∷ slots) [] a b h k = sym h ∙ k
   IsSlotAfter-unique (slot ∷ slots) (t ∷ ts) a b h k = IsSlotAfter-unique slots ts a b h.1 k.1
 
-  -- If the slot that follows is of a kind, such a slot follows, and otherwise none.
+  -- If a slot follows the tokens, one of a kind follows them if and only if this slot is of the kind.
   pub HasNext-of_kind : (IsSo : Slot W → Type 0) (slots : List (Slot W)) (ts : TokenList) (slot : Slot W) (b : Bool)
       → IsSlotAfter spelling ts slots slot
       → IsTrue b ↔ IsSo slot
@@ -103,7 +104,7 @@ module _ {W Form Stmt : Type 0} (spelling : Spelling W Form Stmt) where
   length-before_accepted (s ∷ slots) (u ∷ ts) back t slot (suc n) after here h =
       let r = length-before_accepted slots ts back t slot n after.1 here h.1 in omega (arith, r)
 
-  -- After the most tokens that any form accepts, no statement goes on with the next one.
+  -- After the most tokens that any form accepts, no statement continues with the next one.
   pub no_statement_continues : (ts : TokenList) (k : ℕ) (t : Bytes)
       → AcceptAtMost spelling ts k
       → slice_get ts k ≡ Some t
@@ -117,7 +118,7 @@ module _ {W Form Stmt : Type 0} (spelling : Spelling W Form Stmt) where
       (subst (λ (us : TokenList). IsAcceptedLength spelling us (spelling.slots_of h.0) n.0) (take_drop-at ts k t is) n.1) in
       omega (arith, past, n.2, length-take k ts, slice_get_within ts k t is)
 
-  -- The slot at the end of those that tokens match, if it is one, follows them.
+  -- If tokens match n slots, the slot at an index k below n follows the first k tokens, and accepts the token at k.
   pub IsSlotAfter-get : (slots : List (Slot W)) (ts : TokenList) (n k : ℕ) (slot : Slot W)
       → IsAcceptedLength spelling ts slots n
       → k < n
@@ -145,6 +146,7 @@ module _ {W Form Stmt : Type 0} (spelling : Spelling W Form Stmt) where
   IsSlotAfter-before_location front back slots ts cut stands =
       subst (λ (ss : List (Slot W)). IsSlotAfter spelling ts ss Location) (sym cut) (go front ts stands.0 stands.1)
     where
+      -- By the slots before that of the location.
       go : (front : List (Slot W)) (ts : TokenList) (f : Filling front)
           → Fills spelling ts front f
           → IsSlotAfter spelling ts (front ++ Location ∷ back) Location
@@ -159,13 +161,13 @@ module _ {W Form Stmt : Type 0} (spelling : Spelling W Form Stmt) where
   abbrev IsFitting : NameTable → Option Bytes → Type 0
   IsFitting names o = length (insert_names names (cons_option o [])) ≤ most_locations
 
-  -- A location's name that the table has or has room for.
+  -- Some location's name is in the table, or has room in it.
   fitting_name : (names : NameTable)
       → IsNameTable names
-      → (x : Bytes) × IsLocationName x × (length (insert_name names x) ≤ most_locations)
+      → (x : Bytes) × IsUnreservedName x × (length (insert_name names x) ≤ most_locations)
   fitting_name [] table = (codes "x", (name_by_test (codes "x") refl, refl), omega arith)
   fitting_name (n ∷ names) table =
-      (n, table.are_location_names.0, omega (arith, table.bounded, ap length (insert_name-if_in_table (n ∷ names) n 0 refl)))
+      (n, table.are_unreserved.0, omega (arith, table.bounded, ap length (insert_name-if_in_table (n ∷ names) n 0 refl)))
 
   module _ (names : NameTable) (table : IsNameTable names) where
     -- Any slots accept some tokens, on a location that fits the table.
@@ -279,6 +281,7 @@ module _ {W Form Stmt : Type 0} (spelling : Spelling W Form Stmt) where
         → AllFit (token_texts tokens) slots n
     AllFit-no_overflow tokens slots n none k x less at is = go (contains_name names x) refl
       where
+        -- By whether the table has the name.
         go : (b : Bool) → contains_name names x ≡ b → length (insert_name names x) ≤ most_locations
         go true e = rw e table.bounded
         go false e =
@@ -303,7 +306,7 @@ module _ {W Form Stmt : Type 0} (spelling : Spelling W Form Stmt) where
   IsReached ts k =
       (k ≡ 0) ⊎ ((form : Form) × Contains spelling.forms form × IsAcceptedLength spelling ts (spelling.slots_of form) k)
 
-  -- Of two numbers that forms accept, the greater is one.
+  -- If a form accepts n tokens, and the longest length so far is reached, the greater of the two is reached.
   pub longer_reached : (ts : TokenList) (longest n k : ℕ) (form : Form)
       → Contains spelling.forms form
       → IsAcceptedLength spelling ts (spelling.slots_of form) n
@@ -385,6 +388,7 @@ module _ {W Form Stmt : Type 0} (spelling : Spelling W Form Stmt) where
       → f.at ≤ len
   rejected_within tokens end f r len all within = go (slice_get tokens r.front) refl r.fault_is
     where
+      -- By whether a token follows the longest accepted prefix.
       go : (o : Option Token)
           → slice_get tokens r.front ≡ o
           → MatchOption o ((f.at ≡ end) × (f.cause ≡ cause.Form)) (λ t.
@@ -396,13 +400,14 @@ module _ {W Form Stmt : Type 0} (spelling : Spelling W Form Stmt) where
 
   module _ (tokens : List Token) (end : ℕ) (names : NameTable) (table : IsNameTable names)
       (room : (form : Form) → Contains spelling.forms form → HasRoom tokens names form) where
-    -- The longest prefix that matches a form begins a statement with room.
+    -- The longest prefix that matches a form begins a statement with room, if it is not empty.
     BeginsFitting-longest_front : (k : ℕ)
         → IsLongestAccepted spelling (token_texts tokens) k
         → (k ≡ 0 → ⊥)
         → BeginsFitting (grammar_of spelling) names (token_texts (take k tokens))
     BeginsFitting-longest_front k longest some = go longest.reached
       where
+        -- By how the longest prefix is reached: some form accepts it, or it is empty.
         go : IsReached (token_texts tokens) k → BeginsFitting (grammar_of spelling) names (token_texts (take k tokens))
         go (inl none) = absurd (some none)
         go (inr (form, there, reach)) =
@@ -424,6 +429,7 @@ module _ {W Form Stmt : Type 0} (spelling : Spelling W Form Stmt) where
         → StatementFaultIsTrue (grammar_of spelling) tokens end names f.at f.cause
     StatementFaultIsTrue-of_first_rejected none f r = go (slice_get tokens r.front) refl r.fault_is
       where
+        -- By whether a token follows the longest accepted prefix.
         go : (o : Option Token)
             → slice_get tokens r.front ≡ o
             → MatchOption o ((f.at ≡ end) × (f.cause ≡ cause.Form)) (λ t.
@@ -456,7 +462,8 @@ module _ {W Form Stmt : Type 0} (spelling : Spelling W Form Stmt) where
           meant = is.1;
         }))
 
--- A slot and its token, of which it is not so that the slot is a location's and the token a ninth: then there is no such slot up to there.
+-- If no slot before an index has a ninth location as its token, and the slot at the index has none, no slot before the next
+-- index has one.
 pub no_match_before : {W : Type 0} (slots : List (Slot W)) (tokens : List Token) (front : ℕ) (names : NameTable) (index : ℕ)
     (slot : Slot W) (token : Token)
     → slice_get slots index ≡ Some slot
@@ -477,7 +484,7 @@ no_match_before slots tokens front names index slot token at is none before k le
       none (one, over.full, subst (λ (t : Token). Contains names t.text.now → ⊥) two over.new)
 ]
 
--- Where `IsBefore` holds, the two alternatives with it and without it are equivalent.
+-- If `IsBefore` holds, the two alternatives with it and without it are equivalent.
 pub name_iff-fact_known : {IsSo IsBefore IsOther : Type 0}
     → IsBefore
     → (IsSo ⊎ IsOther → (IsSo × IsBefore) ⊎ IsOther) × ((IsSo × IsBefore) ⊎ IsOther → IsSo ⊎ IsOther)
@@ -493,7 +500,7 @@ name_iff-fact_known {IsSo} {IsBefore} {IsOther} b = (with_IsBefore, without_IsBe
     without_IsBefore (inl so) = inl so.0
     without_IsBefore (inr other) = inr other
 
--- Where `IsBefore` does not hold, only the second alternative is possible.
+-- If `IsBefore` does not hold, only the second alternative is possible.
 pub other-fact_not_known : {IsSo IsBefore IsOther : Type 0} → (IsBefore → ⊥) → (IsSo × IsBefore) ⊎ IsOther → IsOther
 other-fact_not_known none (inl so) = absurd (none so.1)
 other-fact_not_known none (inr other) = other

@@ -78,7 +78,8 @@ module _ {W Form Stmt : Type 0} (spelling : Spelling W Form Stmt) where
           take_drop-at tokens k token stands ∙ ap (λ (ts : List Token). take k tokens ++ token ∷ ts) none,
         )
 
-    -- The target of the label, if there is one.
+    -- If the draft's label, if it has one, leads forward to `to`, then `to` is the target of the statement's label, and later
+    -- than the statement.
     target_is_forward : (labels : LabelMap) (own_index : ℕ) (to : Option ℕ)
         → HasForwardTarget labels own_index tokens draft.label to
         → (at : ℕ)
@@ -86,6 +87,7 @@ module _ {W Form Stmt : Type 0} (spelling : Spelling W Form Stmt) where
         × ForSome ((grammar_of spelling).label_of s) (λ l. (target_by labels l ≡ Some at) × (own_index < at))
     target_is_forward labels own_index to = go draft.label refl
       where
+        -- By whether the draft has a label.
         go : (o : Option ℕ)
             → draft.label ≡ o
             → HasForwardTarget labels own_index tokens o to
@@ -130,14 +132,15 @@ module _ {W Form Stmt : Type 0} (spelling : Spelling W Form Stmt) where
             (well_spelled spelling made lawful s.form says.0).1 says.1 is in
             omega (arith, l.3, l.5, length-map tokens (λ (t : Token). t.text.now))
 
-    -- The statement made is the resolved one.
-    pub IsResolved-of_draft : (syntaxes : List (CellSyntax (ParsesStatement spelling))) (labels : LabelMap) (own_index : ℕ)
-        (stmt : Stmt)
+    -- If a statement is resolved by a map of the cells' labels, it is the one that its syntax says, and its label leads
+    -- forward.
+    pub resolved_statement-IsResolved : (syntaxes : List (CellSyntax (ParsesStatement spelling))) (labels : LabelMap)
+        (own_index : ℕ) (stmt : Stmt)
         → MapsLabelsAs labels syntaxes
         → IsResolved made labels own_index tokens draft stmt
         → (stmt ≡ resolved_statement (grammar_of spelling) names syntaxes s)
         × LabelsLeadForward (grammar_of spelling) syntaxes own_index s
-    IsResolved-of_draft syntaxes labels own_index stmt leads r =
+    resolved_statement-IsResolved syntaxes labels own_index stmt leads r =
         let t = target_is_forward labels own_index r.to r.leads_forward in
         let there : ForSome ((grammar_of spelling).label_of s)
         (λ l. Contains (labels_of syntaxes) l × (t.0 ≡ target_in syntaxes l)) =

@@ -31,6 +31,7 @@ module _ {Syntax : Type 0} where
   label_target-target_in (syntax ∷ syntaxes) k n to e =
       go (contains_name syntax.labels n) refl (label_target-target_in syntaxes (k + length (statements (syntax ∷ []))) n to)
     where
+      -- By whether the name is a label of the first cell.
       go : (b : Bool)
           → contains_name syntax.labels n ≡ b
           → (label_target (k + length (statements (syntax ∷ []))) syntaxes n ≡ Some to
@@ -50,6 +51,7 @@ module _ {Syntax : Type 0} where
       go (contains_name syntax.labels n) (is_some-label_target syntaxes (k + length (statements (syntax ∷ []))) n)
       ∙ sym (list_any-append (λ m. bytes_eq m n) syntax.labels (labels_of syntaxes))
     where
+      -- By whether the name is a label of the first cell.
       go : (b : Bool)
           → is_some (label_target (k + length (statements (syntax ∷ []))) syntaxes n) ≡ contains_name (labels_of syntaxes) n
           → is_some (if b then Some k else label_target (k + length (statements (syntax ∷ []))) syntaxes n)
@@ -81,6 +83,7 @@ module _ {Syntax : Type 0} where
   target_within [] n = omega arith
   target_within (syntax ∷ syntaxes) n = go (contains_name syntax.labels n) refl (target_within syntaxes n)
     where
+      -- By whether the name is a label of the first cell.
       go : (b : Bool)
           → contains_name syntax.labels n ≡ b
           → target_in syntaxes n ≤ length (statements syntaxes)
@@ -94,12 +97,14 @@ module _ {Syntax : Type 0} where
     abbrev label_of_last_cell : ℕ → Option ℕ
     label_of_last_cell to = if contains_name syntax.labels n then Some to else None
 
-    -- Of one more cell the labels count if no earlier cell has the name.
+    -- With one more cell a name has the target that it has without this cell; or, if it has none and is a label of this cell,
+    -- the position after all statements before.
     label_target-shifted : (xs : List (CellSyntax Syntax)) (k : ℕ)
         → label_target k (xs ++ syntax ∷ []) n ≡ option_or (label_target k xs n) (label_of_last_cell (k + length (statements xs)))
     label_target-shifted [] k = let e : k ≡ k + 0 = omega arith in ap label_of_last_cell e
     label_target-shifted (x ∷ xs) k = go (contains_name x.labels n) (label_target-shifted xs (k + length (statements (x ∷ []))))
       where
+        -- By whether the name is a label of the first cell.
         go : (b : Bool)
             → label_target (k + length (statements (x ∷ []))) (xs ++ syntax ∷ []) n
             ≡ option_or (label_target (k + length (statements (x ∷ []))) xs n)

@@ -4,33 +4,33 @@ use Rattle.lw_statements.proofs.Common.{◌≡◌, ℕ, ◌≤◌, ◌+◌, ◌*
 use Rattle.lw_statements.proofs.Common.{◌∷◌, ◌++◌, length, length-append, refl, sym, ap, ◌∙◌, subst, arith}
 use Rattle.lw_statements.proofs.Common.{slice_get, codes, Contains, MatchOption, append_assoc, append-nil}
 use Rattle.lw_statements.proofs.Common.{AllZip, AllByRecursion, map-append, length-map, flat_map-append}
-use Rattle.lw_statements.proofs.Common.{get-append_middle, All-from_recursion, All-contains}
+use Rattle.lw_statements.proofs.Common.{slice_get-append_middle, All-from_recursion, All-contains}
 use Rattle.lw_statements.proofs.Common.{AllByRecursion-append, cons_option, cases_Bool, ltb, ltb-true}
 use Rattle.lw_statements.proofs.Common.{ltb-false, CellCause, LabelMissing, LabelTwice, Backward, TooMany}
-use Rattle.lw_statements.proofs.Common.{Memory, most_locations, IsDuplicateFree, IsLocationName, insert_names}
-use Rattle.lw_statements.proofs.Common.{insert_names-append, insert_names-longer, Bytes, NameTable, TokenList}
-use Rattle.lw_statements.proofs.Common.{CellGrid, Cells, PlacedCell, texts_of_tokens, Grammar, IsGrammar}
-use Rattle.lw_statements.proofs.Common.{CellSyntax, MaybeStatement, ParsesCell, Column, Labels, statements}
-use Rattle.lw_statements.proofs.Common.{labels_of, target_in, names_in, names_of, LabelsLeadForward}
-use Rattle.lw_statements.proofs.Common.{cell_without_labels, CellPosition, TokenPosition, IsReadTo, IsBegun}
-use Rattle.lw_statements.proofs.Common.{IsWrong, EndsEarly, IsSecondLabel, IsSurplus, IsNinth, IsJumpLabel}
-use Rattle.lw_statements.proofs.Common.{CellCauseIsTrue, BeginsFitting, BeginsWithLabel, table_after}
-use Rattle.lw_statements.proofs.Common.{all_syntaxes, texts_of_cells, texts_of_grid, PlacedToken}
+use Rattle.lw_statements.proofs.Common.{Memory, most_locations, IsDuplicateFree, IsUnreservedName}
+use Rattle.lw_statements.proofs.Common.{insert_names, insert_names-append, length_le-insert_names, Bytes}
+use Rattle.lw_statements.proofs.Common.{NameTable, TokenList, CellGrid, Cells, PlacedCell, texts_of_tokens}
+use Rattle.lw_statements.proofs.Common.{Grammar, IsGrammar, CellSyntax, MaybeStatement, ParsesCell, Column}
+use Rattle.lw_statements.proofs.Common.{Labels, statements, labels_of, target_in, names_in, names_of}
+use Rattle.lw_statements.proofs.Common.{LabelsLeadForward, cell_without_labels, CellPosition, TokenPosition}
+use Rattle.lw_statements.proofs.Common.{IsReadTo, IsBegun, IsWrong, EndsEarly, IsSecondLabel, IsSurplus}
+use Rattle.lw_statements.proofs.Common.{IsNinth, IsJumpLabel, CellCauseIsTrue, BeginsFitting, BeginsWithLabel}
+use Rattle.lw_statements.proofs.Common.{table_after, all_syntaxes, texts_of_cells, texts_of_grid, PlacedToken}
 use Rattle.lw_statements.proofs.CellFaults.{IsFront, IsStuck, split_order, labels_length, not-longer-IsStuck}
 use Rattle.lw_statements.proofs.CellFaults.{IsStuck-unique, not-IsStuck-if_whole_cell}
 use Rattle.lw_statements.proofs.CellsRefused.{IsDuplicateFree-front}
 use Rattle.lw_statements.proofs.Leads.{statements-append, count-append, labels_of-append}
 use Rattle.lw_statements.proofs.OneReading.{ParsesCell-unique, Column-unique, no_label-if_statement}
 use Rattle.lw_statements.proofs.ResolvedNames.{names_in-append}
-use Rattle.lw_statements.proofs.api.Zips.{AllZip-split, AllZip-unique}
+use Rattle.lw_statements.proofs.api.Zips.{Cut-AllZip, AllZip-unique}
 use Rattle.lw_base.specs.declared.fault.CellCause.TheVariants as cause
 
--- The first item of a list.
+-- A list whose item at index 0 is a is a, followed by others.
 cons-get_zero : (ts : TokenList) (a : Bytes) → slice_get ts 0 ≡ Some a → (more : TokenList) × (ts ≡ a ∷ more)
 cons-get_zero [] a e = absurd cc
 cons-get_zero (t ∷ ts) a e = (ts, (let same : t ≡ a = cc in ap (λ (u : Bytes). u ∷ ts) same))
 
--- The last item of a list is unique.
+-- If two lists with one item appended are equal, so are these items.
 snoc-injective : {X : Type 0} (xs zs : List X) (x z : X) → xs ++ x ∷ [] ≡ zs ++ z ∷ [] → x ≡ z
 snoc-injective xs zs x z e =
     let long : length (xs ++ x ∷ []) ≡ length (zs ++ z ∷ []) = ap length e in
@@ -57,23 +57,23 @@ snoc-injective xs zs x z e =
     ]
 
 -- There is no item at the length of a list.
-get-length : {X : Type 0} (xs : List X) → slice_get xs (length xs) ≡ None
-get-length [] = refl
-get-length (x ∷ xs) = get-length xs
+slice_get-length : {X : Type 0} (xs : List X) → slice_get xs (length xs) ≡ None
+slice_get-length [] = refl
+slice_get-length (x ∷ xs) = slice_get-length xs
 
--- All labels of a cell are names of locations.
-labels_named : (ts rest : TokenList) (ls : List Bytes) → Labels ts ls rest → AllByRecursion IsLocationName ls
+-- All labels of a cell are names that a label or a location may have.
+labels_named : (ts rest : TokenList) (ls : List Bytes) → Labels ts ls rest → AllByRecursion IsUnreservedName ls
 labels_named ts rest [] h = tt
 labels_named ts rest (l ∷ ls) h = (h.2, labels_named h.0 rest ls h.3)
 
 module _ {Syntax Stmt : Type 0} (grammar : Grammar Syntax Stmt) (lawful : IsGrammar grammar) where
-  -- All labels of cells are names of locations.
+  -- All labels of cells are names that a label or a location may have.
   cells_named : (cells : Cells) (syntaxes : List (CellSyntax Syntax))
       → AllZip (ParsesCell grammar) cells syntaxes
-      → AllByRecursion IsLocationName (labels_of syntaxes)
+      → AllByRecursion IsUnreservedName (labels_of syntaxes)
   cells_named [] [] h = tt
   cells_named (cell ∷ cells) (syntax ∷ syntaxes) h =
-      AllByRecursion-append IsLocationName syntax.labels (labels_of syntaxes) (labels_named cell h.0.0 syntax.labels h.0.1)
+      AllByRecursion-append IsUnreservedName syntax.labels (labels_of syntaxes) (labels_named cell h.0.0 syntax.labels h.0.1)
       (cells_named cells syntaxes h.1)
   cells_named cells syntaxes h = absurd h
 
@@ -151,7 +151,7 @@ module _ {Syntax Stmt : Type 0} (grammar : Grammar Syntax Stmt) (lawful : IsGram
             ) in
             let is : slice_get p.place.cell.tokens (2 * length r.labels + length mid) ≡ Some p.token =
             ap (λ (ts : List PlacedToken). slice_get ts (2 * length r.labels + length mid)) p.in_cell
-            ∙ get-append_middle p.front p.token p.back (2 * length r.labels + length mid) long in
+            ∙ slice_get-append_middle p.front p.token p.back (2 * length r.labels + length mid) long in
             rw is p.begins;
       };
     }
@@ -222,7 +222,7 @@ module _ {Syntax Stmt : Type 0} (grammar : Grammar Syntax Stmt) (lawful : IsGram
               length-map q.cell.tokens (λ (t : PlacedToken). t.text),
             ) in
             let is : slice_get q.cell.tokens (2 * length n.read.labels + length n.mid) ≡ None =
-            ap (slice_get q.cell.tokens) long ∙ get-length q.cell.tokens in
+            ap (slice_get q.cell.tokens) long ∙ slice_get-length q.cell.tokens in
             rw is n.ends;
       };
     }
@@ -235,7 +235,7 @@ module _ {Syntax Stmt : Type 0} (grammar : Grammar Syntax Stmt) (lawful : IsGram
 
   module _ (names : NameTable) (threads : List (List (CellSyntax Syntax))) (syntaxes : List (CellSyntax Syntax))
       (cell : PlacedCell) where
-    -- Two faults in a cell, of which the same precedes it, are the same.
+    -- Two faults in a cell, after the same cells above it, are at one place and for one cause.
     Faulty-unique : (at other : ℕ) (c d : CellCause) (above : Cells)
         → AllZip (ParsesCell grammar) above syntaxes
         → Faulty names threads syntaxes cell at c
@@ -254,8 +254,8 @@ module _ {Syntax Stmt : Type 0} (grammar : Grammar Syntax Stmt) (lawful : IsGram
             let high = ltb-false second_index first_index h in
             let same : first_index ≡ second_index = omega (arith, low, high) in (
               place-unique (slice_get cell.tokens second_index) (rw same at f.offset) g.offset,
-              IsStuck-unique grammar _ _ _ _ f.labels g.labels f.mid g.mid f.rest g.rest c d labels_are_location_names f.front
-                  g.front f.stuck g.stuck same,
+              IsStuck-unique grammar _ _ _ _ f.labels g.labels f.mid g.mid f.rest g.rest c d labels_are_unreserved f.front g.front
+                  f.stuck g.stuck same,
             )
       ]
     ]
@@ -268,12 +268,12 @@ module _ {Syntax Stmt : Type 0} (grammar : Grammar Syntax Stmt) (lawful : IsGram
         second_index : ℕ
         second_index = 2 * length g.labels + length g.mid
 
-        -- All labels are names of locations.
-        labels_are_location_names : (n : Bytes) → Contains (labels_of syntaxes ++ f.labels) n → IsLocationName n
-        labels_are_location_names n is =
-            All-contains IsLocationName _ n
-            (All-from_recursion IsLocationName _
-            (AllByRecursion-append IsLocationName (labels_of syntaxes) f.labels (cells_named above syntaxes says)
+        -- All labels of the thread are names that a label or a location may have.
+        labels_are_unreserved : (n : Bytes) → Contains (labels_of syntaxes ++ f.labels) n → IsUnreservedName n
+        labels_are_unreserved n is =
+            All-contains IsUnreservedName _ n
+            (All-from_recursion IsUnreservedName _
+            (AllByRecursion-append IsUnreservedName (labels_of syntaxes) f.labels (cells_named above syntaxes says)
             (labels_named _ _ f.labels f.front.says))) is
 
         -- Tokens at one index are at one place.
@@ -305,7 +305,8 @@ module _ {Syntax Stmt : Type 0} (grammar : Grammar Syntax Stmt) (lawful : IsGram
               no_label-if_statement grammar lawful parse.0 syntax.stmt parse.2 (subst BeginsWithLabel (append-nil parse.0) at));
         }) parse.2
       where
-        -- What was begun with room goes on, if the whole has room.
+        -- If the whole content of the cell has room, and tokens follow its labels, the thread has room for a statement, and one
+        -- that fits begins with these tokens.
         begins_statement-MaybeStatement : (o : Option Syntax)
             → MaybeStatement grammar parse.0 o
             → length (statements (syntaxes ++ record { labels = syntax.labels; stmt = o } ∷ [])) ≤ grammar.language.most
@@ -342,7 +343,7 @@ module _ {Syntax Stmt : Type 0} (grammar : Grammar Syntax Stmt) (lawful : IsGram
   cells_content-unique cells s t = AllZip-unique (ParsesCell grammar) (ParsesCell-unique grammar lawful) cells s t
 
   module _ (names : NameTable) (columns : List (List PlacedCell)) where
-    -- The cells down to that of a fault, and those below, are not read.
+    -- The cells of a thread down to that of a fault, and with any cells below, do not parse within the limits.
     no_cells-down_to_faulty : (at : ℕ) (c : CellCause) (v : CellFaulty names columns at c) (more : List PlacedCell)
         (threads : List (List (CellSyntax Syntax))) (syntaxes : List (CellSyntax Syntax))
         → AllZip (Column grammar) (texts_of_grid v.place.before) threads
@@ -354,7 +355,7 @@ module _ {Syntax Stmt : Type 0} (grammar : Grammar Syntax Stmt) (lawful : IsGram
     no_cells-down_to_faulty at c v more threads syntaxes before says few once room =
         let texts = λ (cell : PlacedCell). texts_of_tokens cell.tokens in
         let cut =
-        AllZip-split (ParsesCell grammar) (texts_of_cells v.place.above) (texts v.place.cell) (texts_of_cells more) syntaxes
+        Cut-AllZip (ParsesCell grammar) (texts_of_cells v.place.above) (texts v.place.cell) (texts_of_cells more) syntaxes
         (subst (λ (cs : Cells). AllZip (ParsesCell grammar) cs syntaxes) (map-append texts v.place.above (v.place.cell ∷ more))
         says) in
         let above = cells_content-unique (texts_of_cells v.place.above) cut.above v.syntaxes cut.above_says v.says in
@@ -403,7 +404,7 @@ module _ {Syntax Stmt : Type 0} (grammar : Grammar Syntax Stmt) (lawful : IsGram
               arith,
               space,
               ap length table,
-              insert_names-longer (insert_names (table_after grammar names ts ss) (names_in grammar (s ∷ [])))
+              length_le-insert_names (insert_names (table_after grammar names ts ss) (names_in grammar (s ∷ [])))
                   (names_in grammar below),
             )
 
@@ -421,7 +422,7 @@ module _ {Syntax Stmt : Type 0} (grammar : Grammar Syntax Stmt) (lawful : IsGram
         × Contains (labels_of (all_syntaxes above syntax below)) token.token.text
         × (target_in (all_syntaxes above syntax below) token.token.text ≤ length (statements above)))
 
-  -- The statements of cells, where one of them is this.
+  -- The statements of cells, of which one has the statement s, are those above it, s, and those below it.
   statements-middle : (above below : List (CellSyntax Syntax)) (syntax : CellSyntax Syntax) (s : Syntax)
       → syntax.stmt ≡ Some s
       → statements (above ++ syntax ∷ below) ≡ statements above ++ s ∷ statements below
@@ -436,6 +437,7 @@ module _ {Syntax Stmt : Type 0} (grammar : Grammar Syntax Stmt) (lawful : IsGram
         → ⊥
     not-LabelsLeadForward-if_jump_faulty at c j ahead = go j.because
       where
+        -- By why the jump is at fault: its label is missing, or does not lead forward.
         go : ((c ≡ LabelMissing) × (Contains (labels_of (all_syntaxes j.above j.syntax j.below)) j.token.token.text → ⊥))
             ⊎ ((c ≡ Backward)
             × Contains (labels_of (all_syntaxes j.above j.syntax j.below)) j.token.token.text
@@ -444,7 +446,7 @@ module _ {Syntax Stmt : Type 0} (grammar : Grammar Syntax Stmt) (lawful : IsGram
         go (inl (e, none)) = none (ahead j.token.token.text j.label.jump.2).0
         go (inr (e, there, less)) = omega (arith, less, (ahead j.token.token.text j.label.jump.2).1)
 
-    -- The thread of a fault is not read.
+    -- Cells of which one is at fault are those of no thread of a test.
     no_thread-if_cell_faulty : (at : ℕ) (c : CellCause) (v : CellFaulty names columns at c)
         (threads : List (List (CellSyntax Syntax))) (t : List (CellSyntax Syntax))
         → AllZip (Column grammar) (texts_of_grid v.place.before) threads
@@ -470,9 +472,10 @@ module _ {Syntax Stmt : Type 0} (grammar : Grammar Syntax Stmt) (lawful : IsGram
         (column.forward (length (statements j.above)) j.label.jump.0
         (ap (λ (ss : List (CellSyntax Syntax)). slice_get (statements ss) (length (statements j.above))) same
         ∙ ap (λ (ss : List Syntax). slice_get ss (length (statements j.above))) all
-        ∙ get-append_middle (statements j.above) j.label.jump.0 (statements j.below) (length (statements j.above)) refl)))
+        ∙ slice_get-append_middle (statements j.above) j.label.jump.0 (statements j.below) (length (statements j.above)) refl)))
 
-    -- If the thread of a fault is among those that are read, the table has room for it.
+    -- If the cells of a fault's thread are those of no thread for which the table has room, columns with this thread have no
+    -- content for which it has room.
     thread_unread : (place : CellPosition columns)
         → ((threads : List (List (CellSyntax Syntax))) (t : List (CellSyntax Syntax))
         → AllZip (Column grammar) (texts_of_grid place.before) threads
@@ -485,12 +488,13 @@ module _ {Syntax Stmt : Type 0} (grammar : Grammar Syntax Stmt) (lawful : IsGram
         → ⊥
     thread_unread place unread more threads syntaxes says room =
         let cut =
-        AllZip-split (Column grammar) (texts_of_grid place.before) (texts_of_cells (place.above ++ place.cell ∷ place.below))
+        Cut-AllZip (Column grammar) (texts_of_grid place.before) (texts_of_cells (place.above ++ place.cell ∷ place.below))
         (texts_of_grid more) threads
         (subst (λ (cs : CellGrid). AllZip (Column grammar) cs threads)
         (map-append texts_of_cells place.before ((place.above ++ place.cell ∷ place.below) ∷ more)) says) in
         unread cut.above cut.here cut.above_says cut.says (within_limits cut.above cut.here cut.below cut.whole)
       where
+        -- If the table after all threads has room for their names, so has that after some of them.
         within_limits : (above : List (List (CellSyntax Syntax))) (here : List (CellSyntax Syntax))
             (below : List (List (CellSyntax Syntax)))
             → threads ≡ above ++ here ∷ below
@@ -507,7 +511,7 @@ module _ {Syntax Stmt : Type 0} (grammar : Grammar Syntax Stmt) (lawful : IsGram
             ∙ sym (append_assoc (names_of grammar above) (names_in grammar here) rest) in
             let table : table_after grammar names threads syntaxes ≡ insert_names (table_after grammar names above here) rest =
             ap (insert_names names) parts ∙ insert_names-append names (names_of grammar above ++ names_in grammar here) rest in
-            omega (arith, room, ap length table, insert_names-longer (table_after grammar names above here) rest)
+            omega (arith, room, ap length table, length_le-insert_names (table_after grammar names above here) rest)
 
     -- ---- two faults of one thread
 
@@ -531,6 +535,7 @@ module _ {Syntax Stmt : Type 0} (grammar : Grammar Syntax Stmt) (lawful : IsGram
         columns_before_first =
             subst (λ (cs : List (List PlacedCell)). AllZip (Column grammar) (texts_of_grid cs) v.threads) before v.before_says
 
+        -- By the order of the two cells: they are the same, or one is above the other.
         go : ((v.place.above ≡ w.place.above) × (v.place.cell ≡ w.place.cell) × (v.place.below ≡ w.place.below))
             ⊎ (((more : List PlacedCell) × (w.place.above ≡ v.place.above ++ v.place.cell ∷ more))
             ⊎ ((more : List PlacedCell) × (v.place.above ≡ w.place.above ++ w.place.cell ∷ more)))
@@ -570,7 +575,7 @@ module _ {Syntax Stmt : Type 0} (grammar : Grammar Syntax Stmt) (lawful : IsGram
         (sym thread) r.says) r.bounded
         (subst IsDuplicateFree (append-nil (labels_of (all_syntaxes j.above j.syntax j.below))) r.without_duplicates) r.room
 
-    -- The jumps above one at fault lead forward.
+    -- A jump at fault is not above another jump at fault of the same thread.
     no_faulty_jump-above : (at other : ℕ) (c d : CellCause) (i : JumpFaulty names columns at c)
         (j : JumpFaulty names columns other d)
         → all_syntaxes i.above i.syntax i.below ≡ all_syntaxes j.above j.syntax j.below
@@ -580,7 +585,7 @@ module _ {Syntax Stmt : Type 0} (grammar : Grammar Syntax Stmt) (lawful : IsGram
     no_faulty_jump-above at other c d i j same more above =
         let texts = λ (cell : PlacedCell). texts_of_tokens cell.tokens in
         let cut =
-        AllZip-split (ParsesCell grammar) (texts_of_cells i.token.place.above) (texts i.token.place.cell) (texts_of_cells more)
+        Cut-AllZip (ParsesCell grammar) (texts_of_cells i.token.place.above) (texts i.token.place.cell) (texts_of_cells more)
         j.above
         (subst (λ (cs : Cells). AllZip (ParsesCell grammar) cs j.above)
         (ap texts_of_cells above ∙ map-append texts i.token.place.above (i.token.place.cell ∷ more)) j.label.above_says) in
@@ -589,7 +594,7 @@ module _ {Syntax Stmt : Type 0} (grammar : Grammar Syntax Stmt) (lawful : IsGram
         let whole : j.above ≡ i.above ++ cut.here ∷ cut.below =
         cut.whole ∙ ap (λ (ss : List (CellSyntax Syntax)). ss ++ cut.here ∷ cut.below) first in
         let mine =
-        AllZip-split (ParsesCell grammar) (texts_of_cells i.token.place.above) (texts i.token.place.cell)
+        Cut-AllZip (ParsesCell grammar) (texts_of_cells i.token.place.above) (texts i.token.place.cell)
         (texts_of_cells i.token.place.below) (all_syntaxes i.above i.syntax i.below)
         (subst (λ (cs : Cells). AllZip (ParsesCell grammar) cs (all_syntaxes i.above i.syntax i.below))
         (map-append texts i.token.place.above (i.token.place.cell ∷ i.token.place.below)) i.label.read.says) in
@@ -606,9 +611,9 @@ module _ {Syntax Stmt : Type 0} (grammar : Grammar Syntax Stmt) (lawful : IsGram
         (ap (λ (ss : List (CellSyntax Syntax)). slice_get (statements ss) (length (statements i.above))) whole
         ∙ ap (λ (ss : List Syntax). slice_get ss (length (statements i.above)))
         (statements-middle i.above cut.below cut.here i.label.jump.0 is)
-        ∙ get-append_middle (statements i.above) i.label.jump.0 (statements cut.below) (length (statements i.above)) refl)))
+        ∙ slice_get-append_middle (statements i.above) i.label.jump.0 (statements cut.below) (length (statements i.above)) refl)))
       where
-        -- The cell is read as the cell at the same index.
+        -- If the syntaxes before x and before y are equal, and so are the whole lists, a cell that parses as y parses as x.
         ParsesCell-same_syntaxes : (xs ys : List (CellSyntax Syntax)) (x y : CellSyntax Syntax) (us ws : List (CellSyntax Syntax))
             → xs ≡ ys
             → xs ++ x ∷ us ≡ ys ++ y ∷ ws
@@ -670,6 +675,7 @@ module _ {Syntax Stmt : Type 0} (grammar : Grammar Syntax Stmt) (lawful : IsGram
           ]
         ]
 
+        -- By the order of the two cells: they are the same, or one is above the other.
         go : ((i.token.place.above ≡ j.token.place.above)
             × (i.token.place.cell ≡ j.token.place.cell)
             × (i.token.place.below ≡ j.token.place.below))
@@ -764,6 +770,7 @@ module _ {Syntax Stmt : Type 0} (grammar : Grammar Syntax Stmt) (lawful : IsGram
             absurd (not-cell_and_jump_faulty other at d c w i (sym before) (sym thread))
         fault_in_thread-unique (inr i) (inr j) before thread = JumpFaulty-unique at other c d i j thread
 
+        -- By whether each of the two faults is in a cell or in a jump.
         go : Fault at c → Fault other d → (at ≡ other) × (c ≡ d)
         go v w =
             elim (split_order (place_of at c v).before (place_of other d w).before

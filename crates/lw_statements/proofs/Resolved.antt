@@ -6,27 +6,27 @@ use Rattle.lw_statements.proofs.Common.{◌∙◌, subst, arith, ◌⊎◌, inl,
 use Rattle.lw_statements.proofs.Common.{MatchOption, option_map, append-nil, append_assoc, take-append-drop}
 use Rattle.lw_statements.proofs.Common.{AllZip, cons_option, slice_get-map, same_Some, map-append, length-map}
 use Rattle.lw_statements.proofs.Common.{drop-map, CellCause, LabelMissing, Backward, CellFault, Bytes}
-use Rattle.lw_statements.proofs.Common.{NameTable, TokenList, slice_get-append_cases, get-append_middle, Cell}
-use Rattle.lw_statements.proofs.Common.{Token, token_texts, cell_texts, cells_texts, placed_row, EndsBefore}
-use Rattle.lw_statements.proofs.Common.{cells_placed, DraftColumn, Draft, DraftCell, Operands, Grammar}
-use Rattle.lw_statements.proofs.Common.{CellSyntax, MaybeStatement, ParsesCell, statements, labels_of}
-use Rattle.lw_statements.proofs.Common.{target_in, resolved_statement, LabelsLeadForward, TokenPosition}
-use Rattle.lw_statements.proofs.Common.{IsJumpLabel, IsBackward, draft_in, draft_cell, target_by}
-use Rattle.lw_statements.proofs.Common.{ColumnDrafted, IsJumpCause, IsResolvable, IsCellResolved}
+use Rattle.lw_statements.proofs.Common.{NameTable, TokenList, slice_get-append_cases, slice_get-append_middle}
+use Rattle.lw_statements.proofs.Common.{Cell, Token, token_texts, cell_texts, cells_texts, placed_row}
+use Rattle.lw_statements.proofs.Common.{EndsBefore, cells_placed, DraftColumn, Draft, DraftCell, Operands}
+use Rattle.lw_statements.proofs.Common.{Grammar, CellSyntax, MaybeStatement, ParsesCell, statements}
+use Rattle.lw_statements.proofs.Common.{labels_of, target_in, resolved_statement, LabelsLeadForward}
+use Rattle.lw_statements.proofs.Common.{TokenPosition, IsJumpLabel, IsBackward, draft_in, draft_cell}
+use Rattle.lw_statements.proofs.Common.{target_by, ColumnDrafted, IsJumpCause, IsResolvable, IsCellResolved}
 use Rattle.lw_statements.proofs.Common.{IsUnresolved, AllForward, ColumnRead, ColumnFaultIsTrue}
 use Rattle.lw_statements.proofs.Common.{ColumnRefused, IsResolved, draft_of, IsSpelling, Spelling}
 use Rattle.lw_statements.proofs.Common.{ParsesStatement, grammar_of, AreRead, table_after, names_in, names_of}
 use Rattle.lw_statements.proofs.Common.{insert_names, insert_names-append, placed_cell, all_syntaxes}
 use Rattle.lw_statements.proofs.CellsRefused.{ColumnRefused-out_of_memory}
-use Rattle.lw_statements.proofs.Elements.{All-middle, take-item-drop, get-in_range, option_map-Some_inv}
-use Rattle.lw_statements.proofs.Elements.{take_further}
-use Rattle.lw_statements.proofs.FaultPlaces.{TokenPosition-in_cell, FaultClaim-by_cause}
+use Rattle.lw_statements.proofs.Elements.{All-middle, take-item-drop, slice_get-of_get_or}
+use Rattle.lw_statements.proofs.Elements.{option_map-Some_inv, take_further}
+use Rattle.lw_statements.proofs.FaultPlaces.{TokenPosition-in_cell, CellCauseIsTrue-FaultClaim}
 use Rattle.lw_statements.proofs.FrontLabels.{drop-labels}
-use Rattle.lw_statements.proofs.JumpsResolved.{label_last, is_resolvable, IsResolved-of_draft}
+use Rattle.lw_statements.proofs.JumpsResolved.{label_last, is_resolvable, resolved_statement-IsResolved}
 use Rattle.lw_statements.proofs.Leads.{statements-append, label_target-is_label, not-label-if_target_none}
 use Rattle.lw_statements.proofs.OneReading.{ParsesCell-unique}
 use Rattle.lw_statements.proofs.api.Forms.{IsGrammar-of_spelling}
-use Rattle.lw_statements.proofs.api.Zips.{Cut, AllZip-unique, AllZip-snoc, AllZip-length, AllZip-split}
+use Rattle.lw_statements.proofs.api.Zips.{Cut, AllZip-unique, AllZip-snoc, AllZip-length, Cut-AllZip}
 
 module _ {W Form Stmt : Type 0} (spelling : Spelling W Form Stmt) where
   -- The language's grammar.
@@ -56,7 +56,7 @@ module _ {W Form Stmt : Type 0} (spelling : Spelling W Form Stmt) where
         → slice_get (statements above) k ≡ Some s
         → LabelsLeadForward grammar syntaxes k s
 
-  -- No cells have no statements, which are resolved.
+  -- The statements of no cells are resolved to the empty code.
   pub Resolved-none : {A : Type 0} (names : NameTable) (syntaxes : List CellContent) → Resolved {A = A} names syntaxes [] []
   Resolved-none names syntaxes = record { above = []; says = tt; made = refl; ahead = λ k s e. absurd cc }
 
@@ -123,7 +123,7 @@ module _ {W Form Stmt : Type 0} (spelling : Spelling W Form Stmt) where
       -- The syntaxes of the thread, split at this cell.
       cut_at_cell : Cut Says (cells_texts front) (cell_texts cell) (cells_texts rest) syntaxes
       cut_at_cell =
-          AllZip-split Says (cells_texts front) (cell_texts cell) (cells_texts rest) syntaxes
+          Cut-AllZip Says (cells_texts front) (cell_texts cell) (cells_texts rest) syntaxes
           (subst (λ cs. AllZip Says cs syntaxes) (ap cells_texts cells_split ∙ map-append cell_texts front (cell ∷ rest))
           drafted.read.says)
 
@@ -137,7 +137,7 @@ module _ {W Form Stmt : Type 0} (spelling : Spelling W Form Stmt) where
             AllZip-length Says (cells_texts front) cut_at_cell.above cut_at_cell.above_says,
           ) in
           let is : slice_get column.cells row ≡ Some d =
-          get-in_range column.cells row d (omega (arith, within, as_many_rows)) drafted_at in
+          slice_get-of_get_or column.cells row d (omega (arith, within, as_many_rows)) drafted_at in
           let draft = draft_cell grammar drafting after in
           same_Some _ _
           (sym is
@@ -145,7 +145,7 @@ module _ {W Form Stmt : Type 0} (spelling : Spelling W Form Stmt) where
           ∙ slice_get-map draft syntaxes row
           ∙ ap (option_map draft)
           (ap (λ (ys : List CellContent). slice_get ys row) cut_at_cell.whole
-          ∙ get-append_middle cut_at_cell.above cut_at_cell.here cut_at_cell.below row long))
+          ∙ slice_get-append_middle cut_at_cell.above cut_at_cell.here cut_at_cell.below row long))
 
       -- The tokens of the statement, after the labels.
       abbrev tail : List Token
@@ -175,6 +175,7 @@ module _ {W Form Stmt : Type 0} (spelling : Spelling W Form Stmt) where
       pub IsResolvable-of_draft : IfSome d.stmt (IsResolvable made tail)
       IsResolvable-of_draft = rw draft_is-draft_in (go cut_at_cell.here.stmt MaybeStatement-tail.1)
         where
+          -- By whether the cell has a statement.
           go : (o : Option (ParsesStatement spelling))
               → MaybeStatement grammar (token_texts tail) o
               → IfSome (option_map (draft_in grammar drafting after) o) (IsResolvable made tail)
@@ -207,6 +208,7 @@ module _ {W Form Stmt : Type 0} (spelling : Spelling W Form Stmt) where
               ahead = rw both done.1;
             }
           where
+            -- By whether the cell has a statement.
             go : (o : Option (ParsesStatement spelling))
                 → MaybeStatement grammar (token_texts tail) o
                 → MatchOption (option_map (draft_in grammar drafting after) o) (more ≡ code) (λ draft.
@@ -218,7 +220,7 @@ module _ {W Form Stmt : Type 0} (spelling : Spelling W Form Stmt) where
             go None says e = rw append-nil (e ∙ r.made, r.ahead)
             go (Some s) says (stmt, resolved, e) =
                 let q =
-                IsResolved-of_draft spelling made lawful after tail s says syntaxes column.labels (length code) stmt
+                resolved_statement-IsResolved spelling made lawful after tail s says syntaxes column.labels (length code) stmt
                 drafted.labels_are resolved in (
                   e
                       ∙ ap (λ (ss : List Stmt). ss ++ stmt ∷ []) r.made
@@ -276,12 +278,12 @@ module _ {W Form Stmt : Type 0} (spelling : Spelling W Form Stmt) where
               not-LabelsLeadForward-IsJumpCause f.cause because
               (all (length code) s
               (ap (λ (ss : List (ParsesStatement spelling)). slice_get ss (length code)) parts
-              ∙ get-append_middle (statements r.above) s (statements cut_at_cell.below) (length code) code_length))
+              ∙ slice_get-append_middle (statements r.above) s (statements cut_at_cell.below) (length code) code_length))
 
           -- The fault reported of the jump is true.
           ColumnFaultIsTrue-jump : ColumnFaultIsTrue grammar (placed_row cells) before f.at f.cause
           ColumnFaultIsTrue-jump names others others_after threads others_say grown =
-              FaultClaim-by_cause grammar names (others ++ placed_row cells ∷ others_after) f.at f.cause (record {
+              CellCauseIsTrue-FaultClaim grammar names (others ++ placed_row cells ∷ others_after) f.at f.cause (record {
                 form = λ e. absurd (rw e at because);
                 register = λ e. absurd (rw e at because);
                 missing = λ e. (

@@ -60,7 +60,7 @@ module _ {Syntax Stmt : Type 0} (grammar : Grammar Syntax Stmt) where
           let f : position_of_name names n ≡ x = cc in
           subst (λ (l : ℕ). l < length names) f (position_of_name-within names n all.0)
 
-      -- Resolved statements are well-formed.
+      -- If statements have tokens, and their names are in the table, the resolved statements are well-formed.
       IsWellFormedStatement-all_resolved : (ss : List Syntax)
           → HaveTokens ss
           → AreIn names (filter_map grammar.name_of ss)
@@ -91,7 +91,8 @@ module _ {Syntax Stmt : Type 0} (grammar : Grammar Syntax Stmt) where
       resolved_target-forward k to (Some l) e ahead =
           let f : target_in syntaxes l ≡ to = cc in (omega (arith, f, ahead l refl), omega (arith, f, target_within syntaxes l))
 
-      -- A resolved thread is well-formed.
+      -- If the statements of a thread have tokens and names in the table, are within the limit, and jump only forward, the
+      -- resolved thread is well-formed.
       pub IsWellFormedThread-code_in : HaveTokens (statements syntaxes)
           → AreIn names (names_in grammar syntaxes)
           → length (statements syntaxes) ≤ grammar.language.most

@@ -5,7 +5,7 @@ use Rattle.lw_statements.proofs.Common.{Option, Some, None, List, [], ◌∷◌,
 use Rattle.lw_statements.proofs.Common.{ap, ◌∙◌, subst, arith, MatchBool, MatchOption, IsTrue, ◌↔◌, Contains}
 use Rattle.lw_statements.proofs.Common.{is_some, bytes_eq, eqb-true, All, take_all, bytes_eq-Decides}
 use Rattle.lw_statements.proofs.Common.{All-contains, All-more, Bytes, TokenList, Arch, Operand}
-use Rattle.lw_statements.proofs.Common.{IsLocationName, IsRegisterName, lowercase_if_x86, IsNumber, Token}
+use Rattle.lw_statements.proofs.Common.{IsUnreservedName, IsRegisterName, lowercase_if_x86, IsNumber, Token}
 use Rattle.lw_statements.proofs.Common.{token_texts, Slot, Keyword, SlotBindings, IsOperand, Spelling}
 use Rattle.lw_statements.proofs.Common.{SlotValue, Filling, Gives, Fills, BeginsWith, CanFill, no_bindings}
 use Rattle.lw_statements.proofs.Common.{bind_slot, bindings_of, IsAcceptedLength}
@@ -23,10 +23,10 @@ no_operand-if_no_register_or_number arch w reg num (operand.Number n) h = num n 
 
 -- The result for a token, whether it is an allowed name or not, is what it gives at the slot of a location or label.
 pub taken_name : (t : Bytes) (made : SlotBindings) (result : Option SlotBindings)
-    → MatchOption result (IsLocationName t → ⊥) (λ all. IsLocationName t × (all ≡ made))
-    → MatchOption result ((x : Bytes) → (t ≡ x) × IsLocationName x → ⊥)
-    (λ all. (x : Bytes) × ((t ≡ x) × IsLocationName x) × (all ≡ made))
-taken_name t made None h = λ x is. h (subst IsLocationName (sym is.0) is.1)
+    → MatchOption result (IsUnreservedName t → ⊥) (λ all. IsUnreservedName t × (all ≡ made))
+    → MatchOption result ((x : Bytes) → (t ≡ x) × IsUnreservedName x → ⊥)
+    (λ all. (x : Bytes) × ((t ≡ x) × IsUnreservedName x) × (all ≡ made))
+taken_name t made None h = λ x is. h (subst IsUnreservedName (sym is.0) is.1)
 taken_name t made (Some all) h = (t, (refl, h.0), h.1)
 
 module _ {W Form Stmt : Type 0} (spelling : Spelling W Form Stmt) where
@@ -76,7 +76,7 @@ module _ {W Form Stmt : Type 0} (spelling : Spelling W Form Stmt) where
   AreTaken-after_keyword rest w ts t k false all here h = λ f s. h f.1 s.1
   AreTaken-after_keyword rest w ts t k true all here (f, fills, is) = ((tt, f), (here, fills), is)
 
-  -- No tokens do not fill a list of slots that is not empty.
+  -- The empty list of tokens fills no list of slots that is not empty.
   pub not-Fills-if_no_tokens : (rest : List (Slot W)) (slot : Slot W) (tokens : List Token)
       → length tokens ≡ 0
       → (f : Filling (slot ∷ rest))
@@ -97,7 +97,7 @@ module _ {W Form Stmt : Type 0} (spelling : Spelling W Form Stmt) where
   AreTaken-no_slots [] (t ∷ tokens) k true all a e is = absurd (omega (arith, eqb-true (length (t ∷ tokens)) 0 (sym e)))
   AreTaken-no_slots (slot ∷ slots) tokens k b all a e is = absurd (omega (arith, a))
 
-  -- Tokens do not fill a different number of slots.
+  -- Tokens fill no list of slots of another length.
   pub not-Fills-other_count : (slots : List (Slot W)) (tokens : List Token)
       → (length slots ≡ length tokens → ⊥)
       → (f : Filling slots)

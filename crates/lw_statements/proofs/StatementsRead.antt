@@ -4,7 +4,7 @@ use Rattle.lw_statements.proofs.Common.{◌≡◌, ℕ, suc, ◌<◌, ◌≤◌,
 use Rattle.lw_statements.proofs.Common.{length, take, get_or, refl, sym, ap, ◌∙◌, subst, arith, slice_get}
 use Rattle.lw_statements.proofs.Common.{Contains, IfSome, MatchOption, slice_get_within}
 use Rattle.lw_statements.proofs.Common.{get_or_from_slice_get, same_Some, length-map, take-map}
-use Rattle.lw_statements.proofs.Common.{IsLocationName, IsNameTable, Bytes, NameTable, TokenList, CellFault}
+use Rattle.lw_statements.proofs.Common.{IsUnreservedName, IsNameTable, Bytes, NameTable, TokenList, CellFault}
 use Rattle.lw_statements.proofs.Common.{Token, token_texts, Draft, Operands, Slot, Location, SlotBindings}
 use Rattle.lw_statements.proofs.Common.{NameRead, Spelling, Filling, Fills, ParsesStatement, grammar_of}
 use Rattle.lw_statements.proofs.Common.{name_in, CanFill, bindings_of, draft_on, draft_of, IsNameAmong}
@@ -33,7 +33,7 @@ module _ {W Form Stmt : Type 0} (spelling : Spelling W Form Stmt) where
       × (slice_get ts j ≡ Some x)
       × (slots ≡ front ++ Location ∷ back)
       × CanFill spelling (take j ts) front
-      × IsLocationName x
+      × IsUnreservedName x
 
   -- The name is the same with one more slot before, which names nothing.
   IsNamed-suc : (i k : ℕ) (t : Bytes) (ts : TokenList) (slot : Slot W) (slots : List (Slot W)) (f : Filling (slot ∷ slots))
@@ -68,7 +68,7 @@ module _ {W Form Stmt : Type 0} (spelling : Spelling W Form Stmt) where
   name_index i k (t ∷ ts) (slot ∷ slots) f h e =
       IsNamed-suc i k t ts slot _ f refl ((f.0, tt), (h.0, tt)) (name_index (i + 1) k ts slots f.1 h.1 e)
 
-  -- Without such an index the form names no location.
+  -- If no index is bound to a name, the form names no location.
   name_in-None : (i : ℕ) (slots : List (Slot W)) (f : Filling slots)
       → (bindings_of i slots f).name ≡ None
       → name_in slots f ≡ None
@@ -100,20 +100,21 @@ module _ {W Form Stmt : Type 0} (spelling : Spelling W Form Stmt) where
     name_in-found : (k : ℕ) (t : Token)
         → bindings_found.name ≡ Some k
         → slice_get tokens k ≡ Some t
-        → (name_in (spelling.slots_of form) f ≡ Some t.text.now) × IsLocationName t.text.now
+        → (name_in (spelling.slots_of form) f ≡ Some t.text.now) × IsUnreservedName t.text.now
     name_in-found k t is at =
         let n = IsNamed-of_found k is in
         let j : n.1 ≡ k = omega (arith, n.5) in
         let one = same_Some _ _ (sym n.6 ∙ ap (slice_get (token_texts tokens)) j ∙ get_text tokens k t at) in
-        (n.4 ∙ ap Some one, subst IsLocationName one n.9)
+        (n.4 ∙ ap Some one, subst IsUnreservedName one n.9)
 
     -- The bound index is that of a name among the tokens.
     pub name_among : IsNameAmong bindings_found tokens
     name_among = go bindings_found.name refl
       where
+        -- By whether an index is bound to a name.
         go : (m : Option ℕ)
             → bindings_found.name ≡ m
-            → IfSome m (λ k. (k < length tokens) × ((t : Token) → slice_get tokens k ≡ Some t → IsLocationName t.text.now))
+            → IfSome m (λ k. (k < length tokens) × ((t : Token) → slice_get tokens k ≡ Some t → IsUnreservedName t.text.now))
         go None is = tt
         go (Some k) is =
             let n = IsNamed-of_found k is in
@@ -126,6 +127,7 @@ module _ {W Form Stmt : Type 0} (spelling : Spelling W Form Stmt) where
         → StatementRead (grammar_of spelling) (draft_of spelling) (token_texts tokens) before draft after
     StatementRead-IsDrafted before draft after h = go bindings_found.name refl h
       where
+        -- By whether an index is bound to a name.
         go : (m : Option ℕ)
             → bindings_found.name ≡ m
             → MatchOption m ((after ≡ before) × (draft ≡ draft_on form None bindings_found)) (λ k.
@@ -194,7 +196,7 @@ module _ {W Form Stmt : Type 0} (spelling : Spelling W Form Stmt) where
   HasOverflowIn-IsOverflowSlot made lawful form there tokens names table front index default reach n =
       let r = IsSlotAfter-get spelling (spelling.slots_of form) (token_texts tokens) front index Location reach n.before n.slot in
       let here = r.1 n.token.text.now (get_text tokens index n.token n.token_at) in
-      let loc = subst IsLocationName (sym here.1.0.0) here.1.0.1 in
+      let loc = subst IsUnreservedName (sym here.1.0.0) here.1.0.1 in
       let after =
       subst (λ ts. IsSlotAfter spelling ts (spelling.slots_of form) Location) (take-map (λ t. t.text.now) index tokens) r.0 in
       subst (λ (t : Token). HasOverflowIn (grammar_of spelling) tokens names t.at)

@@ -4,7 +4,7 @@ use Rattle.lw_statements.proofs.Common.{◌≡◌, ◌≤◌, true, List, [], �
 use Rattle.lw_statements.proofs.Common.{subst, arith, AllZip, AllByRecursion, map-append, contains_name}
 use Rattle.lw_statements.proofs.Common.{insert_name, insert_names, Bytes, NameTable, All-append_inv}
 use Rattle.lw_statements.proofs.Common.{contains_name-of_inserted, contains_name-insert_names}
-use Rattle.lw_statements.proofs.Common.{insert_names-append, insert_names-longer, ReadWithTable}
+use Rattle.lw_statements.proofs.Common.{insert_names-append, length_le-insert_names, ReadWithTable}
 use Rattle.lw_statements.proofs.api.Zips.{Cut, AllZip-unique, AllZip-snoc}
 
 -- All names are in the table.
@@ -63,7 +63,7 @@ module _ {X D : Type 0} (names_by : List X → List Bytes) (make : NameTable →
       pub syntaxes_above_read : cut.above ≡ read.syntax
       syntaxes_above_read = AllZip-unique Says one front cut.above read.syntax cut.above_says read.says
 
-      -- The other reading has room for one more.
+      -- The table after this thing has at most as many names as that after all things of the other reading.
       pub room_for_read_names : length (insert_names mid (names_by (cut.here ∷ []))) ≤ length (insert_names before (names_by t))
       room_for_read_names =
           let names = split cut.above (cut.here ∷ cut.below) in
@@ -73,4 +73,8 @@ module _ {X D : Type 0} (names_by : List X → List Bytes) (make : NameTable →
           let whole : insert_names before (names_by t)
           ≡ insert_names (insert_names mid (names_by (cut.here ∷ []))) (names_by cut.below) =
           let same = syntaxes_above_read in cc in
-          omega (arith, ap length whole, insert_names-longer (insert_names mid (names_by (cut.here ∷ []))) (names_by cut.below))
+          omega (
+            arith,
+            ap length whole,
+            length_le-insert_names (insert_names mid (names_by (cut.here ∷ []))) (names_by cut.below),
+          )

@@ -13,7 +13,7 @@ use Rattle.lw_statements.proofs.Elements.{All-middle, take-item-drop, take_furth
 use Rattle.lw_statements.proofs.OneReading.{Column-unique}
 use Rattle.lw_statements.proofs.ResolvedNames.{code_in-insert_names}
 use Rattle.lw_statements.proofs.TablesRead.{AreIn, columns_read-push, room_for_read_names}
-use Rattle.lw_statements.proofs.api.Zips.{AllZip-split}
+use Rattle.lw_statements.proofs.api.Zips.{Cut-AllZip}
 
 module _ {Syntax Stmt : Type 0} (grammar : Grammar Syntax Stmt) where
   -- The names of two lists of threads are those of the first, then those of the second.
@@ -69,7 +69,7 @@ module _ {Syntax Stmt : Type 0} (grammar : Grammar Syntax Stmt) where
         record {
           none = λ known ts (all, few).
               let cut =
-              AllZip-split (Column grammar) (all_texts front) (cells_texts column) (all_texts rest) ts
+              Cut-AllZip (Column grammar) (all_texts front) (cells_texts column) (all_texts rest) ts
               (subst (λ (cs : CellGrid). AllZip (Column grammar) cs ts)
               (ap all_texts whole ∙ map-append cells_texts front (column ∷ rest)) all) in
               let room =

@@ -7,7 +7,7 @@ use Rattle.std.specs.Str.{bytes_eq}
 use Rattle.lw_base.specs.WellFormed.{IsRegisterIndex, IsWordNumber}
 use Rattle.lw_base.specs.Limits.{most_locations}
 use Rattle.lw_base.specs.Characters.{is_name_byte, first_byte_is}
-use Rattle.lw_base.specs.Names.{IsLocationName, is_reserved}
+use Rattle.lw_base.specs.Names.{IsUnreservedName, is_reserved}
 use Rattle.lw_base.specs.Types.{Bytes, NameTable, TokenList}
 use Rattle.lw_base.specs.declared.fault.CellFault.{CellFault}
 use Rattle.lw_base.specs.declared.fault.CellCause.TheVariants as cause
@@ -126,7 +126,7 @@ draft_with_location form x o = draft_on form (option_map (λ (k : ℕ). x) o.nam
 
 -- The name of the bindings, if there is one, is that of a location, and its token is in range.
 abbrev pub IsNameAmong : SlotBindings → List Token → Type 0
-IsNameAmong o tokens = IfSome o.name (λ k. (k < length tokens) × ((t : Token) → slice_get tokens k ≡ Some t → IsLocationName t.text.now))
+IsNameAmong o tokens = IfSome o.name (λ k. (k < length tokens) × ((t : Token) → slice_get tokens k ≡ Some t → IsUnreservedName t.text.now))
 
 -- The draft of a form results from the bindings of tokens. The table after it is the one before with the location's name, if there is one.
 abbrev pub IsDrafted : {Form : Type 0} → Form → SlotBindings → List Token → NameTable → Draft Form → NameTable → Type 0
@@ -154,9 +154,9 @@ pub record IsOverflowSlot {W : Type 0} (slots : List (Slot W)) (tokens : List To
 
 -- Tests whether a keyword of this text is no name of a location: it is a sign, or reserved in the source language, where its letters are
 -- compared as they are.
-abbrev pub is_no_location : Arch → Bytes → Bool
-is_no_location Source w = not (first_byte_is is_name_byte w) || is_reserved w
-is_no_location X86 w = not (first_byte_is is_name_byte w)
+abbrev pub cannot_be_location : Arch → Bytes → Bool
+cannot_be_location Source w = not (first_byte_is is_name_byte w) || is_reserved w
+cannot_be_location X86 w = not (first_byte_is is_name_byte w)
 
 -- Tests whether the slot accepts a location or a register.
 abbrev pub is_operand_slot : {W : Type 0} → Slot W → Bool
@@ -264,16 +264,16 @@ module _ {W Form Stmt : Type 0} (spelling : Spelling W Form Stmt) where
       list_all (λ other. are_disjoint_forms (spelling.slots_of form) (spelling.slots_of other)) forms && all_disjoint forms
 
   -- Tests whether the first of these slots, if there is one, is not a `:`.
-  abbrev pub is_no_colon : List (Slot W) → Bool
-  is_no_colon [] = true
-  is_no_colon (Keyword w ∷ slots) =
+  abbrev pub begins_without_colon : List (Slot W) → Bool
+  begins_without_colon [] = true
+  begins_without_colon (Keyword w ∷ slots) =
       not (bytes_eq (lowercase_if_x86 spelling.language.arch (spelling.text_of w)) (codes ":"))
-  is_no_colon (slot ∷ slots) = true
+  begins_without_colon (slot ∷ slots) = true
 
   -- Tests whether there is a first slot, as in every statement, and the second is not a `:`, which would make the first token a label.
   abbrev pub is_statement : List (Slot W) → Bool
   is_statement [] = false
-  is_statement (slot ∷ slots) = is_no_colon slots
+  is_statement (slot ∷ slots) = begins_without_colon slots
 
   -- Tests whether a label's slot, if there is one, is the last.
   abbrev pub is_label_last : List (Slot W) → Bool
@@ -299,7 +299,7 @@ module _ {W Form Stmt : Type 0} (spelling : Spelling W Form Stmt) where
   -- Tests whether the slot accepts a name that a location could have, and is no location's.
   abbrev pub is_word_slot : Slot W → Bool
   is_word_slot Label = true
-  is_word_slot (Keyword w) = not (is_no_location spelling.language.arch (spelling.text_of w))
+  is_word_slot (Keyword w) = not (cannot_be_location spelling.language.arch (spelling.text_of w))
   is_word_slot slot = false
 
   -- Tests whether no list of slots has a word where the other has a location or a register, after slots that accept the same tokens.

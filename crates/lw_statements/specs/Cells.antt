@@ -6,7 +6,7 @@ use Rattle.lw_base.specs.Limits.{most_locations}
 use Rattle.lw_base.specs.Types.{Bytes, NameTable, TokenList, Cells}
 use Rattle.lw_base.specs.Heads.{TestHead, set_location_names}
 use Rattle.lw_base.specs.Lists.{IsDuplicateFree}
-use Rattle.lw_base.specs.Names.{IsLocationName}
+use Rattle.lw_base.specs.Names.{IsUnreservedName}
 use Rattle.lw_base.specs.Tables.{contains_name, insert_names, position_of_name}
 use Rattle.lw_text.specs.Frames.{TestFrame}
 use Rattle.lw_statements.specs.Grammars.{Grammar}
@@ -20,7 +20,7 @@ pub record CellSyntax (Syntax : Type 0) : Type 0 where
 -- The tokens are labels, each followed by a `:`, and then rest. A label is a name that is not reserved, as for a location.
 abbrev pub Labels : TokenList → List Bytes → TokenList → Type 0
 Labels ts [] rest = ts ≡ rest
-Labels ts (l ∷ ls) rest = (mid : TokenList) × (ts ≡ l ∷ codes ":" ∷ mid) × IsLocationName l × Labels mid ls rest
+Labels ts (l ∷ ls) rest = (mid : TokenList) × (ts ≡ l ∷ codes ":" ∷ mid) × IsUnreservedName l × Labels mid ls rest
 
 -- The statements of cells, from top to bottom.
 abbrev pub statements : {Syntax : Type 0} → List (CellSyntax Syntax) → List Syntax

@@ -9,7 +9,7 @@ use Rattle.lw_base.specs.declared.fault.CellFault.{CellFault}
 use Rattle.lw_base.specs.declared.fault.CellCause.{CellCause}
 use Rattle.lw_base.specs.declared.fault.CellCause.TheVariants.{Form, Register, LabelMissing, LabelTwice, Backward, TooMany, Memory}
 use Rattle.lw_base.specs.declared.head.Arch.TheVariants.{Source}
-use Rattle.lw_base.specs.Names.{IsName, IsLocationName, is_numbered_register}
+use Rattle.lw_base.specs.Names.{IsName, IsUnreservedName, is_numbered_register}
 use Rattle.lw_base.specs.Registers.{IsRegisterName}
 use Rattle.lw_base.specs.Tables.{insert_names}
 use Rattle.lw_text.specs.PlacedTokens.{PlacedToken, texts_of_tokens}
@@ -120,7 +120,7 @@ module _ {Syntax Stmt : Type 0} (grammar : Grammar Syntax Stmt) where
     pub record IsNoLabel (p : TokenPosition columns at) : Type 0 where
       pub read : IsReadTo names p.place (texts_of_tokens p.front) []
       pub colon : BeginsWithColon (texts_of_tokens p.back)
-      pub none : IsLocationName p.token.text → ⊥
+      pub none : IsUnreservedName p.token.text → ⊥
 
     -- The token follows the labels of its cell and `mid`. Unless `mid` is empty, some statement that fits begins with it; none begins with
     -- `mid` and the token.

@@ -3,7 +3,7 @@
 use Rattle.std.specs.Prelude.{◌≡◌, ◌<◌, ◌^◌, ℕ, Option, Some, [], ◌∷◌, ◌++◌, codes, slice_get, All}
 use Rattle.std.specs.Option.{option_map}
 use Rattle.lw_base.specs.WellFormed.{IsRegisterIndex, IsWordNumber}
-use Rattle.lw_base.specs.Names.{IsLocationName}
+use Rattle.lw_base.specs.Names.{IsUnreservedName}
 use Rattle.lw_base.specs.Registers.{IsRegisterName}
 use Rattle.lw_base.specs.Types.{Bytes, TokenList}
 use Rattle.lw_base.specs.declared.head.Arch.{Arch}
@@ -52,7 +52,7 @@ module _ {Syntax Stmt : Type 0} (grammar : Grammar Syntax Stmt) where
     pub register : ℕ
     pub named : IsRegisterName grammar.language.arch name register
     pub begins : BeginsStatement (ts ++ name ∷ [])
-    pub no_location : (x : Bytes) → IsLocationName x → BeginsStatement (ts ++ x ∷ []) → ⊥
+    pub no_location : (x : Bytes) → IsUnreservedName x → BeginsStatement (ts ++ x ∷ []) → ⊥
 
   -- What the rule of cells requires.
   pub record IsGrammar : Type 0 where

@@ -3,7 +3,7 @@ use Rattle.std.specs.Prelude.{◌≡◌, ℕ, Option, Some, None, List, [], ◌�
 use Rattle.std.specs.Option.{option_or}
 use Rattle.lw_base.specs.Types.{Bytes, TokenList}
 use Rattle.lw_base.specs.declared.operand.Operand.{Operand}
-use Rattle.lw_base.specs.Names.{IsLocationName}
+use Rattle.lw_base.specs.Names.{IsUnreservedName}
 use Rattle.lw_base.specs.Registers.{IsRegisterName, lowercase_if_x86}
 use Rattle.lw_text.specs.Tokens.{IsNumber}
 use Rattle.lw_litmus.specs.Languages.{Language}
@@ -60,10 +60,10 @@ module _ {W Form Stmt : Type 0} (spelling : Spelling W Form Stmt) where
   abbrev pub Gives : Bytes → (slot : Slot W) → SlotValue slot → Type 0
   Gives t (Keyword w) g = lowercase_if_x86 spelling.language.arch (spelling.text_of w) ≡ lowercase_if_x86 spelling.language.arch t
   Gives t Register r = IsRegisterName spelling.language.arch t r
-  Gives t Location x = (t ≡ x) × IsLocationName x
+  Gives t Location x = (t ≡ x) × IsUnreservedName x
   Gives t Value v = IsOperand spelling.language.arch t v
   Gives t Number n = IsNumber t n
-  Gives t Label l = (t ≡ l) × IsLocationName l
+  Gives t Label l = (t ≡ l) × IsUnreservedName l
 
   -- The tokens fit the slots, one in each, with these values.
   abbrev pub Fills : TokenList → (slots : List (Slot W)) → Filling slots → Type 0

@@ -93,7 +93,7 @@ fn read_cell<'a, L: StatementReader, A: Allocator + Copy>(
 {
     let start = read_labels(cell.tokens.as_slice(), column.count, &mut column.labels)?;
     let phrase = Phrase::after_labels(cell, start);
-    let stmt = maybe_statement::<L, A>(&phrase, column.count, locs)?;
+    let stmt = read_statement_if_any::<L, A>(&phrase, column.count, locs)?;
     let _names = locs.len();
     column.count += statement_count(&stmt);
     push(&mut column.cells, DraftCell { start, stmt })
@@ -121,7 +121,7 @@ fn statement_count<F>(stmt: &Option<Draft<F>>) -> usize
 
 /// Reads the draft of the statement after a cell's labels, or returns `None` if the cell has only labels. Inserts the name of
 /// its location into the table. The cells above have `above` statements; one more than the limit is refused.
-fn maybe_statement<L: StatementReader, A: Allocator + Copy>(
+fn read_statement_if_any<L: StatementReader, A: Allocator + Copy>(
     phrase: &Phrase<'_, '_>,
     above: usize,
     locs: &mut LocNames<A>,
@@ -202,7 +202,8 @@ fn resolve_cell<L: StatementReader, A: Allocator + Copy>(
     push(code, stmt)
 }
 
-/// Resolves a draft by its thread's labels. `tokens` are the statement's, and `own_index` is its index in its thread.
+/// Resolves a draft by its thread's labels. Fails at its label if the thread does not have the label, or if it does not lead
+/// forward. `tokens` are the statement's, and `own_index` is its index in its thread.
 fn resolve_draft<L: StatementReader, A: Allocator>(
     draft: Draft<L::Form>,
     tokens: &[Token<'_>],

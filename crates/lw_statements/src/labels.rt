@@ -3,7 +3,7 @@ ghost use Rattle.std.specs.Prelude.{MatchResult};
 ghost use Rattle.lw_statements.specs.inner.Reading.{LabelsTaken, LabelsRefused};
 
 use crate::token::{is_token_at, misfit};
-use lw_base::{CellCause, CellFault, is_location_name};
+use lw_base::{CellCause, CellFault, is_unreserved_name};
 use lw_text::Token;
 use std::alloc::Allocator;
 use std::collections::BTreeMap;
@@ -21,7 +21,7 @@ pub(crate) fn read_labels<'a, A: Allocator + Copy>(
     let mut next = 0;
     while is_token_at(tokens, next + 1, ":") {
         let token = tokens[next];
-        if !is_location_name(token.text) {
+        if !is_unreserved_name(token.text) {
             return Err(misfit(&token));
         }
         if labels.insert(token.text, to)?.is_some() {

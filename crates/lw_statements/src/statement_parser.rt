@@ -3,7 +3,7 @@ ghost use Rattle.std.specs.Prelude.{◌≡◌, ◌≢◌, ◌↔◌, ℕ, suc, �
 ghost use Rattle.std.specs.Prelude.{MatchBool, MatchOption, MatchResult, IfSome, slice_get, IsTrue, Contains};
 ghost use Rattle.std.specs.Str.{bytes_eq};
 ghost use Rattle.lw_base.specs.Limits.{most_locations};
-ghost use Rattle.lw_base.specs.Names.{IsLocationName};
+ghost use Rattle.lw_base.specs.Names.{IsUnreservedName};
 ghost use Rattle.lw_base.specs.NoParse.{HoldsOfNothing};
 ghost use Rattle.lw_base.specs.Registers.{IsRegisterName, lowercase_if_x86};
 ghost use Rattle.lw_base.specs.declared.operand.Operand.{Operand};
@@ -27,7 +27,7 @@ use crate::statement_reader::StatementReader;
 use crate::token::{location, misfit, no_register};
 use lw_base::{
     Arch, CellCause, CellFault, Loc, LocNames, MAX_LOCATIONS, Operand, Reg, Word,
-    eq_ignore_ascii_case, is_location_name, reg_from_name,
+    eq_ignore_ascii_case, is_unreserved_name, reg_from_name,
 };
 use lw_text::Token;
 use std::alloc::Allocator;
@@ -122,10 +122,10 @@ fn with_token<L: StatementReader>(
 
 /// Records this token's index as that of the location. Returns `None` if the token cannot name one.
 fn with_name(found: SlotBindings, token: &Token<'_>, index: usize) -> Option<SlotBindings>
-    ensures { MatchOption result (IsLocationName token.now.text.now → ⊥)
-        (λ all. IsLocationName token.now.text.now × (all ≡ bindings.with_name_at index found)) }
+    ensures { MatchOption result (IsUnreservedName token.now.text.now → ⊥)
+        (λ all. IsUnreservedName token.now.text.now × (all ≡ bindings.with_name_at index found)) }
 {
-    if !is_location_name(token.text) {
+    if !is_unreserved_name(token.text) {
         return None;
     }
     Some(SlotBindings {
@@ -136,10 +136,10 @@ fn with_name(found: SlotBindings, token: &Token<'_>, index: usize) -> Option<Slo
 
 /// Records this token's index as that of the label. Returns `None` if the token cannot name one.
 fn with_label(found: SlotBindings, token: &Token<'_>, index: usize) -> Option<SlotBindings>
-    ensures { MatchOption result (IsLocationName token.now.text.now → ⊥)
-        (λ all. IsLocationName token.now.text.now × (all ≡ bindings.with_label_at index found)) }
+    ensures { MatchOption result (IsUnreservedName token.now.text.now → ⊥)
+        (λ all. IsUnreservedName token.now.text.now × (all ≡ bindings.with_label_at index found)) }
 {
-    if !is_location_name(token.text) {
+    if !is_unreserved_name(token.text) {
         return None;
     }
     Some(SlotBindings {

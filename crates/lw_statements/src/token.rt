@@ -1,6 +1,6 @@
 //! Resolving one token of a cell as a location, and the faults of tokens.
 ghost use Rattle.std.specs.Prelude.{◌≡◌, ◌↔◌, ◌⊎◌, Some, slice_get, IsTrue, MatchResult};
-ghost use Rattle.lw_base.specs.Names.{IsName, IsLocationName};
+ghost use Rattle.lw_base.specs.Names.{IsName, IsUnreservedName};
 ghost use Rattle.lw_text.specs.Spans.{token_texts};
 ghost use Rattle.lw_statements.specs.inner.Tokens.{NameRead, NameRefused};
 ghost use Rattle.lw_statements.specs.Faults.{IsMisfitCause, IsUnknownRegister};
@@ -15,7 +15,7 @@ pub(crate) fn location<A: Allocator + Copy>(
     token: &Token<'_>,
     locs: &mut LocNames<A>,
 ) -> Result<Loc, CellFault>
-    requires { IsLocationName token.now.text.now }
+    requires { IsUnreservedName token.now.text.now }
     ensures { MatchResult result (λ loc. NameRead locs.old token.now loc locs.new) (NameRefused locs.old token.now) }
 {
     let _known = locs.len();

@@ -12,6 +12,7 @@ CellFault-equal f g e h = go g.at g.cause g.memory e h
     memory_proofs_equal : (a : ℕ) (c : CellCause) (m n : c ≡ Memory → a ≡ 0) → m ≡ n
     memory_proofs_equal a c m n = λ i e. ℕ_set a 0 (m e) (n e) i
 
+    -- If f has the place a and the cause c, it is the fault that is made of these.
     go : (a : ℕ) (c : CellCause) (m : c ≡ Memory → a ≡ 0)
         → f.at ≡ a
         → f.cause ≡ c

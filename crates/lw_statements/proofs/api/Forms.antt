@@ -3,7 +3,7 @@
 use Rattle.lw_statements.proofs.Common.{◌≡◌, ℕ, zero, suc, ◌<◌, Bool, true, Option, Some, List, [], ◌∷◌}
 use Rattle.lw_statements.proofs.Common.{length, get_or, sym, ap, ◌∙◌, subst, arith, codes, Contains}
 use Rattle.lw_statements.proofs.Common.{slice_get, AllByRecursion, list_all, ForSome, and_parts, same_Some}
-use Rattle.lw_statements.proofs.Common.{none-some, All-from_recursion, IsLocationName, IsRegisterIndex}
+use Rattle.lw_statements.proofs.Common.{none-some, All-from_recursion, IsUnreservedName, IsRegisterIndex}
 use Rattle.lw_statements.proofs.Common.{IsWordNumber, Bytes, TokenList, registers_of, numbers_of, Operation}
 use Rattle.lw_statements.proofs.Common.{Operands, Slot, Register, Location, Value, Number, IsGrammar}
 use Rattle.lw_statements.proofs.Common.{Spelling, Filling, Gives, Fills, ParsesStatement, grammar_of, name_in}
@@ -49,7 +49,7 @@ module _ {W Form Stmt : Type 0} (spelling : Spelling W Form Stmt) where
         form_unique forms (and_parts (list_all (are_others form) forms) (all_disjoint spelling forms) all).1
         (i, omega (arith, less), e) (j, omega (arith, more), h)
 
-  -- Tokens say at most one statement.
+  -- If all forms differ, tokens say at most one statement.
   ParsesStatement-unique : all_disjoint spelling spelling.forms ≡ true
       → (ts : TokenList) (s t : ParsesStatement spelling)
       → (grammar_of spelling).says ts s
@@ -57,6 +57,7 @@ module _ {W Form Stmt : Type 0} (spelling : Spelling W Form Stmt) where
       → s ≡ t
   ParsesStatement-unique all ts s t x y = go _ (form_unique ts _ _ _ _ x.1 y.1 spelling.forms all x.0 y.0) t.filling y.1
     where
+      -- By the form of t, which is that of s.
       go : (b : Form)
           → s.form ≡ b
           → (g : Filling (spelling.slots_of b))
@@ -109,19 +110,19 @@ module _ {W Form Stmt : Type 0} (spelling : Spelling W Form Stmt) where
   registers_and_numbers-Fills (t ∷ ts) (slot ∷ slots) (g, f) h = registers_and_numbers-Fills ts slots f h.1
 
   -- The name of a location is allowed.
-  IsLocationName-name_in : (ts : TokenList) (slots : List (Slot W)) (f : Filling slots)
+  IsUnreservedName-name_in : (ts : TokenList) (slots : List (Slot W)) (f : Filling slots)
       → Fills spelling ts slots f
-      → ForSome (name_in slots f) IsLocationName
-  IsLocationName-name_in ts [] f h = λ n e. absurd (none-some n e)
-  IsLocationName-name_in [] (slot ∷ slots) f h = absurd h
-  IsLocationName-name_in (t ∷ ts) (Location ∷ slots) (x, f) h = λ n e. subst IsLocationName (same_Some x n e) h.0.1
-  IsLocationName-name_in (t ∷ ts) (slot ∷ slots) (g, f) h = IsLocationName-name_in ts slots f h.1
+      → ForSome (name_in slots f) IsUnreservedName
+  IsUnreservedName-name_in ts [] f h = λ n e. absurd (none-some n e)
+  IsUnreservedName-name_in [] (slot ∷ slots) f h = absurd h
+  IsUnreservedName-name_in (t ∷ ts) (Location ∷ slots) (x, f) h = λ n e. subst IsUnreservedName (same_Some x n e) h.0.1
+  IsUnreservedName-name_in (t ∷ ts) (slot ∷ slots) (g, f) h = IsUnreservedName-name_in ts slots f h.1
 
   -- The name of a location in each statement that tokens say is allowed.
-  pub IsLocationName-name_of : (ts : TokenList) (s : ParsesStatement spelling)
+  pub IsUnreservedName-name_of : (ts : TokenList) (s : ParsesStatement spelling)
       → (grammar_of spelling).says ts s
-      → ForSome ((grammar_of spelling).name_of s) IsLocationName
-  IsLocationName-name_of ts s says = IsLocationName-name_in ts (spelling.slots_of s.form) s.filling says.1
+      → ForSome ((grammar_of spelling).name_of s) IsUnreservedName
+  IsUnreservedName-name_of ts s says = IsUnreservedName-name_in ts (spelling.slots_of s.form) s.filling says.1
 
   module _ (made : Form → Operands → Option Stmt) (lawful : IsSpelling spelling made) where
     -- The slots of each form are those of a statement, and its label, if it has one, comes last.

@@ -1,39 +1,19 @@
 -- A frame has at most one test, which is well-formed. The languages' proofs use this.
 use Rattle.lw_statements.proofs.Common.{◌≡◌, Bool, true, false, List, [], ◌∷◌, length, refl, sym, ap, ◌∙◌}
 use Rattle.lw_statements.proofs.Common.{subst, filter_map, map, AllZip, AllByRecursion, ForSome, length-map}
-use Rattle.lw_statements.proofs.Common.{All-from_recursion, IsLocationName, IsNameTable, contains_name}
+use Rattle.lw_statements.proofs.Common.{All-from_recursion, IsUnreservedName, IsNameTable, contains_name}
 use Rattle.lw_statements.proofs.Common.{insert_name, insert_names, Bytes, NameTable, TokenList, Cells}
 use Rattle.lw_statements.proofs.Common.{CellGrid, IsWellFormedHead, AllByRecursion-append, All-append_inv}
-use Rattle.lw_statements.proofs.Common.{IsDuplicateFree-insert_names, insert_names-longer}
-use Rattle.lw_statements.proofs.Common.{set_location_names-well_formed, IsWellFormedThread, IsWellFormed}
+use Rattle.lw_statements.proofs.Common.{IsDuplicateFree-insert_names, length_le-insert_names}
+use Rattle.lw_statements.proofs.Common.{IsWellFormedHead-set_location_names, IsWellFormedThread, IsWellFormed}
 use Rattle.lw_statements.proofs.Common.{Test, TestFrame, Grammar, IsGrammar, CellSyntax, MaybeStatement}
 use Rattle.lw_statements.proofs.Common.{ParsesCell, Column, statements, names_of, code_in, resolve_test}
-use Rattle.lw_statements.proofs.Common.{FrameHasTest}
+use Rattle.lw_statements.proofs.Common.{FrameHasTest, AreUnreserved-insert_names}
 use Rattle.lw_statements.proofs.Elements.{AllByRecursion-cons_option}
 use Rattle.lw_statements.proofs.OneReading.{Column-unique}
 use Rattle.lw_statements.proofs.api.Zips.{AllZip-unique, AllZip-length}
 use Rattle.lw_statements.proofs.ResolvedNames.{HaveTokens, IsWellFormedThread-code_in}
 use Rattle.lw_statements.proofs.TablesRead.{AreIn, AreIn-insert_names}
-
--- Inserting an allowed name preserves that all names of a table are allowed.
-AllLocationNames-insert_name : (names : NameTable) (n : Bytes)
-    → AllByRecursion IsLocationName names
-    → IsLocationName n
-    → AllByRecursion IsLocationName (insert_name names n)
-AllLocationNames-insert_name names n all here = go (contains_name names n) refl
-  where
-    go : (b : Bool) → contains_name names n ≡ b → AllByRecursion IsLocationName (insert_name names n)
-    go true e = rw e all
-    go false e = rw e (AllByRecursion-append IsLocationName names (n ∷ []) all (here, tt))
-
--- Inserting allowed names preserves that all names of a table are allowed.
-AllLocationNames-insert_names : (names ns : NameTable)
-    → AllByRecursion IsLocationName names
-    → AllByRecursion IsLocationName ns
-    → AllByRecursion IsLocationName (insert_names names ns)
-AllLocationNames-insert_names names [] all more = all
-AllLocationNames-insert_names names (n ∷ ns) all more =
-    AllLocationNames-insert_names (insert_name names n) ns (AllLocationNames-insert_name _ n all more.0) more.1
 
 module _ {Syntax Stmt : Type 0} (grammar : Grammar Syntax Stmt) (lawful : IsGrammar grammar) where
   -- A frame has at most one test.
@@ -69,23 +49,24 @@ module _ {Syntax Stmt : Type 0} (grammar : Grammar Syntax Stmt) (lawful : IsGram
   IsWellFormedThread-all names columns ts says all = absurd says
 
   -- The names of locations in statements are allowed.
-  module _ (named : (ts : TokenList) (s : Syntax) → grammar.says ts s → ForSome (grammar.name_of s) IsLocationName) where
-    IsLocationName-HaveTokens : (ss : List Syntax)
+  module _ (named : (ts : TokenList) (s : Syntax) → grammar.says ts s → ForSome (grammar.name_of s) IsUnreservedName) where
+    -- Each name in statements that tokens say is a location's name.
+    IsUnreservedName-HaveTokens : (ss : List Syntax)
         → HaveTokens grammar lawful ss
-        → AllByRecursion IsLocationName (filter_map grammar.name_of ss)
-    IsLocationName-HaveTokens [] said = tt
-    IsLocationName-HaveTokens (s ∷ ss) said =
-        AllByRecursion-cons_option IsLocationName _ _ (named said.0.0 s said.0.1) (IsLocationName-HaveTokens ss said.1)
+        → AllByRecursion IsUnreservedName (filter_map grammar.name_of ss)
+    IsUnreservedName-HaveTokens [] said = tt
+    IsUnreservedName-HaveTokens (s ∷ ss) said =
+        AllByRecursion-cons_option IsUnreservedName _ _ (named said.0.0 s said.0.1) (IsUnreservedName-HaveTokens ss said.1)
 
     -- Each name of the statements in the columns is a location's name.
-    IsLocationName-all_names : (columns : CellGrid) (ts : List (List (CellSyntax Syntax)))
+    IsUnreservedName-all_names : (columns : CellGrid) (ts : List (List (CellSyntax Syntax)))
         → AllZip (Column grammar) columns ts
-        → AllByRecursion IsLocationName (names_of grammar ts)
-    IsLocationName-all_names [] [] says = tt
-    IsLocationName-all_names (c ∷ columns) (t ∷ ts) says =
-        AllByRecursion-append IsLocationName _ _ (IsLocationName-HaveTokens _ (HaveTokens-Column c t says.0.says))
-        (IsLocationName-all_names columns ts says.1)
-    IsLocationName-all_names columns ts says = absurd says
+        → AllByRecursion IsUnreservedName (names_of grammar ts)
+    IsUnreservedName-all_names [] [] says = tt
+    IsUnreservedName-all_names (c ∷ columns) (t ∷ ts) says =
+        AllByRecursion-append IsUnreservedName _ _ (IsUnreservedName-HaveTokens _ (HaveTokens-Column c t says.0.says))
+        (IsUnreservedName-all_names columns ts says.1)
+    IsUnreservedName-all_names columns ts says = absurd says
 
     -- The test of a frame with a well-formed head is well-formed.
     pub well_formed_test : (frame : TestFrame) (test : Test Stmt)
@@ -98,13 +79,13 @@ module _ {Syntax Stmt : Type 0} (grammar : Grammar Syntax Stmt) (lawful : IsGram
         let names : NameTable = insert_names frame.head.locs added in
         let table : IsNameTable names = record {
           bounded = h.bounded;
-          are_location_names =
-              AllLocationNames-insert_names frame.head.locs added formed.table.are_location_names
-              (IsLocationName-all_names frame.cells h.threads h.says);
+          are_unreserved =
+              AreUnreserved-insert_names frame.head.locs added formed.table.are_unreserved
+              (IsUnreservedName-all_names frame.cells h.threads h.says);
           without_duplicates = IsDuplicateFree-insert_names frame.head.locs added formed.table.without_duplicates;
         } in
         subst (IsWellFormed grammar.language) (sym h.test_is) (record {
-          head = set_location_names-well_formed _ names formed table (insert_names-longer frame.head.locs added);
+          head = IsWellFormedHead-set_location_names _ names formed table (length_le-insert_names frame.head.locs added);
           arch = h.arch;
           as_many =
               length-map h.threads (code_in grammar names)

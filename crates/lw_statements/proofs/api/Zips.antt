@@ -40,13 +40,13 @@ module _ {X Y : Type 0} (R : X → Y → Type 0) where
   AllZip-length xs ys h = absurd h
 
   -- If the first list is split at an item, so is the second at the related item.
-  pub AllZip-split : (front : List X) (x : X) (rest : List X) (zs : List Y)
+  pub Cut-AllZip : (front : List X) (x : X) (rest : List X) (zs : List Y)
       → AllZip R (front ++ x ∷ rest) zs
       → Cut R front x rest zs
-  AllZip-split [] x rest (z ∷ zs) h =
+  Cut-AllZip [] x rest (z ∷ zs) h =
       record { above = []; here = z; below = zs; whole = refl; above_says = tt; says = h.0; below_says = h.1 }
-  AllZip-split (w ∷ front) x rest (z ∷ zs) h =
-      let k = AllZip-split front x rest zs h.1 in
+  Cut-AllZip (w ∷ front) x rest (z ∷ zs) h =
+      let k = Cut-AllZip front x rest zs h.1 in
       record {
         above = z ∷ k.above;
         here = k.here;
@@ -56,4 +56,4 @@ module _ {X Y : Type 0} (R : X → Y → Type 0) where
         says = k.says;
         below_says = k.below_says;
       }
-  AllZip-split front x rest zs h = absurd h
+  Cut-AllZip front x rest zs h = absurd h

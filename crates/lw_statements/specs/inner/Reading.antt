@@ -9,7 +9,7 @@ use Rattle.lw_base.specs.declared.fault.CellFault.{CellFault}
 use Rattle.lw_base.specs.declared.fault.CellCause.{CellCause}
 use Rattle.lw_base.specs.declared.fault.CellCause.TheVariants.{Form, LabelMissing, Backward, Memory}
 use Rattle.lw_base.specs.Lists.{IsDuplicateFree}
-use Rattle.lw_base.specs.Names.{IsLocationName}
+use Rattle.lw_base.specs.Names.{IsUnreservedName}
 use Rattle.lw_base.specs.NoParse.{HoldsOfNothing}
 use Rattle.lw_base.specs.Tables.{contains_name, insert_names}
 use Rattle.lw_text.specs.declared.cell.Cell.{Cell}
@@ -80,7 +80,7 @@ HasDuplicateLabelAt tokens labels at =
 abbrev pub HasNoLabelAt : List Token → LabelMap → ℕ → CellCause → Type 0
 HasNoLabelAt tokens labels at cause =
     (l : IsAtLabel tokens labels at)
-    × (IsLocationName l.token.text.now → ⊥) × IsMisfitCause (IsUnknownRegister l.token.text.now) cause
+    × (IsUnreservedName l.token.text.now → ⊥) × IsMisfitCause (IsUnknownRegister l.token.text.now) cause
 
 -- The labels of a cell are rejected: they do not fit, and at the place a token is no label or a second one, as the cause says.
 abbrev pub LabelsRefused : List Token → LabelMap → CellFault → Type 0

@@ -5,7 +5,7 @@ use Rattle.lw_base.specs.Types.{Bytes, NameTable}
 use Rattle.lw_base.specs.declared.fault.CellFault.{CellFault}
 use Rattle.lw_base.specs.declared.fault.CellCause.{CellCause}
 use Rattle.lw_base.specs.declared.fault.CellCause.TheVariants.{Form, Register, LabelMissing, LabelTwice, Backward, TooMany, Memory}
-use Rattle.lw_base.specs.Names.{IsLocationName}
+use Rattle.lw_base.specs.Names.{IsUnreservedName}
 use Rattle.lw_base.specs.Tables.{insert_name, position_of_name}
 use Rattle.lw_text.specs.declared.token.Token.{Token}
 use Rattle.lw_statements.specs.declared.phrase.Phrase.{Phrase}
@@ -16,12 +16,12 @@ AllEndBefore len p = All (λ t. t.at ≤ len) p.tokens.now × (p.end ≤ len)
 
 -- The text is a location's name, and the table has it or room for it.
 abbrev pub FitsTable : NameTable → Bytes → Type 0
-FitsTable names n = IsLocationName n × (length (insert_name names n) ≤ most_locations)
+FitsTable names n = IsUnreservedName n × (length (insert_name names n) ≤ most_locations)
 
 -- The token at this place is a ninth location: the table is full, and does not have it.
 abbrev pub IsOverflowName : NameTable → Token → ℕ → Type 0
 IsOverflowName names t at =
-    (t.at ≡ at) × IsLocationName t.text.now × (length names ≡ most_locations) × (Contains names t.text.now → ⊥)
+    (t.at ≡ at) × IsUnreservedName t.text.now × (length names ≡ most_locations) × (Contains names t.text.now → ⊥)
 
 -- What each cause means for its place: a token or an end that fits no statement, as the cause says; a label that is missing or a duplicate;
 -- a jump that leads backward; or something beyond a limit. Memory means nothing.
@@ -42,7 +42,7 @@ pub record Refused (unfit : Type 0) (claim : ℕ → CellCause → Type 0) (all_
 
 -- The token names a location, which has this index in the table with its name.
 pub record NameRead (before : NameTable) (t : Token) (loc : ℕ) (after : NameTable) : Type 0 where
-  pub is_location : IsLocationName t.text.now
+  pub is_location : IsUnreservedName t.text.now
   pub names : after ≡ insert_name before t.text.now
   pub index : loc ≡ position_of_name after t.text.now
 

@@ -31,6 +31,7 @@ returns-in_err-stmt g c =
     drafted c.args.cell.now rest _ _ _ taken c.after_labels-phrase.result c.after_labels-phrase.ensures.tokens
     c.after_labels-phrase.ensures.end c.after_labels-phrase.ensures.within c.in_err-stmt.ensures)
 
+-- If the labels and the statement were read, and the draft is appended, the cell is read.
 pub returns : goal.returns
 returns g c =
     let spelling = g.L.StatementReader.spelling in
@@ -41,7 +42,7 @@ returns g c =
       cells = c.push.new.items;
       labels = c.read_labels.new.labels;
       count = c.args.column.now.count + c.statement_count.result;
-    }) c.args.cell.now c.in_ok-start.start c.maybe_statement.new.locs c.in_ok-stmt.stmt taken stmt pushed
+    }) c.args.cell.now c.in_ok-start.start c.read_statement_if_any.new.locs c.in_ok-stmt.stmt taken stmt pushed
     (ap (λ (n : ℕ). c.args.column.now.count + n) c.statement_count.ensures) c.len-names.ensures.table.bounded)
     (λ f memory front rest before drafted. ColumnRefused-out_of_memory (grammar_of spelling) before _ f memory.0 memory.1)
 

@@ -5,10 +5,11 @@ use Rattle.lw_statements.proofs.Common.{refl, ◌∙◌, IfOk, length-map, Match
 use Rattle.lw_statements.proofs.Common.{all_texts, cells_texts, frame_of, FrameHasTest, grammar_of}
 use Rattle.lw_statements.proofs.Exits.{MatchResult-propagated, MatchResult-part}
 use Rattle.lw_statements.proofs.Threads.{ColumnsRefused-out_of_memory, FrameHasTest-ColumnsRead}
-use Rattle.lw_statements.proofs.api.Forms.{IsGrammar-of_spelling, IsLocationName-name_of}
+use Rattle.lw_statements.proofs.api.Forms.{IsGrammar-of_spelling, IsUnreservedName-name_of}
 use Rattle.lw_statements.proofs.api.Tests.{well_formed_test}
 use Rattle.lw_statements.proofs.read.read_test.Goals as goal
 
+-- The threads, with zeros for their new locations, are a test of the frame; or the refusal of the threads is that of the frame.
 pub returns : goal.returns
 returns g c =
     let spelling = g.L.StatementReader.spelling in
@@ -28,7 +29,7 @@ returns g c =
       well_formed =
           MatchResult-weaker c.parts_of.result found (λ parts has.
           well_formed_test grammar (IsGrammar-of_spelling spelling g.L.StatementReader.statement_of c.requires.lawful)
-          (IsLocationName-name_of spelling) (frame_of frame) (test_of parts.head parts.threads) frame.well_formed
+          (IsUnreservedName-name_of spelling) (frame_of frame) (test_of parts.head parts.threads) frame.well_formed
           (length-map frame.cells cells_texts ∙ frame.columns) has) (λ f refused. tt);
       fault =
           MatchResult-weaker c.parts_of.result made (λ parts m. tt)

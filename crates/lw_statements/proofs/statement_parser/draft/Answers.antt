@@ -11,6 +11,7 @@ location-requires g c =
     let name = rw c.in-Some.is at c.requires in
     name.1 _ (slice_get_read c.args.tokens.now _ c.in-Some.index _ refl name.0 c.index-tokens-index.is)
 
+-- If the token is no location with room, the bindings have no draft.
 pub returns-in_err-loc : goal.returns-in_err-loc
 returns-in_err-loc g c =
     let name = rw c.in-Some.is at c.requires in

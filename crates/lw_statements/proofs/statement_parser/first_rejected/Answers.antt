@@ -6,6 +6,8 @@ use Rattle.lw_statements.proofs.Causes.{IsMisfitCause-iff}
 use Rattle.lw_statements.proofs.Fronts.{name_iff-fact_known, other-fact_not_known}
 use Rattle.lw_statements.proofs.statement_parser.first_rejected.Goals as goal
 
+-- If a register may follow the longest prefix and no location may, the cause says whether the token is a name or a numbered
+-- register.
 pub returns-then-wants_register : goal.returns-then-wants_register
 returns-then-wants_register g c =
     let token =
@@ -22,6 +24,7 @@ returns-then-wants_register g c =
       );
     }
 
+-- Otherwise the cause says only whether the token is a numbered register.
 pub returns : goal.returns
 returns g c =
     let token =

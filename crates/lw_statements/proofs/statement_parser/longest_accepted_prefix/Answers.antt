@@ -19,6 +19,7 @@ returns-clause-longest g c = record {
       there;
 }
 
+-- The maximum with one more form is at least what each form so far accepts, and is reached.
 pub loop-form-preserved : goal.loop-form-preserved
 loop-form-preserved g c =
     let spelling = g.L.StatementReader.spelling in

@@ -10,6 +10,7 @@ bounds-slots-index g c = omega (arith, c.requires.0, c.loop-index-test.true)
 pub bounds-tokens-index : goal.bounds-tokens-index
 bounds-tokens-index g c = omega (arith, c.requires.1, c.loop-index-test.true)
 
+-- The token at the index names a ninth location at a location's slot.
 pub returns-then-overflows : goal.returns-then-overflows
 returns-then-overflows g c =
     let is = rw c.index-slots-index.is at (c.overflows.ensures.0 c.if-overflows.true) in
@@ -24,6 +25,7 @@ returns-then-overflows g c =
       new = is.2;
     }
 
+-- If the token at the index is no ninth location, none up to the next index is.
 pub loop-index-preserved : goal.loop-index-preserved
 loop-index-preserved g c =
     let slot =

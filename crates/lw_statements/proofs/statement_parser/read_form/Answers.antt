@@ -4,6 +4,7 @@ use Rattle.lw_statements.proofs.Common.{sym, token_texts}
 use Rattle.lw_statements.proofs.SlotTokens.{IsOther, All-take_suc, All-take_all}
 use Rattle.lw_statements.proofs.statement_parser.read_form.Goals as goal
 
+-- A form that the tokens fill is one of the spelling's, with these bindings.
 pub returns-in-Some : goal.returns-in-Some
 returns-in-Some g c =
     let read = rw (c.slots.ensures, c.in-Some.is) at c.read_as.ensures in (

@@ -13,6 +13,7 @@ overflow_token-requires g c =
     let r = IsAcceptedLength-in_range g.L.StatementReader.spelling _ _ _ c.accepted_prefix_len-front.ensures in
     (r.0, omega (arith, r.1, length-map c.args.phrase.now.tokens.now (λ (t : Token). t.text.now)))
 
+-- A ninth location among the tokens that a form accepts is the fault.
 pub returns-in-Some : goal.returns-in-Some
 returns-in-Some g c =
     let within = rw c.forms-form-items.ensures at c.loop-form-test.true in
@@ -49,6 +50,7 @@ loop-form-preserved g c =
     c.loop-form.invariant
     (c.accepted_prefix_len-front.result, rw c.slots-slots.ensures at c.accepted_prefix_len-front.ensures, none)
 
+-- If no form has a ninth location, the fault is that of the first rejected token.
 pub returns : goal.returns
 returns g c =
     let spelling = g.L.StatementReader.spelling in

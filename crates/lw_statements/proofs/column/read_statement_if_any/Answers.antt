@@ -1,11 +1,11 @@
--- `maybe_statement` promises the draft of what follows a cell's labels, or why there is none. The interesting
+-- `read_statement_if_any` promises the draft of what follows a cell's labels, or why there is none. The interesting
 -- case is a thread that is full: whatever follows is refused, as one statement too many if its first token
 -- can begin one (`MaybeRefused-surplus`).
 use Rattle.lw_statements.proofs.Common.{sym, ◌∙◌, grammar_of, draft_of, Err-clause_known}
 use Rattle.lw_statements.proofs.Drafts.{MaybeRead-some, MaybeRead-none, MaybeRefused-StatementRefused}
 use Rattle.lw_statements.proofs.Drafts.{MaybeRefused-surplus}
 use Rattle.lw_statements.proofs.FirstFaults.{fault_at_first_token}
-use Rattle.lw_statements.proofs.column.maybe_statement.Goals as goal
+use Rattle.lw_statements.proofs.column.read_statement_if_any.Goals as goal
 
 pub returns : goal.returns
 returns g c =
