@@ -27,6 +27,7 @@ module _ (names : NameTable) (locs : ℕ) (code : List Instr) (thread : IsWellFo
   is_target-false_past_end : (n : ℕ) → length code < n → is_target code n ≡ false
   is_target-false_past_end n past = list_any_none (jumps_to n) code (λ k i lt. go k _ (slice_get-get_or code k i lt))
     where
+      -- No instruction of the code jumps past its end.
       go : (k : ℕ) (i : Instr) → slice_get code k ≡ Some i → jumps_to n i ≡ false
       go k i at = is_target-false_of_other (branch_target (x86_operation i)) (λ to e. (thread.forward k i at to e).1)
         where

@@ -28,9 +28,9 @@ pub use Rattle.std.proofs.lemmas.Str.{IsUtf8-append, IsUtf8-from_ascii}
 pub use Rattle.std.specs.List.{AllByRecursion, AllZip, cons_option, list_any, range_with_len}
 pub use Rattle.std.specs.Option.{ForSome, option_map_or}
 pub use Rattle.std.specs.Ordering.{ord_max}
-pub use Rattle.lw_base.proofs.Common.{Bytes, CellGrid, Cells, IsDuplicateFree, IsLocationName, IsName}
-pub use Rattle.lw_base.proofs.Common.{IsNameTable, IsRegisterIndex, IsSeenInRange, IsWellFormedHead}
-pub use Rattle.lw_base.proofs.Common.{IsWordNumber, NameTable, TestHead, TokenList, all_registers}
+pub use Rattle.lw_base.proofs.Common.{Bytes, CellGrid, Cells, IsDuplicateFree, IsName, IsNameTable}
+pub use Rattle.lw_base.proofs.Common.{IsRegisterIndex, IsSeenInRange, IsUnreservedName, IsWellFormedHead}
+pub use Rattle.lw_base.proofs.Common.{IsWordNumber, NameTable, TestHead, TokenList, all_registers, byte}
 pub use Rattle.lw_base.proofs.Common.{condition_text, contains_name, first_byte_is, head_of, insert_names}
 pub use Rattle.lw_base.proofs.Common.{is_blank, is_name_byte, joined, locations, most_locations}
 pub use Rattle.lw_base.proofs.Common.{most_name_bytes, most_nodes, most_text_bytes, most_threads}
@@ -51,6 +51,7 @@ pub use Rattle.lw_base.proofs.api.Tables.{IsInTable, insert_names-again, insert_
 pub use Rattle.lw_base.proofs.api.Tables.{position_of_name-again}
 pub use Rattle.lw_base.proofs.api.Writing.{OnOk-push_str, numbers_written-all, numbers_written-push}
 pub use Rattle.lw_base.proofs.api.Writing.{written-append, written-equal_text, written-two_parts}
+pub use Rattle.lw_base.proofs.api.Zips.{slice_get-map_inv}
 pub use Rattle.lw_base.specs.declared.head.Arch.TheVariants.{X86}
 pub use Rattle.lw_base.specs.declared.head.Quant.{Quant}
 pub use Rattle.lw_base.specs.declared.head.Quant.TheVariants.{Exists}
@@ -75,13 +76,13 @@ pub use Rattle.lw_text.proofs.api.ConditionTokens.{IsPrintable, IsSite-site_toke
 pub use Rattle.lw_text.proofs.api.ConditionTokens.{Quantified-quantifier_tokens, Terminals-terminal_tokens}
 pub use Rattle.lw_text.proofs.api.ConditionTokens.{Value-value_tokens, condition_is_printable, named_claim}
 pub use Rattle.lw_text.proofs.api.ConditionTokens.{named_printable, named_site, quantifier_tokens}
-pub use Rattle.lw_text.proofs.api.ConditionTokens.{resolved-enclosed_named_terms, seen_in-named_site}
+pub use Rattle.lw_text.proofs.api.ConditionTokens.{resolved-enclosed_named_terminals, seen_in-named_site}
 pub use Rattle.lw_text.proofs.api.ConditionTokens.{site_exists, site_tokens, sites_in_table, sites_printable}
 pub use Rattle.lw_text.proofs.api.ConditionTokens.{terminal_tokens, value_tokens}
 pub use Rattle.lw_text.proofs.api.Frames.{HasFrame-unique}
 pub use Rattle.lw_text.proofs.api.Indices.{is_index}
-pub use Rattle.lw_text.proofs.api.PrintedConditions.{HasNoEquals-blank, IsLocationName-in_table, Spells-colon}
-pub use Rattle.lw_text.proofs.api.PrintedConditions.{Spells-register, assignment_spelled}
+pub use Rattle.lw_text.proofs.api.PrintedConditions.{HasNoEquals-blank, IsUnreservedName-in_table}
+pub use Rattle.lw_text.proofs.api.PrintedConditions.{Spells-colon, Spells-register, assignment_spelled}
 pub use Rattle.lw_text.proofs.api.PrintedConditions.{most_assignment_bytes, most_node_bytes}
 pub use Rattle.lw_text.proofs.api.PrintedConditions.{most_quantifier_bytes, most_site_bytes}
 pub use Rattle.lw_text.proofs.api.PrintedConditions.{quantifier_spelled, register_is_name, site_spelled}
@@ -89,18 +90,18 @@ pub use Rattle.lw_text.proofs.api.PrintedConditions.{whole_spelled}
 pub use Rattle.lw_text.proofs.api.PrintedPropositions.{enclosed, printed_proposition, terminals_of}
 pub use Rattle.lw_text.proofs.api.PropositionNodes.{node_count-resolved, proposition_nodes, resolved_single}
 pub use Rattle.lw_text.proofs.api.Spelling.{Anything, EndsName, IsBlankNext, Spells, Spells-append}
-pub use Rattle.lw_text.proofs.api.Spelling.{Spells-append_anything, Spells-before, Spells-mark, Spells-mono}
-pub use Rattle.lw_text.proofs.api.Spelling.{Spells-name, Spells-newline, Spells-nothing, Spells-number}
-pub use Rattle.lw_text.proofs.api.Spelling.{Spells-run, Spells-space, Spells-whole, blank_ends_name}
-pub use Rattle.lw_text.proofs.api.Spelling.{decimal_is_name_run, decimal_is_number, decimal_is_short}
-pub use Rattle.lw_text.proofs.api.Spelling.{is_name_text, most_number_bytes, name_by_test}
+pub use Rattle.lw_text.proofs.api.Spelling.{Spells-append_anything, Spells-before, Spells-mono, Spells-name}
+pub use Rattle.lw_text.proofs.api.Spelling.{Spells-newline, Spells-nothing, Spells-number, Spells-run}
+pub use Rattle.lw_text.proofs.api.Spelling.{Spells-single_symbol, Spells-space, Tokens-Spells}
+pub use Rattle.lw_text.proofs.api.Spelling.{blank_ends_name, decimal_is_name_run, decimal_is_number}
+pub use Rattle.lw_text.proofs.api.Spelling.{decimal_is_short, is_name_text, most_number_bytes, name_by_test}
 pub use Rattle.lw_statements.proofs.Common.{CellSyntax, Column, Filling, Fills, Gives, IsGrammar, IsMade}
 pub use Rattle.lw_statements.proofs.Common.{IsSpelling, Labels, LabelsLeadForward, MaybeStatement, ParsesCell}
 pub use Rattle.lw_statements.proofs.Common.{ParsesStatement, SlotValue, code_in, label_in, labels_of}
 pub use Rattle.lw_statements.proofs.Common.{location_index, name_in, names_in, names_of, resolve_test}
 pub use Rattle.lw_statements.proofs.Common.{resolved_statement, resolved_target, statements, target_in}
 pub use Rattle.lw_statements.proofs.api.Faults.{CellFaultIsTrue-unique, no_CellFault-if_test}
-pub use Rattle.lw_statements.proofs.api.Forms.{IsGrammar-of_spelling, IsLocationName-name_of}
+pub use Rattle.lw_statements.proofs.api.Forms.{IsGrammar-of_spelling, IsUnreservedName-name_of}
 pub use Rattle.lw_statements.proofs.api.Greater.{ord_max-is_max}
 pub use Rattle.lw_statements.proofs.api.Tests.{test-unique, well_formed_test}
 pub use Rattle.lw_statements.specs.declared.slot.Slot.{Slot}

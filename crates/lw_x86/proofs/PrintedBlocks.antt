@@ -11,7 +11,7 @@ use Rattle.lw_x86.proofs.Common.{AllByRecursion-filter, AllByRecursion-map, All-
 use Rattle.lw_x86.proofs.Common.{AllByRecursion-map_range, AllByRecursion-flat_map_range, length_le-filter}
 use Rattle.lw_x86.proofs.Common.{length-all_seen, max_seen_count, Anything, Spells, Spells-append}
 use Rattle.lw_x86.proofs.Common.{Spells-append_anything, Spells-mono, Spells-nothing, Spells-space}
-use Rattle.lw_x86.proofs.Common.{Spells-newline, Spells-mark, named_site, site_tokens, value_tokens}
+use Rattle.lw_x86.proofs.Common.{Spells-newline, Spells-single_symbol, named_site, site_tokens, value_tokens}
 use Rattle.lw_x86.proofs.Common.{IsPrintable, named_printable, IsSite-site_tokens, Value-value_tokens}
 use Rattle.lw_x86.proofs.Common.{site_exists, ParsesSepEndBy-tokens, assignment_spelled, initial_word}
 use Rattle.lw_x86.proofs.Common.{initializer_text, register_initializer, block_text}
@@ -97,8 +97,8 @@ module _ (head : TestHead) (well : IsWellFormedHead head) where
   initializer_spelled s h =
       Spells-append_anything Spells-space
       (Spells-append (λ rest g. refl)
-      (assignment_spelled X86 head.threads well.bounded head.locs well.table.are_location_names s (initial_word head s) h
-      (initial_is_word s)) (Spells-append_anything (Spells-mark 59 refl (λ c. refl) refl (omega arith)) Spells-newline))
+      (assignment_spelled X86 head.threads well.bounded head.locs well.table.are_unreserved s (initial_word head s) h
+      (initial_is_word s)) (Spells-append_anything (Spells-single_symbol 59 refl (λ c. refl) refl (omega arith)) Spells-newline))
 
   -- The texts of initializers spell their tokens, each with its `;`.
   initializers_spelled : (ss : List Seen)
@@ -131,6 +131,7 @@ module _ (head : TestHead) (well : IsWellFormedHead head) where
   registers_text [] = refl
   registers_text (s ∷ ss) = go (initial_word head s == 0) refl (registers_text ss)
     where
+      -- By whether the initial word of the first register or location is 0.
       go : (b : Bool)
           → (initial_word head s == 0) ≡ b
           → flat_map (register_initializer head) ss ≡ flat_map (initializer_text head) (filter (needs_initializer head) ss)
@@ -154,17 +155,18 @@ module _ (head : TestHead) (well : IsWellFormedHead head) where
   block_spelled =
       rw (← block_text-by_initializers)
       (Spells-mono block_bytes (omega (arith, initialized_site_count))
-      (Spells-append_anything (Spells-append_anything (Spells-mark 123 refl (λ c. refl) refl (omega arith)) Spells-newline)
+      (Spells-append_anything
+      (Spells-append_anything (Spells-single_symbol 123 refl (λ c. refl) refl (omega arith)) Spells-newline)
       (Spells-append_anything (initializers_spelled (initialized_sites head) IsOfTest-initialized_sites)
-      (Spells-append_anything (Spells-mark 125 refl (λ c. refl) refl (omega arith)) Spells-newline))))
+      (Spells-append_anything (Spells-single_symbol 125 refl (λ c. refl) refl (omega arith)) Spells-newline))))
 
   -- ---- what the block says
 
   -- A register or location of the test can be printed.
   IsPrintable-IsOfTest : (s : Seen) → IsOfTest s → IsPrintable head.threads head.locs (named_site head.locs s)
-  IsPrintable-IsOfTest s h = named_printable head.threads head.locs well.table.are_location_names s h
+  IsPrintable-IsOfTest s h = named_printable head.threads head.locs well.table.are_unreserved s h
 
-  -- The tokens of an initializer say it.
+  -- The tokens of an initializer give this initializer.
   IsInitializer-initializer_tokens : (s : Seen)
       → IsOfTest s
       → (l : TokenList)

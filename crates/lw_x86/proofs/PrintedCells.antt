@@ -5,7 +5,7 @@ use Rattle.lw_x86.proofs.Common.{◌+◌, suc, most_instructions, EndsNoCell, �
 use Rattle.lw_x86.proofs.Common.{Option, Some, None, List, [], ◌∷◌, ◌++◌, length, refl, arith, if◌then◌else◌}
 use Rattle.lw_x86.proofs.Common.{codes, option_map, slice_get, slice_index_or, subst, AllByRecursion}
 use Rattle.lw_x86.proofs.Common.{slice_get_within, get_or_from_slice_get, Bytes, NameTable, TokenList}
-use Rattle.lw_x86.proofs.Common.{IsLocationName, begins_stop, AllByRecursion-append, Anything, IsBlankNext}
+use Rattle.lw_x86.proofs.Common.{IsUnreservedName, begins_stop, AllByRecursion-append, Anything, IsBlankNext}
 use Rattle.lw_x86.proofs.Common.{Spells, Spells-append, Spells-append_anything, Spells-before, Spells-mono}
 use Rattle.lw_x86.proofs.Common.{Spells-nothing, Spells-space, blank_ends_name, Spells-colon}
 use Rattle.lw_x86.proofs.Common.{HasNoEquals-blank, CellSyntax, MaybeStatement, Labels, ParsesCell}
@@ -108,7 +108,7 @@ Labels-front_tokens false k mid h = refl
 abbrev pub most_cells : ℕ
 most_cells = suc most_instructions
 
-module _ (names : NameTable) (table : AllByRecursion IsLocationName names) (code : List Instr)
+module _ (names : NameTable) (table : AllByRecursion IsUnreservedName names) (code : List Instr)
     (thread : IsWellFormedThread x86_language (length names) code) where
   -- Each instruction of the thread is well-formed.
   pub IsWellFormedStatement-get : (k : ℕ) (i : Instr)

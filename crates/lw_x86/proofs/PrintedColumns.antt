@@ -10,7 +10,7 @@ use Rattle.lw_x86.proofs.Common.{target_in, location_index, resolved_target, res
 use Rattle.lw_x86.proofs.Common.{names_in, LabelsLeadForward, Column, IsWellFormedThread, Instr}
 use Rattle.lw_x86.proofs.Common.{ParsesStatement, x86_spelling, branch_target, location_of, x86_language}
 use Rattle.lw_x86.proofs.Common.{x86_operation, label, printed_form, is_target, end_cells, cells_of}
-use Rattle.lw_x86.proofs.Common.{x86_grammar}
+use Rattle.lw_x86.proofs.Common.{x86_grammar, slice_get-map_inv}
 use Rattle.lw_x86.proofs.PrintedCells.{most_cells, cell_tokens, ParsesCell-cell_tokens}
 use Rattle.lw_x86.proofs.PrintedCells.{IsWellFormedStatement-get, HasSmallTarget-in_thread}
 use Rattle.lw_x86.proofs.CellLists.{length-cells}
@@ -70,17 +70,10 @@ label_holds-printed_form : (names : NameTable) (P : Bytes → Type 0) (i : Instr
     → ForSome (x86_grammar.label_of (printed_form names i)) P
 label_holds-printed_form names P i h = rw (IsPrintedAs-each names i).label_is (go (branch_target (x86_operation i)) h)
   where
+    -- By whether the instruction has a target.
     go : (target : Option ℕ) → ForSome target (λ to. P (label to)) → ForSome (option_map label target) P
     go None h = λ l e. absurd cc
     go (Some to) h = λ l e. subst P (let f : label to ≡ l = cc in f) (h to refl)
-
--- An item of the images is the image of an item.
-get-map_inv : {X Y : Type 0} (f : X → Y) (xs : List X) (k : ℕ) (y : Y)
-    → slice_get (map f xs) k ≡ Some y
-    → (x : X) × (slice_get xs k ≡ Some x) × (f x ≡ y)
-get-map_inv f [] k y e = absurd cc
-get-map_inv f (x ∷ xs) zero y e = (x, refl, let g : f x ≡ y = cc in g)
-get-map_inv f (x ∷ xs) (suc k) y e = get-map_inv f xs k y e
 
 -- What holds of the item at each index holds of all items.
 AllByRecursion-get : {X : Type 0} (P : X → Type 0) (xs : List X)
@@ -115,7 +108,7 @@ module _ (names : NameTable) (table : IsNameTable names) (n : ℕ) (few : n ≤ 
       → Contains (labels_of syntaxes) (label to) × (target_in syntaxes (label to) ≡ to) × (k < to)
   target_in-of_branch k to i e f =
       let goes = thread.forward k i e to f in
-      let small = HasSmallTarget-in_thread names table.are_location_names code thread k i e to f in
+      let small = HasSmallTarget-in_thread names table.are_unreserved code thread k i e to f in
       let is = is_target-of_branch code k to i e f in
       let first : 0 ≤ to = omega arith in
       let last : to < 0 + n = omega (arith, target_row to is goes.1) in
@@ -129,24 +122,24 @@ module _ (names : NameTable) (table : IsNameTable names) (n : ℕ) (few : n ≤ 
   -- The printed cells of a thread say their syntax, row by row.
   Column-printed_thread : Column x86_grammar (map (cell_tokens names code) (range_with_len 0 n)) syntaxes
   Column-printed_thread = record {
-    says = Column_cells-from_k 0 n (omega (arith, few));
+    says = AllZip-cells_from 0 n (omega (arith, few));
     bounded = omega (arith, ap length statements_all, length-map code (printed_form names), thread.short);
     without_duplicates = (labels_of_cells-duplicate_free names code 0 n (omega (arith, few))).1;
     forward = λ k s e.
-        let found = get-map_inv (printed_form names) code k s (ap (λ l. slice_get l k) (sym statements_all) ∙ e) in
-        subst (LabelsLeadForward x86_grammar syntaxes k) found.2
+        let found = slice_get-map_inv (printed_form names) code k s (ap (λ l. slice_get l k) (sym statements_all) ∙ e) in
+        subst (LabelsLeadForward x86_grammar syntaxes k) (sym found.2)
         (label_holds-printed_form names (λ l. Contains (labels_of syntaxes) l × (k < target_in syntaxes l)) found.0
         (λ to f. let t = target_in-of_branch k to found.0 found.1 f in (t.0, omega (arith, t.1, t.2))));
   }
     where
       -- The printed cells of the m rows from row k on say their syntaxes.
-      Column_cells-from_k : (k m : ℕ)
+      AllZip-cells_from : (k m : ℕ)
           → k + m < 2 ^ 32
           → AllZip (ParsesCell x86_grammar) (map (cell_tokens names code) (range_with_len k m)) (syntaxes_from names code k m)
-      Column_cells-from_k k zero h = tt
-      Column_cells-from_k k (suc m) h = (
-        ParsesCell-cell_tokens names table.are_location_names code thread k (omega (arith, h)),
-        Column_cells-from_k (k + 1) m (omega (arith, h)),
+      AllZip-cells_from k zero h = tt
+      AllZip-cells_from k (suc m) h = (
+        ParsesCell-cell_tokens names table.are_unreserved code thread k (omega (arith, h)),
+        AllZip-cells_from (k + 1) m (omega (arith, h)),
       )
 
   -- The code that the cells say is the thread's.
@@ -154,21 +147,19 @@ module _ (names : NameTable) (table : IsNameTable names) (n : ℕ) (few : n ≤ 
   code_in-printed_thread =
       rw statements_all
       (resolved_statement-printed_forms names table.without_duplicates syntaxes code
-      (AllByRecursion-get (IsResolved names table.without_duplicates syntaxes) code (λ k i e. (
-        (IsWellFormedStatement-get names table.are_location_names code thread k i e).0,
-        λ to f. (target_in-of_branch k to i e f).1,
-      ))))
+      (AllByRecursion-get (IsResolved names table.without_duplicates syntaxes) code (λ k i e.
+      ((IsWellFormedStatement-get names table.are_unreserved code thread k i e).0, λ to f. (target_in-of_branch k to i e f).1))))
 
   -- The cells name only locations of the table.
-  AreInTable-thread_names : AllByRecursion (IsInTable names) (names_in x86_grammar syntaxes)
-  AreInTable-thread_names =
+  IsInTable-thread_names : AllByRecursion (IsInTable names) (names_in x86_grammar syntaxes)
+  IsInTable-thread_names =
       rw statements_all
       (IsInTable-names names code
       (AllByRecursion-get (λ i. ForSome (location_of (x86_operation i)) (λ x. x < length names)) code
-      (λ k i e. (IsWellFormedStatement-get names table.are_location_names code thread k i e).0)))
+      (λ k i e. (IsWellFormedStatement-get names table.are_unreserved code thread k i e).0)))
 
   -- The printed cells of a thread say its code, and name only locations of the table.
   pub Column-of_thread : Column x86_grammar (map (cell_tokens names code) (range_with_len 0 n)) syntaxes
       × (code_in x86_grammar names syntaxes ≡ code)
       × AllByRecursion (IsInTable names) (names_in x86_grammar syntaxes)
-  Column-of_thread = (Column-printed_thread, code_in-printed_thread, AreInTable-thread_names)
+  Column-of_thread = (Column-printed_thread, code_in-printed_thread, IsInTable-thread_names)

@@ -10,9 +10,9 @@ use Rattle.lw_x86.proofs.Common.{columns, HasFewNodes, IsProposition, sites_in, 
 use Rattle.lw_x86.proofs.Common.{TestFrame, ParsesTest, HasFrame, location_table, head_of_syntax}
 use Rattle.lw_x86.proofs.Common.{frame_of_syntax, AllByRecursion-append, AllByRecursion-map, All-mono}
 use Rattle.lw_x86.proofs.Common.{proposition_nodes, resolved_single, node_count-resolved, Anything, Spells}
-use Rattle.lw_x86.proofs.Common.{Spells-append_anything, Spells-mono, Spells-whole, Spells-space}
+use Rattle.lw_x86.proofs.Common.{Spells-append_anything, Spells-mono, Tokens-Spells, Spells-space}
 use Rattle.lw_x86.proofs.Common.{Spells-newline, Spells-name, name_by_test, printed_proposition, IsPrintable}
-use Rattle.lw_x86.proofs.Common.{sites_printable, condition_is_printable, resolved-enclosed_named_terms}
+use Rattle.lw_x86.proofs.Common.{sites_printable, condition_is_printable, resolved-enclosed_named_terminals}
 use Rattle.lw_x86.proofs.Common.{IsWellFormedThread, Instr, x86_language, IsWellFormedProgram, X86Test}
 use Rattle.lw_x86.proofs.Common.{cells_of, row_at, max_cell_count, rows_text, header_text, block_text}
 use Rattle.lw_x86.proofs.Common.{listed_text, canonical_text}
@@ -115,10 +115,8 @@ module _ (p : X86Test) (well : IsWellFormedProgram p) where
       → AllZip IsPrintedCell (row_at (map (cells_of p.head.locs) threads) k)
       (map (λ code. cell_tokens p.head.locs code k) threads)
   row_printed k small [] h = tt
-  row_printed k small (code ∷ threads) h = (
-    cell_printed p.head.locs well.head.table.are_location_names code h.0 k (omega (arith, small)),
-    row_printed k small threads h.1,
-  )
+  row_printed k small (code ∷ threads) h =
+      (cell_printed p.head.locs well.head.table.are_unreserved code h.0 k (omega (arith, small)), row_printed k small threads h.1)
 
   -- In each row the texts of the cells of all threads spell their tokens.
   IsPrintedCell-rows : (k : ℕ) → k < most_cells → AllZip IsPrintedCell (row_at (texts_in p) k) (row_in p k)
@@ -155,7 +153,7 @@ module _ (p : X86Test) (well : IsWellFormedProgram p) where
       AllByRecursion-append (IsPrintable p.head.threads p.head.locs) (named_sites p.head.locs p.head.listed)
       (sites_in (terminals_in p.head)) (listed_printable p.head well.head)
       (sites_printable p.head.threads p.head.locs (terminals_in p.head)
-      (condition_is_printable p.head.threads p.head.locs well.head.table.are_location_names p.head.condition well.head.condition))
+      (condition_is_printable p.head.threads p.head.locs well.head.table.are_unreserved p.head.proposition well.head.condition))
 
   -- The table of locations that the tokens give is the test's.
   location_table-of_syntax : location_table (syntax_in p) ≡ p.head.locs
@@ -167,17 +165,17 @@ module _ (p : X86Test) (well : IsWellFormedProgram p) where
       IsPrintable-all_sites)
 
   -- The condition's terminals, resolved by the test's table, are a proposition that says the condition.
-  IsProposition-of_condition : IsProposition (map (resolved p.head.locs) (terminals_in p.head)) p.head.condition
-  IsProposition-of_condition =
+  IsProposition-of_head : IsProposition (map (resolved p.head.locs) (terminals_in p.head)) p.head.proposition
+  IsProposition-of_head =
       rw
-      (resolved-enclosed_named_terms p.head.threads p.head.locs well.head.table.without_duplicates p.head.condition
-      well.head.condition) (printed_proposition p.head.condition)
+      (resolved-enclosed_named_terminals p.head.threads p.head.locs well.head.table.without_duplicates p.head.proposition
+      well.head.condition) (printed_proposition p.head.proposition)
 
   -- The condition has at most as many nodes as can be read.
   nodes_bounded : HasFewNodes (terminals_in p.head)
   nodes_bounded = omega (
     arith,
-    proposition_nodes IsProposition-of_condition (resolved_single p.head.locs (terminals_in p.head)),
+    proposition_nodes IsProposition-of_head (resolved_single p.head.locs (terminals_in p.head)),
     node_count-resolved p.head.locs (terminals_in p.head),
     well.head.nodes_bounded,
   )
@@ -205,7 +203,7 @@ module _ (p : X86Test) (well : IsWellFormedProgram p) where
   -- ---- the head and the cells
 
   -- The head computed from the syntax is the test's head.
-  head_of_syntax-printed : head_of_syntax X86 p.head.name (syntax_in p) p.head.condition ≡ p.head
+  head_of_syntax-printed : head_of_syntax X86 p.head.name (syntax_in p) p.head.proposition ≡ p.head
   head_of_syntax-printed =
       rw (
         location_table-of_syntax,
@@ -220,7 +218,7 @@ module _ (p : X86Test) (well : IsWellFormedProgram p) where
   columns-of_rows = rw (← well.as_many) (columns-of_rows_by_item (cell_tokens p.head.locs) p.threads (height_of p))
 
   -- The frame of the printed syntax is the frame of the test.
-  frame_of_syntax-printed : frame_in p ≡ frame_of_syntax X86 p.head.name (syntax_in p) p.head.condition
+  frame_of_syntax-printed : frame_in p ≡ frame_of_syntax X86 p.head.name (syntax_in p) p.head.proposition
   frame_of_syntax-printed = rw (head_of_syntax-printed, columns-of_rows) refl
 
   -- ---- the whole text
@@ -271,12 +269,12 @@ module _ (p : X86Test) (well : IsWellFormedProgram p) where
     rest = body_text p;
     tokens = tokens_in p;
     syntax = syntax_in p;
-    condition = p.head.condition;
+    proposition = p.head.proposition;
     preamble = preamble;
-    stream = Spells-whole tt body_spelled;
+    stream = Tokens-Spells tt body_spelled;
     parts = ParsesTest-of_tokens;
-    proposition =
-        subst (λ (names : NameTable). IsProposition (map (resolved names) (terminals_in p.head)) p.head.condition)
-        (sym location_table-of_syntax) IsProposition-of_condition;
+    is_proposition =
+        subst (λ (names : NameTable). IsProposition (map (resolved names) (terminals_in p.head)) p.head.proposition)
+        (sym location_table-of_syntax) IsProposition-of_head;
     frame_is = frame_of_syntax-printed;
   }

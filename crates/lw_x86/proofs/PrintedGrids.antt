@@ -63,6 +63,7 @@ max_cell_count-at_most n threads h = fold_max-at_most 0 n _ (omega arith) (AllBy
 pub cell_count_at_most : (names : NameTable) (code : List Instr) → length (cells_of names code) ≤ length code + 1
 cell_count_at_most names code = omega (arith, length-cells names code 0 code, go (is_target code (0 + length code)))
   where
+    -- After the last instruction a thread has at most one cell.
     go : (b : Bool) → length (if b then (label (0 + length code) ++ codes ":") ∷ [] else []) ≤ 1
     go true = omega arith
     go false = omega arith

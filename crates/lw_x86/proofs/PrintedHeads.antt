@@ -107,6 +107,7 @@ module _ (head : TestHead) (well : IsWellFormedHead head) where
       ap (λ (b : Bool). word_of_last s (word_if b x w) (map (initializer_of head) ss)) (seen_eq-named_site x h.0 s)
       ∙ go (seen_eq x s) refl (λ v. words_step ss s v h.1)
     where
+      -- By whether the first register or location is the one whose word is asked for.
       go : (b : Bool)
           → seen_eq x s ≡ b
           → ((v : ℕ) → word_of_last s v (map (initializer_of head) ss) ≡ word_if (has_seen ss s) s v)
@@ -126,6 +127,7 @@ module _ (head : TestHead) (well : IsWellFormedHead head) where
   initial_word_of-initializers s =
       go (has_seen (initialized_sites head) s) (words_step (initialized_sites head) s 0 (IsOfTest-initialized_sites head well))
     where
+      -- By whether the register or location is initialized.
       go : (b : Bool)
           → initial_word_of head.locs (initializers_of head) s ≡ word_if b s 0
           → (initial_word head s ≡ 0) ⊎ (b ≡ true)

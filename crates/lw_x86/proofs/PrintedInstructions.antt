@@ -2,9 +2,9 @@
 use Rattle.lw_x86.proofs.Common.{◌+◌, most_number_bytes, EndsNoCell, ◌≡◌, ℕ, ◌<◌, ◌≤◌, ◌^◌, inl, true, false}
 use Rattle.lw_x86.proofs.Common.{[], ◌∷◌, length, refl, ap, arith, slice_index_or, Contains, option_map}
 use Rattle.lw_x86.proofs.Common.{AllByRecursion, ForSome, recursion_from_All, NameTable, TokenList, Number}
-use Rattle.lw_x86.proofs.Common.{IsLocationName, IsRegisterIndex, IsWordNumber, begins_stop, EndsName, Spells}
-use Rattle.lw_x86.proofs.Common.{Spells-mono, Spells-run, decimal_is_name_run, decimal_is_short}
-use Rattle.lw_x86.proofs.Common.{IsLocationName-in_table, IsWellFormedStatement, registers_of, numbers_of}
+use Rattle.lw_x86.proofs.Common.{IsUnreservedName, IsRegisterIndex, IsWordNumber, begins_stop, EndsName}
+use Rattle.lw_x86.proofs.Common.{Spells, Spells-mono, Spells-run, decimal_is_name_run, decimal_is_short}
+use Rattle.lw_x86.proofs.Common.{IsUnreservedName-in_table, IsWellFormedStatement, registers_of, numbers_of}
 use Rattle.lw_x86.proofs.Common.{Instr, branch_target, location_of, x86_language, x86_operation, Fills}
 use Rattle.lw_x86.proofs.Common.{ParsesStatement, name_in, label_in, x86_forms, x86_slots, instruction}
 use Rattle.lw_x86.proofs.Common.{x86_spelling, label, printed_form, instruction_text}
@@ -16,7 +16,7 @@ use Rattle.lw_litmus.specs.declared.instr.Instr.TheVariants as instr
 -- ---- labels
 
 -- A label of an instruction is a name that is not reserved.
-pub label_is_location : (k : ℕ) → k < 2 ^ 32 → IsLocationName (label k)
+pub label_is_location : (k : ℕ) → k < 2 ^ 32 → IsUnreservedName (label k)
 label_is_location k h = (
   (
     record { not_empty = omega arith; are_name_bytes = (refl, decimal_is_name_run k h); front = refl },
@@ -123,7 +123,7 @@ module _ (names : NameTable) where
   IsPrintedAs-each (instr.Jmp to) =
       IsPrintedAs-by_form (17, omega arith, refl) refl (omega arith) refl refl refl (λ y t p q. ap instr.Jmp (q to refl))
 
-module _ (names : NameTable) (table : AllByRecursion IsLocationName names) where
+module _ (names : NameTable) (table : AllByRecursion IsUnreservedName names) where
   -- The filling of an instruction's form can be printed if its location, registers, numbers and target are in range.
   ArePrintable-of_operands : (i : Instr)
       → ForSome (location_of (x86_operation i)) (λ x. x < length names)
@@ -132,11 +132,11 @@ module _ (names : NameTable) (table : AllByRecursion IsLocationName names) where
       → HasSmallTarget i
       → ArePrintable (x86_slots (printed_form names i).form) (printed_form names i).filling
   ArePrintable-of_operands (instr.Store x (Register a)) l r n t =
-      (tt, (tt, (IsLocationName-in_table _ x table (l x refl), (tt, (tt, (r.0, tt))))))
+      (tt, (tt, (IsUnreservedName-in_table _ x table (l x refl), (tt, (tt, (r.0, tt))))))
   ArePrintable-of_operands (instr.Store x (Number k)) l r n t =
-      (tt, (tt, (IsLocationName-in_table names x table (l x refl), (tt, (tt, (tt, (n.0, tt)))))))
+      (tt, (tt, (IsUnreservedName-in_table names x table (l x refl), (tt, (tt, (tt, (n.0, tt)))))))
   ArePrintable-of_operands (instr.Load d x) l r n t =
-      (tt, (r.0, (tt, (tt, (IsLocationName-in_table names x table (l x refl), (tt, tt))))))
+      (tt, (r.0, (tt, (tt, (IsUnreservedName-in_table names x table (l x refl), (tt, tt))))))
   ArePrintable-of_operands (instr.Set d (Register a)) l r n t = (tt, (r.0, (tt, (r.1.0, tt))))
   ArePrintable-of_operands (instr.Set d (Number k)) l r n t = (tt, (r.0, (tt, (tt, (n.0, tt)))))
   ArePrintable-of_operands (instr.Add d (Register a)) l r n t = (tt, (r.0, (tt, (r.1.1.0, tt))))
@@ -144,9 +144,9 @@ module _ (names : NameTable) (table : AllByRecursion IsLocationName names) where
   ArePrintable-of_operands (instr.Cmp a (Register b)) l r n t = (tt, (r.0, (tt, (r.1.0, tt))))
   ArePrintable-of_operands (instr.Cmp a (Number k)) l r n t = (tt, (r.0, (tt, (tt, (n.0, tt)))))
   ArePrintable-of_operands (instr.Xchg x a) l r n t =
-      (tt, (tt, (IsLocationName-in_table names x table (l x refl), (tt, (tt, (r.0, tt))))))
+      (tt, (tt, (IsUnreservedName-in_table names x table (l x refl), (tt, (tt, (r.0, tt))))))
   ArePrintable-of_operands (instr.Xadd x a) l r n t =
-      (tt, (tt, (tt, (IsLocationName-in_table names x table (l x refl), (tt, (tt, (r.0, tt)))))))
+      (tt, (tt, (tt, (IsUnreservedName-in_table names x table (l x refl), (tt, (tt, (r.0, tt)))))))
   ArePrintable-of_operands instr.Mfence l r n t = (tt, tt)
   ArePrintable-of_operands (instr.Je to) l r n t = (tt, (label_is_location to (t to refl), tt))
   ArePrintable-of_operands (instr.Jne to) l r n t = (tt, (label_is_location to (t to refl), tt))
@@ -160,7 +160,7 @@ module _ (names : NameTable) (table : AllByRecursion IsLocationName names) where
   ArePrintable-of_instruction i h t =
       ArePrintable-of_operands i h.0 (recursion_from_All _ _ h.1) (recursion_from_All IsWordNumber _ h.2) t
 
-  -- The text of an instruction spells its tokens.
+  -- The text of a well-formed instruction with a small target spells its tokens.
   pub instruction_spelled : (i : Instr)
       → IsWellFormedStatement x86_language (length names) i
       → HasSmallTarget i
@@ -170,7 +170,7 @@ module _ (names : NameTable) (table : AllByRecursion IsLocationName names) where
       Spells-mono most_instruction_bytes p.short
       (slots_spelled _ (printed_form names i).filling (ArePrintable-of_instruction i h t) p.spaced)
 
-  -- The tokens of an instruction fill the slots of its form.
+  -- The tokens of a well-formed instruction with a small target fill the slots of its form.
   pub Fills-instruction_tokens : (i : Instr)
       → IsWellFormedStatement x86_language (length names) i
       → HasSmallTarget i
@@ -181,7 +181,7 @@ module _ (names : NameTable) (table : AllByRecursion IsLocationName names) where
     Fills-slots_tokens _ (printed_form names i).filling (ArePrintable-of_instruction i h t),
   )
 
-  -- The tokens of an instruction contain no end of a cell.
+  -- The tokens of a well-formed instruction with a small target contain no end of a cell.
   pub instruction_no_end : (i : Instr)
       → IsWellFormedStatement x86_language (length names) i
       → HasSmallTarget i

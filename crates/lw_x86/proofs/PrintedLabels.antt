@@ -105,7 +105,7 @@ module _ (names : NameTable) (code : List Instr) where
   -- ---- targets
 
   module _ (to : ℕ) (small : to < 2 ^ 32) (target : is_target code to ≡ true) where
-    -- The label of another position is not this target's.
+    -- The labels at a position other than the target do not contain the target's label.
     fronts_other : (b : Bool) (k : ℕ) → k < 2 ^ 32 → (k ≡ to → ⊥) → contains_name (front_labels b k) (label to) ≡ false
     fronts_other true k h ne = rw (other_label k to h small ne) refl
     fronts_other false k h ne = refl

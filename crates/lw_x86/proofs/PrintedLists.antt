@@ -9,11 +9,12 @@ use Rattle.lw_x86.proofs.Common.{IsSite, begins_stop, AtomSyntax, Listed, Parses
 use Rattle.lw_x86.proofs.Common.{Terminal, AllByRecursion-map, All-mono, length_le-ascending_seen}
 use Rattle.lw_x86.proofs.Common.{max_seen_count, Anything, Spells, Spells-nothing, Spells-append}
 use Rattle.lw_x86.proofs.Common.{Spells-append_anything, Spells-mono, Spells-space, Spells-newline}
-use Rattle.lw_x86.proofs.Common.{Spells-mark, Spells-name, name_by_test, enclosed, terminals_of, named_site}
-use Rattle.lw_x86.proofs.Common.{site_tokens, terminal_tokens, quantifier_tokens, named_claim, IsPrintable}
-use Rattle.lw_x86.proofs.Common.{IsSite-site_tokens, site_exists, Terminals-terminal_tokens, named_printable}
-use Rattle.lw_x86.proofs.Common.{condition_is_printable, Quantified-quantifier_tokens, ParsesSepEndBy-tokens}
-use Rattle.lw_x86.proofs.Common.{site_spelled, whole_spelled, quantifier_spelled, element_text, listed_text}
+use Rattle.lw_x86.proofs.Common.{Spells-single_symbol, Spells-name, name_by_test, enclosed, terminals_of}
+use Rattle.lw_x86.proofs.Common.{named_site, site_tokens, terminal_tokens, quantifier_tokens, named_claim}
+use Rattle.lw_x86.proofs.Common.{IsPrintable, IsSite-site_tokens, site_exists, Terminals-terminal_tokens}
+use Rattle.lw_x86.proofs.Common.{named_printable, condition_is_printable, Quantified-quantifier_tokens}
+use Rattle.lw_x86.proofs.Common.{ParsesSepEndBy-tokens, site_spelled, whole_spelled, quantifier_spelled}
+use Rattle.lw_x86.proofs.Common.{element_text, listed_text}
 
 -- ---- tokens
 
@@ -33,7 +34,7 @@ listed_tokens names (s ∷ ss) =
 
 -- The terminals of a head's condition.
 abbrev pub terminals_in : TestHead → List (Terminal AtomSyntax)
-terminals_in head = enclosed (terminals_of (named_claim head.locs) head.condition)
+terminals_in head = enclosed (terminals_of (named_claim head.locs) head.proposition)
 
 -- The tokens of the condition: its quantifier and its proposition.
 abbrev pub condition_tokens : TestHead → TokenList
@@ -71,8 +72,8 @@ module _ (head : TestHead) (well : IsWellFormedHead head) where
       → IsOfTest s
       → Spells Anything most_element_bytes (element_text head.locs s) (element_tokens (named_site head.locs s))
   element_spelled s h =
-      Spells-append (λ rest g. refl) (site_spelled X86 head.threads well.bounded head.locs well.table.are_location_names s h)
-      (Spells-mark 59 refl (λ c. refl) refl (omega arith))
+      Spells-append (λ rest g. refl) (site_spelled X86 head.threads well.bounded head.locs well.table.are_unreserved s h)
+      (Spells-single_symbol 59 refl (λ c. refl) refl (omega arith))
 
   -- The texts of further elements, each after a space, spell their tokens.
   elements_spelled : (ss : List Seen)
@@ -89,7 +90,7 @@ module _ (head : TestHead) (well : IsWellFormedHead head) where
   Spells-locations : Spells Anything most_opening_bytes (codes "locations [") (codes "locations" ∷ codes "[" ∷ [])
   Spells-locations =
       Spells-append (λ rest g. refl) (Spells-name (codes "locations") (name_by_test (codes "locations") refl))
-      (Spells-append_anything Spells-space (Spells-mark 91 refl (λ c. refl) refl (omega arith)))
+      (Spells-append_anything Spells-space (Spells-single_symbol 91 refl (λ c. refl) refl (omega arith)))
 
   -- The text of the list of names, or none, spells its tokens.
   list_spelled : (ss : List Seen)
@@ -100,7 +101,7 @@ module _ (head : TestHead) (well : IsWellFormedHead head) where
       Spells-mono (most_bytes_of_list (suc (length ss))) (omega arith)
       (Spells-append_anything Spells-locations
       (Spells-append_anything (Spells-append_anything (element_spelled s h.0) (elements_spelled ss h.1))
-      (Spells-append_anything (Spells-mark 93 refl (λ c. refl) refl (omega arith)) Spells-newline)))
+      (Spells-append_anything (Spells-single_symbol 93 refl (λ c. refl) refl (omega arith)) Spells-newline)))
 
   -- The text of the list of names spells its tokens.
   pub listed_spelled : Spells Anything listed_bytes (listed_text head.locs head.listed) (listed_tokens head.locs head.listed)
@@ -117,7 +118,7 @@ module _ (head : TestHead) (well : IsWellFormedHead head) where
       → Spells Anything condition_bytes (condition_text head ++ codes "\n") (condition_tokens head)
   condition_spelled arch =
       let proposition =
-      whole_spelled X86 head.threads well.bounded head.locs well.table.are_location_names head.condition well.condition in
+      whole_spelled X86 head.threads well.bounded head.locs well.table.are_unreserved head.proposition well.condition in
       let line =
       Spells-append_anything
       (Spells-append {G = Anything} (λ rest g. refl) (quantifier_spelled head.quant)
@@ -130,7 +131,7 @@ module _ (head : TestHead) (well : IsWellFormedHead head) where
   pub listed_printable : AllByRecursion (IsPrintable head.threads head.locs) (named_sites head.locs head.listed)
   listed_printable =
       AllByRecursion-map (IsPrintable head.threads head.locs) (named_site head.locs) head.listed
-      (All-mono _ _ (named_printable head.threads head.locs well.table.are_location_names) head.listed well.listed_in_range)
+      (All-mono _ _ (named_printable head.threads head.locs well.table.are_unreserved) head.listed well.listed_in_range)
 
   -- The tokens of the list of names, or none, say the listed sites.
   Listed-listed_tokens : (ss : List Seen) (rest : TokenList)
@@ -168,7 +169,7 @@ module _ (head : TestHead) (well : IsWellFormedHead head) where
     quantifies = Quantified-quantifier_tokens head.quant (flat_map (terminal_tokens X86) (terminals_in head));
     says =
         Terminals-terminal_tokens X86 head.threads well.bounded head.locs (terminals_in head)
-        (condition_is_printable head.threads head.locs well.table.are_location_names head.condition well.condition);
+        (condition_is_printable head.threads head.locs well.table.are_unreserved head.proposition well.condition);
   }
 
   -- If tokens start as an end of the rows does, so do they with the list of names before them.

@@ -7,8 +7,8 @@ use Rattle.lw_x86.proofs.Common.{length-map-range_with_len, Bytes, TokenList, Ce
 use Rattle.lw_x86.proofs.Common.{is_blank, most_threads, ParsesManyTill, thread_name, Names, Header, RowCells}
 use Rattle.lw_x86.proofs.Common.{Row, begins_stop, Anything, IsBlankNext, Spells, Spells-append}
 use Rattle.lw_x86.proofs.Common.{Spells-append_anything, Spells-before, Spells-mono, Spells-nothing}
-use Rattle.lw_x86.proofs.Common.{Spells-space, Spells-newline, Spells-mark, Spells-name, is_name_text}
-use Rattle.lw_x86.proofs.Common.{name_by_test, blank_ends_name, row_text, header_text}
+use Rattle.lw_x86.proofs.Common.{Spells-space, Spells-newline, Spells-single_symbol, Spells-name}
+use Rattle.lw_x86.proofs.Common.{is_name_text, name_by_test, blank_ends_name, row_text, header_text}
 use Rattle.lw_x86.proofs.PrintedCells.{most_cell_bytes, IsPrintedCell}
 use Rattle.lw_x86.proofs.PrintedSlots.{name_no_end}
 
@@ -41,13 +41,13 @@ most_bytes_after_bar = 3 + most_cell_bytes
 Spells-bar : Spells Anything 3 (codes " | ") (codes "|" ∷ [])
 Spells-bar =
     Spells-append_anything Spells-space
-    (Spells-append_anything (Spells-mark 124 refl (λ c. refl) refl (omega arith)) Spells-space)
+    (Spells-append_anything (Spells-single_symbol 124 refl (λ c. refl) refl (omega arith)) Spells-space)
 
 -- ` ;` and the line's end spell a `;`.
 row_end : Spells Anything 3 (codes " ;\n") (codes ";" ∷ [])
 row_end =
     Spells-append_anything Spells-space
-    (Spells-append_anything (Spells-mark 59 refl (λ c. refl) refl (omega arith)) Spells-newline)
+    (Spells-append_anything (Spells-single_symbol 59 refl (λ c. refl) refl (omega arith)) Spells-newline)
 
 -- The text of the cells after the first spells their tokens.
 after_spelled : (cells : List Bytes) (ts : Cells)

@@ -3,14 +3,14 @@
 use Rattle.lw_x86.proofs.Common.{most_name_bytes, ◌≡◌, ℕ, ◌+◌, ◌<◌, ◌⊎◌, inl, inr, Bool, true, false, List}
 use Rattle.lw_x86.proofs.Common.{[], ◌∷◌, ◌++◌, length, refl, arith, append_assoc, ◌==◌, ◌&&◌, ◌||◌, decimal}
 use Rattle.lw_x86.proofs.Common.{eqb-true, AllByRecursion, cases_Bool, and_parts, decimal_nonempty, Bytes}
-use Rattle.lw_x86.proofs.Common.{TokenList, X86, is_name_byte, IsName, IsLocationName, register_name}
+use Rattle.lw_x86.proofs.Common.{TokenList, X86, is_name_byte, IsName, IsUnreservedName, register_name}
 use Rattle.lw_x86.proofs.Common.{IsRegisterIndex, IsWordNumber, ends_cell, Anything, EndsName, Spells}
 use Rattle.lw_x86.proofs.Common.{Spells-append, Spells-append_anything, Spells-mono, Spells-before}
-use Rattle.lw_x86.proofs.Common.{Spells-nothing, Spells-space, Spells-mark, Spells-name, Spells-number}
-use Rattle.lw_x86.proofs.Common.{name_by_test, decimal_is_number, decimal_is_name_run, Spells-register}
-use Rattle.lw_x86.proofs.Common.{register_is_name, Slot, Keyword, Value, Label, SlotValue, Filling, Gives}
-use Rattle.lw_x86.proofs.Common.{Fills, X86Keyword, Open, Close, Comma, Dollar, x86_keyword_text}
-use Rattle.lw_x86.proofs.Common.{x86_spelling, slot_text, is_sign, slots_text, EndsNoCell}
+use Rattle.lw_x86.proofs.Common.{Spells-nothing, Spells-space, Spells-single_symbol, Spells-name}
+use Rattle.lw_x86.proofs.Common.{Spells-number, name_by_test, decimal_is_number, decimal_is_name_run}
+use Rattle.lw_x86.proofs.Common.{Spells-register, register_is_name, Slot, Keyword, Value, Label, SlotValue}
+use Rattle.lw_x86.proofs.Common.{Filling, Gives, Fills, X86Keyword, Open, Close, Comma, Dollar}
+use Rattle.lw_x86.proofs.Common.{x86_keyword_text, x86_spelling, slot_text, is_sign, slots_text, EndsNoCell}
 use Rattle.lw_statements.specs.declared.slot.Slot.TheVariants.{Register, Location, Number}
 use Rattle.lw_base.specs.declared.operand.Operand.TheVariants as operand
 
@@ -46,20 +46,36 @@ record IsMnemonic (w : X86Keyword) : Type 0 where
 -- The keyword is a sign: it spells one token, ends a name before it, and ends no cell.
 record IsSign (w : X86Keyword) : Type 0 where
   sign : is_sign w ≡ true
-  mark : Spells Anything 1 (x86_keyword_text w) (x86_keyword_text w ∷ [])
+  spells : Spells Anything 1 (x86_keyword_text w) (x86_keyword_text w ∷ [])
   ends : (rest : Bytes) → EndsName (x86_keyword_text w ++ rest)
   plain : ends_cell (x86_keyword_text w) ≡ false
 
 -- Each keyword of x86 is a mnemonic or a sign.
 is_mnemonic_or_sign : (w : X86Keyword) → IsMnemonic w ⊎ IsSign w
-is_mnemonic_or_sign Open =
-    inr (record { sign = refl; mark = Spells-mark 91 refl (λ c. refl) refl (omega arith); ends = λ rest. refl; plain = refl })
-is_mnemonic_or_sign Close =
-    inr (record { sign = refl; mark = Spells-mark 93 refl (λ c. refl) refl (omega arith); ends = λ rest. refl; plain = refl })
-is_mnemonic_or_sign Comma =
-    inr (record { sign = refl; mark = Spells-mark 44 refl (λ c. refl) refl (omega arith); ends = λ rest. refl; plain = refl })
-is_mnemonic_or_sign Dollar =
-    inr (record { sign = refl; mark = Spells-mark 36 refl (λ c. refl) refl (omega arith); ends = λ rest. refl; plain = refl })
+is_mnemonic_or_sign Open = inr (record {
+  sign = refl;
+  spells = Spells-single_symbol 91 refl (λ c. refl) refl (omega arith);
+  ends = λ rest. refl;
+  plain = refl;
+})
+is_mnemonic_or_sign Close = inr (record {
+  sign = refl;
+  spells = Spells-single_symbol 93 refl (λ c. refl) refl (omega arith);
+  ends = λ rest. refl;
+  plain = refl;
+})
+is_mnemonic_or_sign Comma = inr (record {
+  sign = refl;
+  spells = Spells-single_symbol 44 refl (λ c. refl) refl (omega arith);
+  ends = λ rest. refl;
+  plain = refl;
+})
+is_mnemonic_or_sign Dollar = inr (record {
+  sign = refl;
+  spells = Spells-single_symbol 36 refl (λ c. refl) refl (omega arith);
+  ends = λ rest. refl;
+  plain = refl;
+})
 is_mnemonic_or_sign w = inl (record { no_sign = refl; name = name_by_test _ refl })
 
 -- ---- values that can be printed
@@ -68,11 +84,11 @@ is_mnemonic_or_sign w = inl (record { no_sign = refl; name = name_by_test _ refl
 abbrev pub IsPrintable : (slot : Slot X86Keyword) → SlotValue slot → Type 0
 IsPrintable (Keyword w) g = Unit {0}
 IsPrintable Register r = IsRegisterIndex r
-IsPrintable Location x = IsLocationName x
+IsPrintable Location x = IsUnreservedName x
 IsPrintable Value (operand.Register r) = IsRegisterIndex r
 IsPrintable Value (operand.Number n) = IsWordNumber n
 IsPrintable Number n = IsWordNumber n
-IsPrintable Label l = IsLocationName l
+IsPrintable Label l = IsUnreservedName l
 
 -- Each slot's value can be printed.
 abbrev pub ArePrintable : (slots : List (Slot X86Keyword)) → Filling slots → Type 0
@@ -139,7 +155,7 @@ IsPrinted-IsPrintable (Keyword w) g p = elim (is_mnemonic_or_sign w) [
     plain = name_no_end (x86_keyword_text w) m.name;
   }
   | inr s ↦ record {
-    spelled = Spells-mono (1 + length (x86_keyword_text w)) (omega arith) (Spells-before EndsName (λ rest e. tt) s.mark);
+    spelled = Spells-mono (1 + length (x86_keyword_text w)) (omega arith) (Spells-before EndsName (λ rest e. tt) s.spells);
     said = refl;
     plain = s.plain;
   }
@@ -161,16 +177,16 @@ IsPrinted-IsPrintable Number n p = record {
 IsPrinted-IsPrintable Label l p = record { spelled = Spells-name l p.0; said = (refl, p); plain = name_no_end l p.0 }
 
 -- A sign spells one token, which ends a name and no cell.
-IsSign-is_sign : (w : X86Keyword) → is_sign w ≡ true → IsSign w
-IsSign-is_sign w e = elim (is_mnemonic_or_sign w) [ inl m ↦ absurd (let other = m.no_sign in cc) | inr s ↦ s ]
+is_sign-sound : (w : X86Keyword) → is_sign w ≡ true → IsSign w
+is_sign-sound w e = elim (is_mnemonic_or_sign w) [ inl m ↦ absurd (let other = m.no_sign in cc) | inr s ↦ s ]
 
 -- Before slots of which the first is a sign's, a name ends.
 sign_ends : (next : Slot X86Keyword) (slots : List (Slot X86Keyword)) (h : SlotValue next) (f : Filling slots)
     → is_sign_slot next ≡ true
     → (rest : Bytes)
     → EndsName (slots_text (next ∷ slots) (h, f) ++ rest)
-sign_ends (Keyword w) [] h f e rest = (IsSign-is_sign w e).ends rest
-sign_ends (Keyword w) (next ∷ slots) h (k, f) e rest = rw (append_assoc (x86_keyword_text w)) ((IsSign-is_sign w e).ends _)
+sign_ends (Keyword w) [] h f e rest = (is_sign-sound w e).ends rest
+sign_ends (Keyword w) (next ∷ slots) h (k, f) e rest = rw (append_assoc (x86_keyword_text w)) ((is_sign-sound w e).ends _)
 sign_ends next slots h f e rest = absurd cc
 
 module _ (next : Slot X86Keyword) (slots : List (Slot X86Keyword)) (h : SlotValue next) (f : Filling slots) (n : ℕ)
@@ -185,14 +201,14 @@ module _ (next : Slot X86Keyword) (slots : List (Slot X86Keyword)) (h : SlotValu
         rw m.no_sign
         (Spells-mono (1 + length (x86_keyword_text w) + n) (omega arith)
         (Spells-append (λ rest g. refl) (name_spelled (x86_keyword_text w) m.name) (Spells-append_anything Spells-space after)))
-    | inr s ↦ rw s.sign (Spells-mono (1 + length (x86_keyword_text w) + n) (omega arith) (Spells-append_anything s.mark after))
+    | inr s ↦ rw s.sign (Spells-mono (1 + length (x86_keyword_text w) + n) (omega arith) (Spells-append_anything s.spells after))
   ]
   front_spelled slot g p e =
       Spells-append (λ rest k. sign_ends next slots h f e rest) (IsPrinted-IsPrintable slot g p).spelled after
 
 -- ---- slots
 
--- The text of slots spells their tokens.
+-- If slots are spaced, and their values can be printed, the text of the slots spells their tokens.
 pub slots_spelled : (slots : List (Slot X86Keyword)) (f : Filling slots)
     → ArePrintable slots f
     → are_spaced slots ≡ true

@@ -77,8 +77,8 @@ module _ (p : X86Test) (well : IsWellFormedProgram p) where
       refl
 
   -- The frame of the test says the test.
-  HasProgram-HasFrame-canonical_text : HasProgram (frame_in p) p
-  HasProgram-HasFrame-canonical_text = record {
+  HasProgram-canonical_text : HasProgram (frame_in p) p
+  HasProgram-canonical_text = record {
     arch = well.arch;
     threads = syntaxes_of_threads;
     says = (AllZip-Column_of_threads p.threads HasEnoughRows-of_test).0;
@@ -87,6 +87,6 @@ module _ (p : X86Test) (well : IsWellFormedProgram p) where
   }
 
   -- The canonical text of a well-formed program says that program.
-  pub HasTest-canonical_text : IsTextOf (canonical_text p) p
-  HasTest-canonical_text =
-      record { frame = frame_in p; has_frame = HasFrame-canonical_text p well; says = HasProgram-HasFrame-canonical_text }
+  pub IsTextOf-canonical_text : IsTextOf (canonical_text p) p
+  IsTextOf-canonical_text =
+      record { frame = frame_in p; has_frame = HasFrame-canonical_text p well; says = HasProgram-canonical_text }

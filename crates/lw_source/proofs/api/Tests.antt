@@ -4,7 +4,7 @@ use Rattle.lw_base.specs.WellFormed.{IsWellFormedHead}
 use Rattle.lw_text.specs.Frames.{TestFrame}
 use Rattle.lw_litmus.specs.Tests.{SourceTest}
 use Rattle.lw_litmus.specs.WellFormedTests.{IsWellFormedSource}
-use Rattle.lw_statements.proofs.api.Forms.{IsLocationName-name_of}
+use Rattle.lw_statements.proofs.api.Forms.{IsUnreservedName-name_of}
 use Rattle.lw_statements.proofs.api.Tests.{well_formed_test}
 use Rattle.lw_source.specs.Spelling.{source_spelling}
 use Rattle.lw_source.specs.Grammar.{source_grammar, HasSource}
@@ -16,4 +16,4 @@ pub well_formed_source : (frame : TestFrame) (test : SourceTest)
     → length frame.cells ≡ frame.head.threads
     → HasSource frame test
     → IsWellFormedSource test
-well_formed_source = well_formed_test source_grammar source_grammar_is_lawful (IsLocationName-name_of source_spelling)
+well_formed_source = well_formed_test source_grammar source_grammar_is_lawful (IsUnreservedName-name_of source_spelling)

@@ -1,6 +1,6 @@
 -- The x86 test of a frame is well-formed. The workbench uses this.
 use Rattle.lw_x86.proofs.Common.{◌≡◌, length, IsWellFormedHead, TestFrame, X86Test, IsWellFormedProgram}
-use Rattle.lw_x86.proofs.Common.{IsLocationName-name_of, well_formed_test, x86_spelling, x86_grammar}
+use Rattle.lw_x86.proofs.Common.{IsUnreservedName-name_of, well_formed_test, x86_spelling, x86_grammar}
 use Rattle.lw_x86.proofs.Common.{HasProgram}
 use Rattle.lw_x86.proofs.X86Laws.{x86_grammar_is_lawful}
 
@@ -10,4 +10,4 @@ pub well_formed_program : (frame : TestFrame) (test : X86Test)
     → length frame.cells ≡ frame.head.threads
     → HasProgram frame test
     → IsWellFormedProgram test
-well_formed_program = well_formed_test x86_grammar x86_grammar_is_lawful (IsLocationName-name_of x86_spelling)
+well_formed_program = well_formed_test x86_grammar x86_grammar_is_lawful (IsUnreservedName-name_of x86_spelling)

@@ -7,7 +7,7 @@ use Rattle.lw_x86.proofs.Common.{get_or, range_with_len, take, most_locations}
 use Rattle.lw_x86.proofs.BlockTexts.{location_initializer, initializer_texts-locations}
 use Rattle.lw_x86.proofs.block.write_locations.Goals as goal
 
--- The location's index is below the number of locations.
+-- The item at an index of the first `len` locations is below `len`.
 location-lt : (len : ℕ) {k x : ℕ} {all xs : List ℕ}
     → all ≡ range_with_len 0 most_locations
     → xs ≡ take len all
@@ -26,6 +26,7 @@ loop-loc-preserved g c =
     numbers_written-push (location_initializer (head_of c.args.head.now)) names c.loop-loc.loc-index _ _ c.loop-loc.invariant _
     within (rw index_is at c.in_ok-write_location.ensures)
 
+-- At the loop's end all locations are written.
 pub returns : goal.returns
 returns g c =
     let head = head_of c.args.head.now in

@@ -5,6 +5,7 @@ use Rattle.lw_x86.proofs.Common.{numbers_written-push, zero-add}
 use Rattle.lw_x86.proofs.BlockTexts.{initializer_of_register}
 use Rattle.lw_x86.proofs.block.write_registers_of.Goals as goal
 
+-- A round writes the register of the loop's index.
 pub loop-reg-preserved : goal.loop-reg-preserved
 loop-reg-preserved g c =
     let i = c.loop-reg.reg-index in

@@ -8,7 +8,7 @@ use Rattle.lw_x86.proofs.Common.{element_text, listed_text}
 use Rattle.lw_x86.proofs.SeparatedTexts.{joined_prefix-push, joined_prefix-whole, OnOk-line_written}
 use Rattle.lw_x86.proofs.canonical.write_listed.Goals as goal
 
--- The list of names is not empty.
+-- If the list of names is not empty, its line is the opening, the elements with spaces between them, and the end of the line.
 listed_text-if_not_empty : (names : NameTable) (ss : List Seen)
     → (length ss == 0) ≡ false
     → codes "locations [" ++ (joined (codes " ") (map (element_text names) ss) ++ codes "]\n") ≡ listed_text names ss
@@ -22,6 +22,7 @@ write_element-requires g c =
     let lt = rw c.as_slice-listed.ensures at c.loop-index-test.true in
     (head.threads, rw is (All-from_recursion _ head.listed c.requires c.loop-index.index _ lt))
 
+-- A round writes one more element after its separator.
 pub loop-index-preserved : goal.loop-index-preserved
 loop-index-preserved g c =
     let head = c.args.head.now in
@@ -33,6 +34,7 @@ loop-index-preserved g c =
     ∙ ap (option_map (element_text head.locs)) (slice_get_read head.listed _ k _ refl lt is))
     (written-append _ _ _ _ _ c.in_ok-write_separator.ensures c.in_ok-write_element.ensures)
 
+-- At the loop's end all elements are written, and with the end the line.
 pub returns : goal.returns
 returns g c =
     let head = c.args.head.now in

@@ -1,19 +1,20 @@
 -- `write_on_memory` promises a mnemonic, a location in brackets and an operand. The written pieces are these,
 -- differently grouped (`operands-regrouped`), followed by the operand.
-use Rattle.lw_x86.proofs.Common.{◌≡◌, [], ◌∷◌, ◌++◌, append_assoc, refl, get_or_from_slice_get, Bytes}
+use Rattle.lw_x86.proofs.Common.{byte, ◌≡◌, [], ◌∷◌, ◌++◌, append_assoc, refl, get_or_from_slice_get, Bytes}
 use Rattle.lw_x86.proofs.Common.{written-two_parts}
 use Rattle.lw_x86.proofs.instruction_text.write_on_memory.Goals as goal
 
 -- The mnemonic, the location in brackets, the comma and the operand are the same text, however the pieces are grouped.
 operands-regrouped : (mnemonic name x operand : Bytes)
     → x ≡ name
-    → (mnemonic ++ (32 ∷ 91 ∷ (name ++ (93 ∷ 44 ∷ [])))) ++ operand ≡ mnemonic ++ (32 ∷ ((91 ∷ (x ++ 93 ∷ [])) ++ (44 ∷ operand)))
+    → (mnemonic ++ (byte " " ∷ byte "[" ∷ (name ++ (byte "]" ∷ byte "," ∷ [])))) ++ operand
+    ≡ mnemonic ++ (byte " " ∷ ((byte "[" ∷ (x ++ byte "]" ∷ [])) ++ (byte "," ∷ operand)))
 operands-regrouped mnemonic name x operand named =
     rw (
       named,
-      append_assoc mnemonic (32 ∷ 91 ∷ (name ++ (93 ∷ 44 ∷ []))),
-      append_assoc name (93 ∷ 44 ∷ []),
-      append_assoc name (93 ∷ []),
+      append_assoc mnemonic (byte " " ∷ byte "[" ∷ (name ++ (byte "]" ∷ byte "," ∷ []))),
+      append_assoc name (byte "]" ∷ byte "," ∷ []),
+      append_assoc name (byte "]" ∷ []),
     ) refl
 
 pub returns : goal.returns

@@ -4,6 +4,7 @@ use Rattle.lw_x86.proofs.Common.{◌<◌, length, arith, ap, cells_of, take_all}
 use Rattle.lw_x86.proofs.CellLists.{length-cells_of, max_cell_count-push}
 use Rattle.lw_x86.proofs.rows.height.Goals as goal
 
+-- A round takes the maximum with the number of cells of one more thread.
 pub loop-code-preserved : goal.loop-code-preserved
 loop-code-preserved g c =
     let program = c.args.program.now in
