@@ -3,8 +3,10 @@
 -- How to read the proofs by separation logic of this crate. `Logic` is the record of the laws of the kit's separation logic: a lemma holds
 -- of every such `𝓛`, over every resource algebra `𝓤`. `ent 𝓤 P Q` says that P entails Q; `sep 𝓤 P Q` is P and Q, each with memory of its
 -- own; `wand 𝓤 P Q` is the right to exchange P for Q. `sem 𝓛` gives the meaning of a formula, whose connectives begin with f (`fsep`,
--- `fwand`). `Seq K 𝓛 Γ G` says that the entries of Γ together entail G. A proof after `qed` is a list of steps, each of which changes the
--- first entries of Γ or the goal:
+-- `fwand`). 𝓛.H is the machine's heap: `𝓛.H.room τ b o` is the memory for a τ in the block b at the offset o, in bytes, and `froom` is its
+-- formula; `block_ptr b o` is the pointer to that place. `Seq K 𝓛 Γ G` says that the entries of Γ together entail G. An entry is a formula
+-- (`‵`), an assertion (`raw P`), or two entries, each with memory of its own (`⊛`). A proof after `qed` is a list of steps, each of which
+-- changes the first entries of Γ or the goal:
 --
 -- - `split` takes a `sep` apart, and `join` makes one; `move` brings the entries at some indices to the front; `drop` gives the first away;
 -- - `use1` and `use2` replace the first entry, or the first two, by what they entail; `rewrite` uses an equation;

@@ -40,9 +40,9 @@ alignment-divides_16 w64 = tt
 alignment-divides_16 w128 = tt
 
 -- The right to exchange the room of a τ for all k units is the right to give the block's memory back.
-give_back-of_room : {M : Type 1} {𝓤 : Ura M} (𝓛 : Logic 𝓤) (τ : Ty) (k b o : ℕ)
+wand-room_to_memory : {M : Type 1} {𝓤 : Ura M} (𝓛 : Logic 𝓤) (τ : Ty) (k b o : ℕ)
     → ent 𝓤 (wand 𝓤 (𝓛.H.room τ b o) (𝓛.H.room (units k) b o)) (sem 𝓛 (fwand (froom τ b o) (memory k (block_ptr b o))))
-give_back-of_room {𝓤 = 𝓤} 𝓛 τ k b o =
+wand-room_to_memory {𝓤 = 𝓤} 𝓛 τ k b o =
     let Room = 𝓛.H.room τ b o in
     let Whole = 𝓛.H.room (units k) b o in
     qed 𝓛 (raw (wand 𝓤 Room Whole) ∷ []) ∵ assume ! (raw Room) $ use2 𝓛 (raw Whole) (apply∗ 𝓤 Room Whole) $ by ! (memory-of_room 𝓛 k b o)
@@ -61,7 +61,7 @@ block_token-of_room {𝓤 = 𝓤} 𝓛 τ b o n sized small =
     qed 𝓛 (‵ (froom (units (block_units n)) b o) ∷ []) ∵ rewrite ! 0 (λ (m : ℕ). ‵ (froom (units (block_units m)) b o)) same refl $
     use1 𝓛 (raw Room ⊛ raw (wand 𝓤 Room Whole))
     (room-of_type 𝓛 τ k b o (FitsClass-of_size (size τ) short).holds (subst (λ (m : ℕ). Dv m 16) (sym (align-bytes τ)) (alignment-divides_16 (align_w τ)))) $
-    split ! $ frame ! $ use1 𝓛 (‵ (fwand (froom τ b o) (memory k (block_ptr b o)))) (give_back-of_room 𝓛 τ k b o) $
+    split ! $ frame ! $ use1 𝓛 (‵ (fwand (froom τ b o) (memory k (block_ptr b o)))) (wand-room_to_memory 𝓛 τ k b o) $
     fpack ! (size τ < 2 ^ 63) (λ _. fwand (froom τ b o) (memory k (block_ptr b o))) short $ done !
 
 module _ {M : Type 1} {𝓤 : Ura M} {𝓛 : Logic 𝓤} {K : Type 0} {Γ : List (Item 𝓤)} {G : Goal 𝓤 𝓛.H} where

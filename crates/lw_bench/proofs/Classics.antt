@@ -5,7 +5,7 @@ use Rattle.lw_bench.proofs.Common.{List, [], ◌∷◌, refl, sym, ap, ◌∙◌
 use Rattle.lw_bench.proofs.Common.{Some, slice_get, codes, replicate, slice_index_or, Contains}
 use Rattle.lw_bench.proofs.Common.{is_ascii_digit, AllByRecursion, ForSome, false≢true, All-nil, All-cons}
 use Rattle.lw_bench.proofs.Common.{none-some, same_Some, is_name_byte, Formula, nodes, is_reserved}
-use Rattle.lw_bench.proofs.Common.{IsLocationName, IsTestName, FinalState, IsRegisterIndex, IsWordNumber}
+use Rattle.lw_bench.proofs.Common.{IsUnreservedName, IsTestName, FinalState, IsRegisterIndex, IsWordNumber}
 use Rattle.lw_bench.proofs.Common.{MentionsOnly, IsWellFormedHead, Arch, X86, Quant, Exists, NotExists}
 use Rattle.lw_bench.proofs.Common.{Number, branch_target, x86_language, x86_operation, IsWellFormedProgram}
 use Rattle.lw_bench.proofs.Common.{X86Test, IsWellFormedStatement, IsWellFormedThread, Instr, Event, Step}
@@ -18,31 +18,32 @@ use Rattle.lw_bench.proofs.Searches.{every_end_satisfies, every_end_satisfies-so
 use Rattle.lw_bench.proofs.Searches.{every_machine_end_satisfies, every_machine_end_satisfies-sound}
 use Rattle.lw_litmus.specs.declared.instr.Instr.TheVariants as instr
 
--- Tests whether the outcome has not both loads of store buffering early.
-abbrev is_late : FinalState → Bool
-is_late o = not (is_true store_buffering.head.condition o)
+-- Tests whether the outcome does not have both loads of store buffering early.
+abbrev has_late_load : FinalState → Bool
+has_late_load o = not (is_true store_buffering.head.proposition o)
 
--- Within five steps every run of store buffering by interleaving ends, with an outcome that has not both loads early.
-search_of_store_buffering : every_end_satisfies store_buffering.threads is_late 5 (initial_state store_buffering) ≡ true
+-- Within five steps every run of store buffering by interleaving ends, with an outcome that does not have both loads early.
+search_of_store_buffering : every_end_satisfies store_buffering.threads has_late_load 5 (initial_state store_buffering) ≡ true
 unfolding every_end_satisfies
 search_of_store_buffering = refl
 
 -- By interleaving, no outcome of store buffering has both loads early.
 pub store_buffering_forbidden : (o : FinalState)
     → SourceOutcome store_buffering o
-    → is_true store_buffering.head.condition o ≡ false
+    → is_true store_buffering.head.proposition o ≡ false
 store_buffering_forbidden o run =
     not-true _
-    (subst (λ e. is_late e ≡ true) (sym run.1.outcome_is)
-    (every_end_satisfies-sound store_buffering.threads is_late 5 run.0 (initial_state store_buffering) run.1.end
+    (subst (λ e. has_late_load e ≡ true) (sym run.1.outcome_is)
+    (every_end_satisfies-sound store_buffering.threads has_late_load 5 run.0 (initial_state store_buffering) run.1.end
     search_of_store_buffering run.1.ran run.1.final))
 
--- Tests whether the outcome has not the flag without the message.
-abbrev lacks_message : FinalState → Bool
-lacks_message o = not (is_true message_passing_in_x86.head.condition o)
+-- Tests whether the outcome does not have the flag without the message.
+abbrev has_no_flag_without_message : FinalState → Bool
+has_no_flag_without_message o = not (is_true message_passing_in_x86.head.proposition o)
 
--- Within seven events every run of message passing over flat memory ends, with an outcome that has not the flag without the message.
-search_of_message_passing : every_machine_end_satisfies message_passing_in_x86.threads lacks_message 7
+-- Within seven events every run of message passing over flat memory ends, with an outcome that does not have the flag
+-- without the message.
+search_of_message_passing : every_machine_end_satisfies message_passing_in_x86.threads has_no_flag_without_message 7
     (initial_machine_state message_passing_in_x86 message_passing_in_x86.head.init_words)
     ≡ true
 unfolding every_machine_end_satisfies
@@ -51,23 +52,23 @@ search_of_message_passing = refl
 -- No outcome of message passing in x86 has the flag without the message.
 pub message_passing_forbidden : (o : FinalState)
     → IsMachineOutcome flat_memory message_passing_in_x86 message_passing_in_x86.head.init_words o
-    → is_true message_passing_in_x86.head.condition o ≡ false
+    → is_true message_passing_in_x86.head.proposition o ≡ false
 message_passing_forbidden o run =
     not-true _
-    (subst (λ e. lacks_message e ≡ true) (sym run.1.outcome_is)
-    (every_machine_end_satisfies-sound message_passing_in_x86.threads lacks_message 7 run.0
+    (subst (λ e. has_no_flag_without_message e ≡ true) (sym run.1.outcome_is)
+    (every_machine_end_satisfies-sound message_passing_in_x86.threads has_no_flag_without_message 7 run.0
     (initial_machine_state message_passing_in_x86 message_passing_in_x86.head.init_words) run.1.end search_of_message_passing
     run.1.ran run.1.final))
 
 -- ---- the x86 tests are well-formed, so their outcomes over flat memory are those over caches
 
--- A letter that is no reserved name is a location's name.
+-- A name of one byte, which is a name byte but no digit, is a location's name if it is not reserved.
 pub one_letter : (w : List ℕ) (b : ℕ)
     → w ≡ b ∷ []
     → is_name_byte b ≡ true
     → is_ascii_digit b ≡ false
     → is_reserved (b ∷ []) ≡ false
-    → IsLocationName w
+    → IsUnreservedName w
 one_letter w b is word front free =
     rw is ((record { not_empty = omega arith; are_name_bytes = (word, tt); front = front }, omega arith), free)
 
@@ -75,23 +76,24 @@ one_letter w b is word front free =
 not-Contains-x_in_y_table : Contains (codes "y" ∷ []) (codes "x") → ⊥
 not-Contains-x_in_y_table c = go c.0 c.1 c.2
   where
+    -- `x` is at no index of the table of `y`.
     go : (k : ℕ) → k < 1 → slice_index_or (codes "y" ∷ []) k (codes "x") ≡ codes "x" → ⊥
     go zero l e = absurd (false≢true (ap (λ (bytes : List ℕ). slice_index bytes 0 == 120) e))
     go (suc k) l e = omega (arith, l)
 
--- The head of a test of two threads is well-formed if its name and its condition are.
-IsWellFormedHead-two_threads : (name : List ℕ) (arch : Arch) (quant : Quant) (condition : Formula)
+-- The head of a test of two threads is well-formed if its name and its proposition are.
+IsWellFormedHead-two_threads : (name : List ℕ) (arch : Arch) (quant : Quant) (proposition : Formula)
     → IsTestName name
-    → nodes condition ≤ 256
-    → MentionsOnly 2 2 condition
-    → IsWellFormedHead (two_threads name arch quant condition)
-IsWellFormedHead-two_threads name arch quant condition named few speaks = record {
+    → nodes proposition ≤ 256
+    → MentionsOnly 2 2 proposition
+    → IsWellFormedHead (two_threads name arch quant proposition)
+IsWellFormedHead-two_threads name arch quant proposition named few speaks = record {
   name = named;
   has_thread = omega arith;
   bounded = omega arith;
   table = record {
     bounded = omega arith;
-    are_location_names = (one_letter _ 120 refl refl refl refl, (one_letter (codes "y") 121 refl refl refl refl, tt));
+    are_unreserved = (one_letter _ 120 refl refl refl refl, (one_letter (codes "y") 121 refl refl refl refl, tt));
     without_duplicates = (not-Contains-x_in_y_table, ((λ c. omega (arith, c.1)), tt));
   };
   regs = refl;
@@ -238,8 +240,8 @@ early_events : List Event
 early_events = Step 0 ∷ Step 1 ∷ Step 0 ∷ Step 1 ∷ Drain 0 ∷ Drain 1 ∷ []
 
 -- A processor at this position with this store buffer, whose registers are all 0.
-abbrev state_at : ℕ → List (ℕ × ℕ) → Processor
-state_at k buffer = record { position = k; regs = replicate registers 0; zero_flag = false; buffer = buffer }
+abbrev processor_at : ℕ → List (ℕ × ℕ) → Processor
+processor_at k buffer = record { position = k; regs = replicate registers 0; zero_flag = false; buffer = buffer }
 
 -- The initial state of store buffering.
 abbrev store_buffering_start : MachineState (List ℕ)
@@ -247,27 +249,27 @@ store_buffering_start = initial_machine_state store_buffering_in_x86 (replicate 
 
 -- The state in which the first thread's store is in its store buffer, and nothing else is done.
 abbrev one_stored : MachineState (List ℕ)
-one_stored = state (state_at 1 ((0, 1) ∷ []) ∷ state_at 0 [] ∷ []) (0 ∷ 0 ∷ [])
+one_stored = state (processor_at 1 ((0, 1) ∷ []) ∷ processor_at 0 [] ∷ []) (0 ∷ 0 ∷ [])
 
 -- The state in which both stores are in their store buffers, and nothing is loaded.
 abbrev both_stored : MachineState (List ℕ)
-both_stored = state (state_at 1 ((0, 1) ∷ []) ∷ state_at 1 ((1, 1) ∷ []) ∷ []) (0 ∷ 0 ∷ [])
+both_stored = state (processor_at 1 ((0, 1) ∷ []) ∷ processor_at 1 ((1, 1) ∷ []) ∷ []) (0 ∷ 0 ∷ [])
 
 -- The state in which the first thread has loaded 0, and both stores are in their store buffers.
 abbrev one_loaded : MachineState (List ℕ)
-one_loaded = state (state_at 2 ((0, 1) ∷ []) ∷ state_at 1 ((1, 1) ∷ []) ∷ []) (0 ∷ 0 ∷ [])
+one_loaded = state (processor_at 2 ((0, 1) ∷ []) ∷ processor_at 1 ((1, 1) ∷ []) ∷ []) (0 ∷ 0 ∷ [])
 
 -- The state in which both threads have loaded 0, and both stores are in their store buffers.
 abbrev both_loaded : MachineState (List ℕ)
-both_loaded = state (state_at 2 ((0, 1) ∷ []) ∷ state_at 2 ((1, 1) ∷ []) ∷ []) (0 ∷ 0 ∷ [])
+both_loaded = state (processor_at 2 ((0, 1) ∷ []) ∷ processor_at 2 ((1, 1) ∷ []) ∷ []) (0 ∷ 0 ∷ [])
 
 -- The state in which both threads have loaded 0, and the first store is in memory.
 abbrev one_drained : MachineState (List ℕ)
-one_drained = state (state_at 2 [] ∷ state_at 2 ((1, 1) ∷ []) ∷ []) (1 ∷ 0 ∷ [])
+one_drained = state (processor_at 2 [] ∷ processor_at 2 ((1, 1) ∷ []) ∷ []) (1 ∷ 0 ∷ [])
 
 -- The final state: both threads have loaded 0, and both stores are in memory.
 abbrev both_drained : MachineState (List ℕ)
-both_drained = state (state_at 2 [] ∷ state_at 2 [] ∷ []) (1 ∷ 1 ∷ [])
+both_drained = state (processor_at 2 [] ∷ processor_at 2 [] ∷ []) (1 ∷ 1 ∷ [])
 
 -- The event leads from the first state to the second.
 abbrev EventReaches : Event → MachineState (List ℕ) → MachineState (List ℕ) → Type 0
@@ -275,27 +277,27 @@ EventReaches e s mid = MachineTransition flat_memory store_buffering_in_x86.thre
 
 -- The first thread's store enters its store buffer.
 first_stores : EventReaches (Step 0) store_buffering_start one_stored
-first_stores = (state_at 1 ((0, 1) ∷ []), 0 ∷ 0 ∷ [], (refl, refl, refl), refl)
+first_stores = (processor_at 1 ((0, 1) ∷ []), 0 ∷ 0 ∷ [], (refl, refl, refl), refl)
 
 -- The second thread's store enters its store buffer.
 second_stores : EventReaches (Step 1) one_stored both_stored
-second_stores = (state_at 1 ((1, 1) ∷ []), 0 ∷ 0 ∷ [], (refl, refl, refl), refl)
+second_stores = (processor_at 1 ((1, 1) ∷ []), 0 ∷ 0 ∷ [], (refl, refl, refl), refl)
 
 -- The first thread loads 0, which memory still has.
 first_loads : EventReaches (Step 0) both_stored one_loaded
-first_loads = (state_at 2 ((0, 1) ∷ []), 0 ∷ 0 ∷ [], (Some 0, refl, refl, (refl, refl)), refl)
+first_loads = (processor_at 2 ((0, 1) ∷ []), 0 ∷ 0 ∷ [], (Some 0, refl, refl, (refl, refl)), refl)
 
 -- The second thread loads 0, which memory still has.
 second_loads : EventReaches (Step 1) one_loaded both_loaded
-second_loads = (state_at 2 ((1, 1) ∷ []), 0 ∷ 0 ∷ [], (Some 0, refl, refl, (refl, refl)), refl)
+second_loads = (processor_at 2 ((1, 1) ∷ []), 0 ∷ 0 ∷ [], (Some 0, refl, refl, (refl, refl)), refl)
 
 -- The first store reaches memory.
 first_drains : EventReaches (Drain 0) both_loaded one_drained
-first_drains = (state_at 2 [], 1 ∷ 0 ∷ [], (None, refl, refl, (refl, refl)), refl)
+first_drains = (processor_at 2 [], 1 ∷ 0 ∷ [], (None, refl, refl, (refl, refl)), refl)
 
 -- The second store reaches memory.
 second_drains : EventReaches (Drain 1) one_drained both_drained
-second_drains = (state_at 2 [], 1 ∷ 1 ∷ [], (None, refl, refl, (refl, refl)), refl)
+second_drains = (processor_at 2 [], 1 ∷ 1 ∷ [], (None, refl, refl, (refl, refl)), refl)
 
 -- The events with both loads early are a run of the flat machine to a final state.
 early_run : MachineRunsTo flat_memory store_buffering_in_x86.threads early_events store_buffering_start both_drained
@@ -313,7 +315,7 @@ early_run = (
 -- Store buffering in x86 has an outcome with both loads early.
 pub store_buffering_allowed : (o : FinalState)
     × IsMachineOutcome flat_memory store_buffering_in_x86 store_buffering_in_x86.head.init_words o
-    × (is_true store_buffering_in_x86.head.condition o ≡ true)
+    × (is_true store_buffering_in_x86.head.proposition o ≡ true)
 store_buffering_allowed = (
   machine_outcome flat_memory both_drained,
   (early_events, record { end = both_drained; ran = early_run; final = refl; outcome_is = refl }),

@@ -55,6 +55,7 @@ not-texts_eq-by_test : (a b : List ℕ) (differs : Bool) → differs ≡ not (po
 not-texts_eq-by_test a b differs is other same =
     not-cases (pointwise nat_eq a b) ((pointwise_decides unsigned_Decides a b).1 same) (sym is ∙ other)
   where
+    -- If a test is true, its negation is not.
     not-cases : (b : Bool) → b ≡ true → not b ≡ true → ⊥
     not-cases true e n = cc
     not-cases false e n = cc
@@ -91,6 +92,7 @@ module _ (words : Arguments) (many : 2 ≤ length words) (few : length words < 3
       ∙ ap (λ n. codes "--protocol" ∷ n ∷ []) (sym known))
   IsResultOf-IsProtocolOption None same none = go
     where
+      -- If the second argument names no protocol, the two arguments name none.
       go : (p : Protocol) → IsProtocolOption (argument_texts words) p → ⊥
       go p (inl e) = none p (sym (cons-head_eq _ _ _ _ (cons-injective_tail (sym (two_arguments words many few) ∙ e))))
       go p (inr e) = not-nil_eq_cons _ _ (sym e.0 ∙ two_arguments words many few)
@@ -141,6 +143,7 @@ IsResultOf-IsCommand_one_word words name task r many is other named = go r
     texts_split : argument_texts words ≡ name ∷ argument_texts (arguments_after_first words)
     texts_split = texts-first_and_rest words many ∙ ap (λ n. n ∷ argument_texts (arguments_after_first words)) is
 
+    -- By whether arguments follow the first.
     go : (r : Option Task)
         → MatchOption r (arguments_after_first words ≡ [] → ⊥) (λ given. (arguments_after_first words ≡ []) × (given ≡ task))
         → IsResultOf IsCommand (argument_texts words) r
@@ -179,7 +182,7 @@ not-IsCommand-if_bad_option words many none (Replay schedule protocol) said =
 not-IsCommand-if_bad_option words many none Compile said = omega (arith, cons-head_eq 114 99 _ _ (cons-head_eq _ _ _ _ said))
 not-IsCommand-if_bad_option words many none _ said = omega (arith, cons-head_eq 114 115 _ _ (cons-head_eq _ _ _ _ said))
 
--- No arguments name no task.
+-- The empty list of arguments names no task.
 pub not-IsCommand-if_no_arguments : (words : Arguments) (t : Task) → length words < 1 → IsCommand (argument_texts words) t → ⊥
 not-IsCommand-if_no_arguments (x ∷ words) t few said = absurd (omega (arith, few))
 not-IsCommand-if_no_arguments [] (Replay schedule protocol) few said = not-nil_eq_cons _ _ said.1
@@ -199,6 +202,7 @@ pub not-IsCommand-if_other_word : (words : Arguments) (t : Task)
 not-IsCommand-if_other_word words t many states compile schedules replay said =
     go t (subst (λ l. IsCommand l t) (texts-first_and_rest words many) said)
   where
+    -- By the rule by which arguments name a task: each begins with another name.
     go : (t : Task) → IsCommand (argument_at words 0 ∷ argument_texts (arguments_after_first words)) t → ⊥
     go States said = states (cons-head_eq _ _ _ _ said)
     go Compile said = compile (cons-head_eq _ _ _ _ said)

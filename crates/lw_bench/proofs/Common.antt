@@ -24,12 +24,13 @@ pub use Rattle.std.specs.Io.KnownBytes.{Appends, Consumes, IsAtEnd, Keeps}
 pub use Rattle.std.specs.List.{AllByRecursion, list_all}
 pub use Rattle.std.specs.Option.{ForSome}
 pub use Rattle.lw_base.proofs.Common.{Bytes, FinalState, Formula, HasOutcomeShape, HoldsOfNothing, IsEvent}
-pub use Rattle.lw_base.proofs.Common.{IsListedOutcome, IsLocationName, IsRegisterIndex, IsRegisterName}
-pub use Rattle.lw_base.proofs.Common.{IsSchedule, IsTestName, IsWellFormedHead, IsWordNumber, MentionsOnly}
-pub use Rattle.lw_base.proofs.Common.{NameTable, Reg_is, TestHead, TokenList, final_state_cmp, final_word}
-pub use Rattle.lw_base.proofs.Common.{first_byte_is, head_of, is_blank, is_name_byte, is_reserved}
-pub use Rattle.lw_base.proofs.Common.{most_locations, most_text_bytes, most_threads, nodes, register_name}
-pub use Rattle.lw_base.proofs.Common.{registers, stop_code, stop_name, thread_code}
+pub use Rattle.lw_base.proofs.Common.{IsListedOutcome, IsRegisterIndex, IsRegisterName, IsSchedule}
+pub use Rattle.lw_base.proofs.Common.{IsTestName, IsUnreservedName, IsWellFormedHead, IsWordNumber}
+pub use Rattle.lw_base.proofs.Common.{MentionsOnly, NameTable, Reg_is, TestHead, TokenList, byte}
+pub use Rattle.lw_base.proofs.Common.{final_state_cmp, final_word, first_byte_is, head_of, is_blank}
+pub use Rattle.lw_base.proofs.Common.{is_name_byte, is_reserved, most_locations, most_text_bytes}
+pub use Rattle.lw_base.proofs.Common.{most_threads, nodes, register_name, registers, stop_code, stop_name}
+pub use Rattle.lw_base.proofs.Common.{thread_code}
 pub use Rattle.lw_base.proofs.api.Formulas.{MentionsLocationsBelow-if_mentions_only}
 pub use Rattle.lw_base.proofs.api.Lists.{cons-head_eq, slice_get-in_range}
 pub use Rattle.lw_base.proofs.api.Returns.{Err-clause_propagated}
@@ -103,8 +104,8 @@ pub use Rattle.lw_report.specs.declared.judgement.Claim.TheVariants.{Exact}
 pub use Rattle.lw_text.proofs.Common.{Atom, Close, Comment, Conjunction, Derives, DisjunctionLevel, FailsAt}
 pub use Rattle.lw_text.proofs.Common.{HasFrame, Holds, InThread, IsNameOrNumber, IsNumber, IsSymbol, IsToken}
 pub use Rattle.lw_text.proofs.Common.{Open, ParsesQuestion, ParsesTest, PlacedCell, Preamble, Terminal}
-pub use Rattle.lw_text.proofs.Common.{TestFrame, TestSyntax, Tokens, and, atom, begins_mark, blank, closed}
-pub use Rattle.lw_text.proofs.Common.{comment, conjunction, ends_cell, frame_of, frame_of_syntax}
+pub use Rattle.lw_text.proofs.Common.{TestFrame, TestSyntax, Tokens, and, atom, begins_comment_sign, blank}
+pub use Rattle.lw_text.proofs.Common.{closed, comment, conjunction, ends_cell, frame_of, frame_of_syntax}
 pub use Rattle.lw_text.proofs.Common.{is_one_byte_symbol, is_two_byte_symbol, opens_comment, other, parens}
 pub use Rattle.lw_text.proofs.Common.{part, placed_cells}
 pub use Rattle.lw_text.proofs.api.Frames.{frame_columns, frame_well_formed}

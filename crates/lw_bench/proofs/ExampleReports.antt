@@ -47,6 +47,7 @@ module _ (program : List (List Instr)) where
           rw (sym (same_Some _ after h))
           (MachineTransition-of_effect program e s.processors p r.0 s.memory r.1 was (EffectLeadsTo-act_after _ s.memory r is))
 
+      -- By whether the state has the event's processor.
       go : (o : Option Processor)
           → slice_get s.processors (cpu_of e) ≡ o
           → state_after_event_of program o e s ≡ Some after
@@ -74,6 +75,7 @@ module _ (program : List (List Instr)) where
   state_ran [] s end h = sym (same_Some s end h)
   state_ran (e ∷ es) s end h = go (state_after_event program e s) refl h (λ mid on. state_ran es mid end on)
     where
+      -- By whether the first event leads to a state.
       go : (o : Option (MachineState (List ℕ)))
           → state_after_event program e s ≡ o
           → bind (state_after es) o ≡ Some end
@@ -101,19 +103,19 @@ abbrev states : List ProjectedState
 states = state_of_loads 0 0 true ∷ state_of_loads 0 1 false ∷ state_of_loads 1 0 false ∷ state_of_loads 1 1 false ∷ []
 
 -- Some outcome has this state.
-abbrev Shows : ProjectedState → Type 0
-Shows s =
+abbrev IsStateOfOutcome : ProjectedState → Type 0
+IsStateOfOutcome s =
     (o : FinalState)
     × IsMachineOutcome flat_memory store_buffering_in_x86 store_buffering_in_x86.head.init_words o
     × (project_state store_buffering_in_x86.head o ≡ s)
 
 -- If a run by these events reaches a final state whose outcome has the state s, some outcome has s.
-Shows-of_run : (events : List Event) (end : MachineState (List ℕ)) (s : ProjectedState)
+IsStateOfOutcome-of_run : (events : List Event) (end : MachineState (List ℕ)) (s : ProjectedState)
     → state_after store_buffering_threads events start ≡ Some end
     → IsTrue (machine.is_final store_buffering_threads end)
     → project_state store_buffering_in_x86.head (machine_outcome flat_memory end) ≡ s
-    → Shows s
-Shows-of_run events end s ran final is = (
+    → IsStateOfOutcome s
+IsStateOfOutcome-of_run events end s ran final is = (
   machine_outcome flat_memory end,
   (events, record { end = end; ran = state_ran store_buffering_threads events start end ran; final = final; outcome_is = refl }),
   is,
@@ -127,35 +129,40 @@ end_with a b = state (ended_processor a ∷ ended_processor b ∷ []) (1 ∷ 1 �
     ended_processor : ℕ → Processor
     ended_processor w = record { position = 2; regs = w ∷ 0 ∷ 0 ∷ 0 ∷ 0 ∷ 0 ∷ []; zero_flag = false; buffer = [] }
 
--- Both loads read before either store is in memory.
-Shows-both_early : Shows (state_of_loads 0 0 true)
+-- Both loads read 0, before either store is in memory.
+IsStateOfOutcome-both_read_0 : IsStateOfOutcome (state_of_loads 0 0 true)
 unfolding state_after
-Shows-both_early = Shows-of_run (Step 0 ∷ Step 1 ∷ Step 0 ∷ Step 1 ∷ Drain 0 ∷ Drain 1 ∷ []) (end_with 0 0) _ refl refl refl
+IsStateOfOutcome-both_read_0 =
+    IsStateOfOutcome-of_run (Step 0 ∷ Step 1 ∷ Step 0 ∷ Step 1 ∷ Drain 0 ∷ Drain 1 ∷ []) (end_with 0 0) _ refl refl refl
 
--- The first thread's load is early, and the second's is not.
-Shows-first_early : Shows (state_of_loads 0 1 false)
+-- The first thread's load reads 0, and the second's reads the first thread's store.
+IsStateOfOutcome-first_reads_0 : IsStateOfOutcome (state_of_loads 0 1 false)
 unfolding state_after
-Shows-first_early = Shows-of_run (Step 0 ∷ Drain 0 ∷ Step 0 ∷ Step 1 ∷ Drain 1 ∷ Step 1 ∷ []) (end_with 0 1) _ refl refl refl
+IsStateOfOutcome-first_reads_0 =
+    IsStateOfOutcome-of_run (Step 0 ∷ Drain 0 ∷ Step 0 ∷ Step 1 ∷ Drain 1 ∷ Step 1 ∷ []) (end_with 0 1) _ refl refl refl
 
--- The second thread's load is early, and the first's is not.
-Shows-second_early : Shows (state_of_loads 1 0 false)
+-- The second thread's load reads 0, and the first's reads the second thread's store.
+IsStateOfOutcome-second_reads_0 : IsStateOfOutcome (state_of_loads 1 0 false)
 unfolding state_after
-Shows-second_early = Shows-of_run (Step 1 ∷ Drain 1 ∷ Step 1 ∷ Step 0 ∷ Drain 0 ∷ Step 0 ∷ []) (end_with 1 0) _ refl refl refl
+IsStateOfOutcome-second_reads_0 =
+    IsStateOfOutcome-of_run (Step 1 ∷ Drain 1 ∷ Step 1 ∷ Step 0 ∷ Drain 0 ∷ Step 0 ∷ []) (end_with 1 0) _ refl refl refl
 
--- Both loads read what the other thread stored.
-Shows-none_early : Shows (state_of_loads 1 1 false)
+-- Each load reads what the other thread stored.
+IsStateOfOutcome-both_read_1 : IsStateOfOutcome (state_of_loads 1 1 false)
 unfolding state_after
-Shows-none_early = Shows-of_run (Step 0 ∷ Drain 0 ∷ Step 1 ∷ Drain 1 ∷ Step 0 ∷ Step 1 ∷ []) (end_with 1 1) _ refl refl refl
+IsStateOfOutcome-both_read_1 =
+    IsStateOfOutcome-of_run (Step 0 ∷ Drain 0 ∷ Step 1 ∷ Drain 1 ∷ Step 0 ∷ Step 1 ∷ []) (end_with 1 1) _ refl refl refl
 
 -- Some outcome has each of the four states.
-Shows-each_state : (s : ProjectedState) → Contains states s → Shows s
-Shows-each_state s (k, there, is) = go k there is
+IsStateOfOutcome-each_state : (s : ProjectedState) → Contains states s → IsStateOfOutcome s
+IsStateOfOutcome-each_state s (k, there, is) = go k there is
   where
-    go : (k : ℕ) → k < 4 → slice_index_or states k s ≡ s → Shows s
-    go zero l e = subst Shows e Shows-both_early
-    go (suc zero) l e = subst Shows e Shows-first_early
-    go (suc (suc zero)) l e = subst Shows e Shows-second_early
-    go (suc (suc (suc zero))) l e = subst Shows e Shows-none_early
+    -- By the index of the state among the four.
+    go : (k : ℕ) → k < 4 → slice_index_or states k s ≡ s → IsStateOfOutcome s
+    go zero l e = subst IsStateOfOutcome e IsStateOfOutcome-both_read_0
+    go (suc zero) l e = subst IsStateOfOutcome e IsStateOfOutcome-first_reads_0
+    go (suc (suc zero)) l e = subst IsStateOfOutcome e IsStateOfOutcome-second_reads_0
+    go (suc (suc (suc zero))) l e = subst IsStateOfOutcome e IsStateOfOutcome-both_read_1
     go (suc (suc (suc (suc k)))) l e = absurd (omega (arith, l))
 
 -- The final word of a thread's first register.
@@ -163,11 +170,11 @@ abbrev read_of : ℕ → FinalState → ℕ
 read_of t o = final_word o (Register t 0)
 
 -- Tests whether both registers have 0 or 1.
-abbrev is_small : FinalState → Bool
-is_small o = nat_lt (read_of 0 o) 2 && nat_lt (read_of 1 o) 2
+abbrev both_read_0_or_1 : FinalState → Bool
+both_read_0_or_1 o = nat_lt (read_of 0 o) 2 && nat_lt (read_of 1 o) 2
 
 -- Within seven events every run of store buffering in x86 ends, with 0 or 1 in both registers.
-search_of_report : every_machine_end_satisfies store_buffering_threads is_small 7 start ≡ true
+search_of_report : every_machine_end_satisfies store_buffering_threads both_read_0_or_1 7 start ≡ true
 unfolding every_machine_end_satisfies
 search_of_report = refl
 
@@ -181,33 +188,33 @@ states-contain (suc (suc a)) b l m = absurd (omega (arith, l))
 states-contain a (suc (suc b)) l m = absurd (omega (arith, m))
 
 -- The state of each outcome is one of the four.
-Shows-only_states : (s : ProjectedState) → Shows s → Contains states s
-Shows-only_states s (o, outcome, is) =
+Contains-IsStateOfOutcome : (s : ProjectedState) → IsStateOfOutcome s → Contains states s
+Contains-IsStateOfOutcome s (o, outcome, is) =
     let small =
-    subst (λ e. is_small e ≡ true) (sym outcome.1.outcome_is)
-    (every_machine_end_satisfies-sound store_buffering_threads is_small 7 outcome.0 start outcome.1.end search_of_report
+    subst (λ e. both_read_0_or_1 e ≡ true) (sym outcome.1.outcome_is)
+    (every_machine_end_satisfies-sound store_buffering_threads both_read_0_or_1 7 outcome.0 start outcome.1.end search_of_report
     outcome.1.ran outcome.1.final) in
     let both = and_parts (nat_lt (read_of 0 o) 2) _ small in
     subst (Contains states) is (states-contain (read_of 0 o) (read_of 1 o) (ltb-true _ 2 both.0) (ltb-true _ 2 both.1))
 
--- A state's words are less than another's.
-abbrev HasLessWords : ProjectedState → ProjectedState → Type 0
-HasLessWords a b = slice_cmp nat_cmp a.words b.words ≡ Less
+-- The words of a are before those of b in lexicographic order.
+abbrev HasSmallerWords : ProjectedState → ProjectedState → Type 0
+HasSmallerWords a b = slice_cmp nat_cmp a.words b.words ≡ Less
 
 -- The states are sorted by their words.
 abbrev AreAscending : List ProjectedState → Type 0
 AreAscending [] = Unit {0}
-AreAscending (s ∷ ss) = AllByRecursion (HasLessWords s) ss × AreAscending ss
+AreAscending (s ∷ ss) = AllByRecursion (HasSmallerWords s) ss × AreAscending ss
 
--- Sorted states are sorted in all pairs.
-AllPairs-AreAscending : (ss : List ProjectedState) → AreAscending ss → AllPairs HasLessWords ss
+-- If each state has lesser words than the next one, it has lesser words than every later one.
+AllPairs-AreAscending : (ss : List ProjectedState) → AreAscending ss → AllPairs HasSmallerWords ss
 AllPairs-AreAscending [] up = λ i j d l m. absurd (omega (arith, m))
 AllPairs-AreAscending (s ∷ ss) up =
-    AllPairs-cons HasLessWords s ss (All-from_recursion (HasLessWords s) ss up.0) (AllPairs-AreAscending ss up.1)
+    AllPairs-cons HasSmallerWords s ss (All-from_recursion (HasSmallerWords s) ss up.0) (AllPairs-AreAscending ss up.1)
 
--- The four states are sorted.
-AreAscending-states : AllPairs HasLessWords states
-AreAscending-states = AllPairs-AreAscending states ((refl, (refl, (refl, tt))), ((refl, (refl, tt)), ((refl, tt), (tt, tt))))
+-- Each of the four states has lesser words than every later one.
+AllPairs-states : AllPairs HasSmallerWords states
+AllPairs-states = AllPairs-AreAscending states ((refl, (refl, (refl, tt))), ((refl, (refl, tt)), ((refl, tt), (tt, tt))))
 
 -- ---- the limits
 
@@ -222,6 +229,7 @@ not-HasTooManyItems-store_buffering : HasTooManyItems x86_language store_bufferi
 not-HasTooManyItems-store_buffering (paths, assignment, many) =
     go ((Contains-path_assignments x86_language store_buffering_threads paths JumpsForward-store_buffering).1 assignment)
   where
+    -- The only path assignment does not have too many items.
     go : Contains (path_assignments x86_language store_buffering_threads) paths → ⊥
     go (zero, l, e) = omega (arith, subst (λ p. 128 < items_of_assignment x86_language store_buffering_threads p) (sym e) many)
     go (suc k, l, e) = omega (arith, l)
@@ -238,12 +246,13 @@ few_orders = (
 
 -- The four states are those of the outcomes of store buffering in x86, sorted, without duplicates.
 AreStatesOf-store_buffering : AreStatesOf store_buffering_in_x86.head (OutcomeOf (Of_x86 store_buffering_in_x86)) states
-AreStatesOf-store_buffering = record { sorted = AreAscending-states; exactly = λ s. (Shows-each_state s, Shows-only_states s) }
+AreStatesOf-store_buffering =
+    record { sorted = AllPairs-states; exactly = λ s. (IsStateOfOutcome-each_state s, Contains-IsStateOfOutcome s) }
 
 -- The report of the example is the report of store buffering in x86.
-pub IsReport-store_buffering : IsStatesReport (Of_x86 store_buffering_in_x86) store_buffering_report
+pub IsStatesReport-store_buffering : IsStatesReport (Of_x86 store_buffering_in_x86) store_buffering_report
 unfolding digits
-IsReport-store_buffering = record {
+IsStatesReport-store_buffering = record {
   within = (not-HasTooManyItems-store_buffering, few_orders);
   is_report = record { states = states; states_are = AreStatesOf-store_buffering; text_is = refl };
 }

@@ -4,7 +4,7 @@ use Rattle.lw_bench.proofs.Common.{◌≡◌, ℕ, zero, suc, inl, inr, true, So
 use Rattle.lw_bench.proofs.Common.{arith, slice_get, same_Some, none-some, sym, ap, ◌∙◌, Bytes, Number, X86}
 use Rattle.lw_bench.proofs.Common.{Exists, TestFrame, HasProgram, HasTest, Of_x86, store_buffering_in_x86}
 use Rattle.lw_bench.proofs.Common.{both_loads_are_early, and_parts, not, false, None, AllByRecursion, Formula}
-use Rattle.lw_bench.proofs.Common.{list_all, not-true, Reg_is, IsUtf8-from_ascii, TokenList, IsLocationName}
+use Rattle.lw_bench.proofs.Common.{list_all, not-true, Reg_is, IsUtf8-from_ascii, TokenList, IsUnreservedName}
 use Rattle.lw_bench.proofs.Common.{IsRegisterName, store_buffering_notes, store_buffering_body}
 use Rattle.lw_bench.proofs.Common.{store_buffering_text, CellSyntax, ParsesCell, Column, LabelsLeadForward}
 use Rattle.lw_bench.proofs.Common.{statements, ParsesStatement, IsNumber, Tokens, none, blank, comment}
@@ -143,12 +143,12 @@ question = record {
 }
 
 -- If a test finds that no token of a cell ends a cell, none does.
-ends_no_cell-by_test : (cell : TokenList)
+no_cell_end-by_test : (cell : TokenList)
     → list_all (λ t. not (ends_cell t)) cell ≡ true
     → AllByRecursion (λ t. ends_cell t ≡ false) cell
-ends_no_cell-by_test [] h = tt
-ends_no_cell-by_test (t ∷ cell) h =
-    let parts = and_parts (not (ends_cell t)) _ h in (not-true _ parts.0, ends_no_cell-by_test cell parts.1)
+no_cell_end-by_test [] h = tt
+no_cell_end-by_test (t ∷ cell) h =
+    let parts = and_parts (not (ends_cell t)) _ h in (not-true _ parts.0, no_cell_end-by_test cell parts.1)
 
 -- All tokens are the block, the header, the rows and the condition of this syntax.
 ParsesTest-store_buffering : ParsesTest X86 all_tokens syntax
@@ -167,8 +167,8 @@ ParsesTest-store_buffering = record {
         (
           (
             store_tokens (codes "y") ++ codes ";" ∷ tokens_after_stores,
-            (refl, ends_no_cell-by_test (store_tokens (codes "x")) refl),
-            (refl, ends_no_cell-by_test (store_tokens (codes "y")) refl),
+            (refl, no_cell_end-by_test (store_tokens (codes "x")) refl),
+            (refl, no_cell_end-by_test (store_tokens (codes "y")) refl),
           ),
           refl,
         ),
@@ -179,8 +179,8 @@ ParsesTest-store_buffering = record {
             (
               (
                 load_tokens (codes "x") ++ codes ";" ∷ condition_tokens,
-                (refl, ends_no_cell-by_test (load_tokens (codes "y")) refl),
-                (refl, ends_no_cell-by_test (load_tokens (codes "x")) refl),
+                (refl, no_cell_end-by_test (load_tokens (codes "y")) refl),
+                (refl, no_cell_end-by_test (load_tokens (codes "x")) refl),
               ),
               refl,
             ),
@@ -215,11 +215,11 @@ HasFrame-store_buffering = record {
   rest = store_buffering_body;
   tokens = all_tokens;
   syntax = syntax;
-  condition = both_loads_are_early;
+  proposition = both_loads_are_early;
   preamble = preamble;
   stream = Tokens-store_buffering;
   parts = ParsesTest-store_buffering;
-  proposition = Derives-both_loads_early;
+  is_proposition = Derives-both_loads_early;
   frame_is = refl;
 }
 
@@ -233,28 +233,28 @@ says_store x = record { labels = []; stmt = Some (printed_form (x ∷ []) (instr
 abbrev says_load : Bytes → CellSyntax (ParsesStatement x86_spelling)
 says_load x = record { labels = []; stmt = Some (printed_form (x ∷ []) (instr.Load 0 0)) }
 
--- The tokens of a store say it.
-ParsesCell-store_tokens : (x : Bytes) → IsLocationName x → ParsesCell x86_grammar (store_tokens x) (says_store x)
+-- The tokens of a store give this store.
+ParsesCell-store_tokens : (x : Bytes) → IsUnreservedName x → ParsesCell x86_grammar (store_tokens x) (says_store x)
 ParsesCell-store_tokens x place =
     (store_tokens x, refl, ((1, omega arith, refl), (refl, (refl, ((refl, place), (refl, (refl, (refl, (one_number, tt)))))))))
 
--- The tokens of a load say it.
-ParsesCell-load_tokens : (x : Bytes) → IsLocationName x → ParsesCell x86_grammar (load_tokens x) (says_load x)
+-- The tokens of a load give this load.
+ParsesCell-load_tokens : (x : Bytes) → IsUnreservedName x → ParsesCell x86_grammar (load_tokens x) (says_load x)
 ParsesCell-load_tokens x place =
     (load_tokens x, refl, ((2, omega arith, refl), (refl, (IsRegisterName-eax, (refl, (refl, ((refl, place), (refl, tt))))))))
 
 -- `x` is a location's name.
-x_index : IsLocationName (codes "x")
-x_index = one_letter (codes "x") 120 refl refl refl refl
+IsUnreservedName-x : IsUnreservedName (codes "x")
+IsUnreservedName-x = one_letter (codes "x") 120 refl refl refl refl
 
 -- `y` is a location's name.
-y_index : IsLocationName (codes "y")
-y_index = one_letter (codes "y") 121 refl refl refl refl
+IsUnreservedName-y : IsUnreservedName (codes "y")
+IsUnreservedName-y = one_letter (codes "y") 121 refl refl refl refl
 
--- A thread's column: a store, and below it a load.
+-- A column of the tokens of a store and of a load says the store and the load, if their names are locations' names.
 Column-store_and_load : (x y : Bytes)
-    → IsLocationName x
-    → IsLocationName y
+    → IsUnreservedName x
+    → IsUnreservedName y
     → Column x86_grammar (store_tokens x ∷ load_tokens y ∷ []) (says_store x ∷ says_load y ∷ [])
 Column-store_and_load x y x_is y_is = record {
   says = (ParsesCell-store_tokens x x_is, (ParsesCell-load_tokens y y_is, tt));
@@ -283,8 +283,8 @@ HasProgram-store_buffering = record {
   arch = refl;
   threads = (says_store (codes "x") ∷ says_load (codes "y") ∷ []) ∷ (says_store (codes "y") ∷ says_load (codes "x") ∷ []) ∷ [];
   says = (
-    Column-store_and_load (codes "x") (codes "y") x_index y_index,
-    (Column-store_and_load (codes "y") (codes "x") y_index x_index, tt),
+    Column-store_and_load (codes "x") (codes "y") IsUnreservedName-x IsUnreservedName-y,
+    (Column-store_and_load (codes "y") (codes "x") IsUnreservedName-y IsUnreservedName-x, tt),
   );
   bounded = omega arith;
   test_is = refl;

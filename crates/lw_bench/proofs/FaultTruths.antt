@@ -80,7 +80,7 @@ RunFaultIsTrue-of_test TestFaultIsTrue bytes test f has (inr told) = inr (test, 
 -- Bytes that were read: the whole input, or more than a test has.
 module _ (input bytes : List ℕ)
     (is : (rest : List ℕ) × (input ≡ bytes ++ rest) × ((rest ≡ []) ⊎ (length bytes ≡ most_read_bytes))) where
-  -- A text is too long, whatever follows what was read.
+  -- If 65,537 bytes were read, a text's fault that is true of them is true of the whole input.
   TextFaultIsTrue-too_long : (f : TextFault) → length bytes ≡ most_read_bytes → TextFaultIsTrue bytes f → TextFaultIsTrue input f
   TextFaultIsTrue-too_long f long told =
       let total = ap length is.1 ∙ length-append bytes is.0 in
@@ -99,6 +99,7 @@ module _ (input bytes : List ℕ)
   pub TextFaultIsTrue-in_whole_input : (f : TextFault) → TextFaultIsTrue bytes f → TextFaultIsTrue input f
   TextFaultIsTrue-in_whole_input f told = go is.2
     where
+      -- By whether the input has ended, or has as many bytes as are read.
       go : (is.0 ≡ []) ⊎ (length bytes ≡ most_read_bytes) → TextFaultIsTrue input f
       go (inl none) = rw (← is.1 ∙ ap (λ rest. bytes ++ rest) none ∙ append-nil bytes) at told
       go (inr long) = TextFaultIsTrue-too_long f long told
@@ -125,13 +126,13 @@ module _ (input bytes : List ℕ)
       inr (test, HasTest-in_whole_input input bytes is test has, told)
 
 -- If a run's fault is true of the bytes read, it is true of the input, if that is known.
-pub IfSome-FaultIsTrue_of_input : (TestFaultIsTrue : LitmusTest → BenchFault → Type 0) (known : Option (List ℕ)) (bytes : List ℕ)
-    (f : BenchFault)
+pub InputFaultIsTrue-RunFaultIsTrue : (TestFaultIsTrue : LitmusTest → BenchFault → Type 0) (known : Option (List ℕ))
+    (bytes : List ℕ) (f : BenchFault)
     → IsInput known bytes
     → RunFaultIsTrue TestFaultIsTrue bytes f
     → InputFaultIsTrue TestFaultIsTrue known f
-IfSome-FaultIsTrue_of_input TestFaultIsTrue None bytes f is told = tt
-IfSome-FaultIsTrue_of_input TestFaultIsTrue (Some input) bytes f is told =
+InputFaultIsTrue-RunFaultIsTrue TestFaultIsTrue None bytes f is told = tt
+InputFaultIsTrue-RunFaultIsTrue TestFaultIsTrue (Some input) bytes f is told =
     RunFaultIsTrue-in_whole_input input bytes is TestFaultIsTrue f told
 
 -- What holds of all bytes holds of a reader's, if these are known.

@@ -36,12 +36,12 @@ fences_inserted = record { head = refl; as_many = refl; threads = HasInsertedFen
         HasInsertedFencesInCode-code_without second_of_three (thread_code fenced_store_buffering_test.threads 1) (refl, tt)
     HasInsertedFencesInCode-store_buffering (suc (suc t)) within = absurd (omega (arith, within))
 
--- Tests whether the outcome has not both loads early.
-abbrev is_late : FinalState → Bool
-is_late o = not (is_true fenced_store_buffering_test.head.condition o)
+-- Tests whether the outcome does not have both loads early.
+abbrev has_late_load : FinalState → Bool
+has_late_load o = not (is_true fenced_store_buffering_test.head.proposition o)
 
--- Within nine events every run of the fenced test ends, with an outcome that has not both loads early.
-search_of_fenced : every_machine_end_satisfies fenced_store_buffering_test.threads is_late 9
+-- Within nine events every run of the fenced test ends, with an outcome that does not have both loads early.
+search_of_fenced : every_machine_end_satisfies fenced_store_buffering_test.threads has_late_load 9
     (initial_machine_state fenced_store_buffering_test fenced_store_buffering_test.head.init_words)
     ≡ true
 unfolding every_machine_end_satisfies
@@ -50,16 +50,16 @@ search_of_fenced = refl
 -- No outcome of the fenced test has both loads early.
 both_early_forbidden : (o : FinalState)
     → IsMachineOutcome flat_memory fenced_store_buffering_test fenced_store_buffering_test.head.init_words o
-    → is_true fenced_store_buffering_test.head.condition o ≡ false
+    → is_true fenced_store_buffering_test.head.proposition o ≡ false
 both_early_forbidden o run =
     not-true _
-    (subst (λ e. is_late e ≡ true) (sym run.1.outcome_is)
-    (every_machine_end_satisfies-sound fenced_store_buffering_test.threads is_late 9 run.0
+    (subst (λ e. has_late_load e ≡ true) (sym run.1.outcome_is)
+    (every_machine_end_satisfies-sound fenced_store_buffering_test.threads has_late_load 9 run.0
     (initial_machine_state fenced_store_buffering_test fenced_store_buffering_test.head.init_words) run.1.end search_of_fenced
     run.1.ran run.1.final))
 
 -- Some way to insert fences forbids the outcome with both loads early.
 pub fenced_store_buffering : (test : X86Test)
     × HasInsertedFences store_buffering_in_x86 test
-    × ((o : FinalState) → IsMachineOutcome flat_memory test test.head.init_words o → is_true test.head.condition o ≡ false)
+    × ((o : FinalState) → IsMachineOutcome flat_memory test test.head.init_words o → is_true test.head.proposition o ≡ false)
 fenced_store_buffering = (fenced_store_buffering_test, fences_inserted, both_early_forbidden)

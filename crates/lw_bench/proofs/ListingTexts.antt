@@ -16,6 +16,7 @@ module _ (head : TestHead) (Has : FinalState → Type 0) (outcomes : List FinalS
     (covered : (o : FinalState)
     → Has o
     → (p : FinalState) × Contains outcomes p × (project_state head p ≡ project_state head o)) where
+  -- The states of the listing's outcomes are those of the set of its outcomes.
   AreStatesOf-AreListedStates : (states : List ProjectedState)
       → AreStatesOf head (Contains outcomes) states
       → AreStatesOf head Has states
@@ -101,6 +102,7 @@ module _ (head : TestHead) (Has : FinalState → Type 0) (entries : OutcomeEntri
           → Leads (slice_index_or (schedules_of entries) i []) o
       Leads-of_entry i o at = go entries i lead at
         where
+          -- By induction on the entries: at each index the schedule reaches the outcome of the entry.
           go : (es : OutcomeEntries) (k : ℕ)
               → All (λ e. Leads e.1 e.0) es
               → slice_get (outcomes_of es) k ≡ Some o

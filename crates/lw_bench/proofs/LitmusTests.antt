@@ -30,11 +30,11 @@ module _ (one_source : (frame : TestFrame) (s t : SourceTest) → HasSource fram
     (one_program : (frame : TestFrame) (p q : X86Test) → HasProgram frame p → HasProgram frame q → p ≡ q)
   where
     -- A frame says at most one test: of its language, since the other language's tests need another head.
-    pub HasTest-unique : (frame : TestFrame) (s t : LitmusTest) → FrameHasTest frame s → FrameHasTest frame t → s ≡ t
-    HasTest-unique frame (Of_source s) (Of_source t) says other = ap Of_source (one_source frame s t says other)
-    HasTest-unique frame (Of_source s) (Of_x86 t) says other = absurd (not-Source_eq_X86 (sym says.arch ∙ other.arch))
-    HasTest-unique frame (Of_x86 s) (Of_source t) says other = absurd (not-Source_eq_X86 (sym other.arch ∙ says.arch))
-    HasTest-unique frame (Of_x86 s) (Of_x86 t) says other = ap Of_x86 (one_program frame s t says other)
+    pub FrameHasTest-unique : (frame : TestFrame) (s t : LitmusTest) → FrameHasTest frame s → FrameHasTest frame t → s ≡ t
+    FrameHasTest-unique frame (Of_source s) (Of_source t) says other = ap Of_source (one_source frame s t says other)
+    FrameHasTest-unique frame (Of_source s) (Of_x86 t) says other = absurd (not-Source_eq_X86 (sym says.arch ∙ other.arch))
+    FrameHasTest-unique frame (Of_x86 s) (Of_source t) says other = absurd (not-Source_eq_X86 (sym other.arch ∙ says.arch))
+    FrameHasTest-unique frame (Of_x86 s) (Of_x86 t) says other = ap Of_x86 (one_program frame s t says other)
 
 -- If at most one fault is true of the same cells in each language, it is so in the language of a text.
 pub cell_fault-unique : ((names : NameTable) (cells : List (List PlacedCell)) (f g : CellFault)

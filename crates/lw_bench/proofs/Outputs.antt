@@ -11,15 +11,17 @@ module _ (input bytes : List ℕ)
   pub input_is_whole : length bytes ≤ 65536 → bytes ≡ input
   input_is_whole short = go is.2
     where
+      -- By whether the input has ended, or has as many bytes as are read.
       go : (is.0 ≡ []) ⊎ (length bytes ≡ most_read_bytes) → bytes ≡ input
       go (inl none) = sym (is.1 ∙ ap (λ rest. bytes ++ rest) none ∙ append-nil bytes)
       go (inr long) = absurd (omega arith)
 
-  -- A test that the bytes say is one that the whole input says.
+  -- Each test of the bytes is a test of the whole input.
   pub HasTest-in_whole_input : (test : LitmusTest) → HasTest bytes test → HasTest input test
   HasTest-in_whole_input test has = subst (λ t. HasTest t test) (input_is_whole has.has_frame.short) has
 
--- What is written is rendered from the test that the whole input says.
+-- If the bytes read are the input, as far as it may be read, and what was appended is an output of them, it is an output of the
+-- input's test.
 pub Writes-of_output : (IsMade : LitmusTest → List ℕ → Type 0) (known before after : Option (List ℕ)) (bytes made : List ℕ)
     → IsInput known bytes
     → IsOutputOf IsMade bytes made

@@ -1,9 +1,9 @@
 -- The page of a replay, written part by part, is the page of the definitions: `AllWritten` is the invariant
 -- of each loop that writes an item for each index, and the other lemmas join the parts.
-use Rattle.lw_bench.proofs.Common.{registers, ◌≡◌, ℕ, suc, ◌<◌, ◌≤◌, ◌+◌, Some, List, [], ◌∷◌, ◌++◌, length}
-use Rattle.lw_bench.proofs.Common.{map, drop, slice_get, refl, sym, ap, ◌∙◌, append_assoc, codes, Result, Ok}
-use Rattle.lw_bench.proofs.Common.{Err, OnOk, is_ok, if◌then◌else◌, arith, option_map, decimal, append-nil}
-use Rattle.lw_bench.proofs.Common.{drop-cons, drop_all, slice_get-map, slice_get_within}
+use Rattle.lw_bench.proofs.Common.{byte, registers, ◌≡◌, ℕ, suc, ◌<◌, ◌≤◌, ◌+◌, Some, List, [], ◌∷◌, ◌++◌}
+use Rattle.lw_bench.proofs.Common.{length, map, drop, slice_get, refl, sym, ap, ◌∙◌, append_assoc, codes}
+use Rattle.lw_bench.proofs.Common.{Result, Ok, Err, OnOk, is_ok, if◌then◌else◌, arith, option_map, decimal}
+use Rattle.lw_bench.proofs.Common.{append-nil, drop-cons, drop_all, slice_get-map, slice_get_within}
 use Rattle.lw_bench.proofs.Common.{get_or_from_slice_get, on_ok_weaker, written-append, TestHead, Arch}
 use Rattle.lw_bench.proofs.Common.{Replay, Stop, End, Stopped, register_name, stop_code, stop_name, State}
 use Rattle.lw_bench.proofs.Common.{Thread, Processor, LineState, numbered, first_lines, end_text}
@@ -19,11 +19,11 @@ drop-get xs k x at =
     ∙ ap (λ (n : ℕ). x ∷ drop n xs) next
 
 -- The item at an index of a mapped list is the image of the item there.
-pub get-of_map : {X Y : Type 0} (f : X → Y) (xs : List X) (k : ℕ) (x : X) (y : Y)
+pub slice_get-map_value : {X Y : Type 0} (f : X → Y) (xs : List X) (k : ℕ) (x : X) (y : Y)
     → slice_get xs k ≡ Some x
     → slice_get (map f xs) k ≡ Some y
     → y ≡ f x
-get-of_map {X} {Y} f xs k x y at read =
+slice_get-map_value {X} {Y} f xs k x y at read =
     let e : Some (f x) ≡ Some y = sym (slice_get-map f xs k ∙ ap (option_map f) at) ∙ read in cc
 
 -- Items are written in sequence, each with its index: `out` followed by the texts of those from k on is `start` followed by the texts of
@@ -58,37 +58,37 @@ module _ {X : Type 0} {text_of : ℕ → X → List ℕ} {xs : List X} {start ou
           ∙ ap (λ (n : ℕ). text_of k x ++ numbered text_of n (drop (k + 1) xs)) (let e : suc k ≡ k + 1 = omega arith in e)
 
   -- If all items are written, `out` is `start` followed by the texts of all.
-  pub AllWritten-of_every : length xs ≤ k → out ≡ start ++ numbered text_of 0 xs
-  AllWritten-of_every whole =
+  pub whole_text-AllWritten : length xs ≤ k → out ≡ start ++ numbered text_of 0 xs
+  whole_text-AllWritten whole =
       sym (append-nil out) ∙ ap (λ (rest : List X). out ++ numbered text_of k rest) (sym (drop_all k xs whole)) ∙ told.left
 
 -- If a title, then the parts, and then the line's end were written, the whole line was.
-pub AllWritten-newline : {T E : Type 0} {first out new whole : List ℕ} (answer : Result T E) (start title parts : List ℕ)
+pub OnOk-line_with_title : {T E : Type 0} {first out new whole : List ℕ} (answer : Result T E) (start title parts : List ℕ)
     → first ≡ start ++ title
     → out ≡ first ++ parts
-    → title ++ (parts ++ 10 ∷ []) ≡ whole
-    → new ≡ (if is_ok answer then out ++ 10 ∷ [] else out)
+    → title ++ (parts ++ byte "\n" ∷ []) ≡ whole
+    → new ≡ (if is_ok answer then out ++ byte "\n" ∷ [] else out)
     → OnOk answer (new ≡ start ++ whole)
-AllWritten-newline (Err x) start title parts begun told is ended = tt
-AllWritten-newline (Ok x) start title parts begun told is ended =
+OnOk-line_with_title (Err x) start title parts begun told is ended = tt
+OnOk-line_with_title (Ok x) start title parts begun told is ended =
     ended
-    ∙ ap (λ t. t ++ 10 ∷ []) (told ∙ ap (λ t. t ++ parts) begun)
-    ∙ append_assoc (start ++ title) parts (10 ∷ [])
-    ∙ append_assoc start title (parts ++ 10 ∷ [])
+    ∙ ap (λ t. t ++ byte "\n" ∷ []) (told ∙ ap (λ t. t ++ parts) begun)
+    ∙ append_assoc (start ++ title) parts (byte "\n" ∷ [])
+    ∙ append_assoc start title (parts ++ byte "\n" ∷ [])
     ∙ ap (λ t. start ++ t) is
 
 -- A processor's title is `P`, its number and a word, and the rest of the line follows.
 pub processor_title-append : (cpu : ℕ) (word rest : List ℕ)
-    → (80 ∷ (decimal cpu ++ word)) ++ rest ≡ processor_title cpu (word ++ rest)
-processor_title-append cpu word rest = ap (λ t. 80 ∷ t) (append_assoc (decimal cpu) word rest)
+    → (byte "P" ∷ (decimal cpu ++ word)) ++ rest ≡ processor_title cpu (word ++ rest)
+processor_title-append cpu word rest = ap (λ t. byte "P" ∷ t) (append_assoc (decimal cpu) word rest)
 
 -- Three parts written in turn are their concatenation.
-pub AllWritten-three : {one two new : List ℕ} (start a b c : List ℕ)
+pub written-three_parts : {one two new : List ℕ} (start a b c : List ℕ)
     → one ≡ start ++ a
     → two ≡ one ++ b
     → new ≡ two ++ c
     → new ≡ start ++ (a ++ (b ++ c))
-AllWritten-three {one} {two} {new} start a b c e f g =
+written-three_parts {one} {two} {new} start a b c e f g =
     written-append _ two new _ c (written-append _ one two a b e f) g ∙ ap (λ t. start ++ t) (append_assoc a b c)
 
 -- In the list of a language's register names, the name of register k is at index k.
@@ -129,8 +129,8 @@ pub end_text-Stopped : (done number : ℕ) (name : List ℕ) (stop : Stop) (end 
     ≡ end_text done end ++ codes "\n"
 end_text-Stopped done number name stop end e n m =
     rw (e, n, m)
-    (sym (append-assoc_five (codes "Stopped at ") (decimal done) (codes " by ") (decimal (stop_code stop)) (32 ∷ stop_name stop)
-    (10 ∷ [])))
+    (sym (append-assoc_five (codes "Stopped at ") (decimal done) (codes " by ") (decimal (stop_code stop))
+    (byte " " ∷ stop_name stop) (byte "\n" ∷ [])))
 
 -- ---- a page, by its parts
 
@@ -151,7 +151,7 @@ pub source_page-SourceParts : (head : TestHead) (r : Replay) (s : State) (start 
     → new ≡ start ++ source_page head r s
 source_page-SourceParts head r s start new parts =
     let line = word_line (codes "Memory") head.locs in
-    AllWritten-three start _ _ (line s.words) parts.first_lines_are parts.threads_are
+    written-three_parts start _ _ (line s.words) parts.first_lines_are parts.threads_are
     (parts.memory_line_is ∙ ap (λ (ws : List ℕ). parts.after_threads ++ line ws) parts.is_memory)
 
 -- The text of an x86 test's page, from `start`: the first lines, the processors, memory's words, and the content.
@@ -179,7 +179,7 @@ machine_page-MachineParts head r processors held memory content start new parts 
     let second = word_line (codes "Content") head.locs in
     let all = numbered (processor_lines head held) 0 processors in
     let after =
-    AllWritten-three parts.after_first_lines all (first memory) _ parts.processors_are
+    written-three_parts parts.after_first_lines all (first memory) _ parts.processors_are
     (parts.memory_line_is ∙ ap (λ (ws : List ℕ). parts.after_processors ++ first ws) parts.is_memory)
     (parts.content_line_is ∙ ap (λ (ws : List ℕ). parts.after_memory ++ second ws) parts.is_content) in
     written-append start parts.after_first_lines new (first_lines head r) (all ++ (first memory ++ second content))

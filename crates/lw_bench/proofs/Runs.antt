@@ -10,7 +10,7 @@ use Rattle.lw_bench.proofs.DeviceFaults.{other_fault-iff_not_failed, no_device_f
 use Rattle.lw_bench.proofs.DeviceFaults.{Err-injective, not-Ok_eq_Err}
 use Rattle.lw_bench.proofs.Outputs.{Writes-of_output}
 use Rattle.lw_bench.proofs.Taken.{TakesBeforeFault-TakesInput, TakesBeforeFault-TakesSome}
-use Rattle.lw_bench.proofs.FaultTruths.{IfSome-of_input_fault, IfSome-of_all, IfSome-FaultIsTrue_of_input}
+use Rattle.lw_bench.proofs.FaultTruths.{IfSome-of_input_fault, IfSome-of_all, InputFaultIsTrue-RunFaultIsTrue}
 
 module _ {R W : Type 0} (readers : Devices R) (writers : Devices W) (TestFaultIsTrue : LitmusTest → BenchFault → Type 0) (r s : R)
     (w : W) where
@@ -48,7 +48,7 @@ module _ {R W : Type 0} (readers : Devices R) (writers : Devices W) (TestFaultIs
         written = tt;
         machine = machine;
         caches = caches;
-        fault = IfSome-FaultIsTrue_of_input TestFaultIsTrue _ bytes f input told;
+        fault = InputFaultIsTrue-RunFaultIsTrue TestFaultIsTrue _ bytes f input told;
         taken = tt;
         left = TakesBeforeFault-TakesInput _ _ f taken;
         read = other_fault-iff_not_failed (Err f) f f Read _ refl refl device.0 reading;
@@ -101,7 +101,8 @@ Writes-weakened P Q weaker (Some text) before after (made, makes, appended) =
 -- A run whose result is computed from that of another.
 module _ {R W T U : Type 0} (readers : Devices R) (writers : Devices W) (P : T → LitmusTest → Bytes → Type 0)
     (Q : U → LitmusTest → Bytes → Type 0) (TestFaultIsTrue : LitmusTest → BenchFault → Type 0) (r s : R) (w v : W) where
-  -- A fault is a device's or not, whatever the type of the answer.
+  -- If a run reports a device's fault if and only if that device failed, so does a run with the same fault and another type of
+  -- answer.
   same_fault : (f other : BenchFault) (failed : Bool)
       → ((let a : Result T BenchFault = Err f in a) ≡ Err other ↔ failed ≡ true)
       → (let b : Result U BenchFault = Err f in b) ≡ Err other ↔ failed ≡ true
@@ -124,7 +125,8 @@ module _ {R W T U : Type 0} (readers : Devices R) (writers : Devices W) (P : T �
     untouched = run.untouched;
   }
 
-  -- A success is no device's fault, whatever the answer is.
+  -- If a run succeeds, and reports a device's fault if and only if that device failed, so does a run that succeeds with another
+  -- answer.
   no_device_fault-other_answer : (answer : T) (other_answer : U) (other : BenchFault) (failed : Bool)
       → ((let a : Result T BenchFault = Ok answer in a) ≡ Err other ↔ failed ≡ true)
       → (let b : Result U BenchFault = Ok other_answer in b) ≡ Err other ↔ failed ≡ true

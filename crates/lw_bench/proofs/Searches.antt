@@ -36,6 +36,7 @@ module _ (program : List (List Stmt)) (ok : FinalState → Bool) where
   thread_in_range-source_step : (t : ℕ) (s mid : State) → source_step program t s ≡ Ok mid → t < length s.threads
   thread_in_range-source_step t s mid = go (slice_get s.threads t) refl
     where
+      -- By whether the state has the thread.
       go : (o : Option Thread) → slice_get s.threads t ≡ o → thread_step program t s o ≡ Ok mid → t < length s.threads
       go None at done = absurd (let e : ◌≡◌ {A = Result State Stop} (Err NoCpu) (Ok mid) = done in cc)
       go (Some th) at done = slice_get_within s.threads t th at
@@ -88,6 +89,7 @@ module _ (program : List (List Instr)) where
       → state_after_event e s ≡ Some after
   state_after_event-MachineTransition e s after = go (slice_get s.processors (cpu_of e))
     where
+      -- By whether the state has the event's processor.
       go : (o : Option Processor)
           → ProcessorTransition flat_memory o program e s (Ok tt) after
           → state_after_event_of o e s ≡ Some after
@@ -119,6 +121,7 @@ module _ (program : List (List Instr)) where
         → cpu_of e < length s.processors
     cpu_in_range e s after = go (slice_get s.processors (cpu_of e)) refl
       where
+        -- By whether the state has the event's processor.
         go : (o : Option Processor)
             → slice_get s.processors (cpu_of e) ≡ o
             → ProcessorTransition flat_memory o program e s (Ok tt) after
@@ -132,6 +135,7 @@ module _ (program : List (List Instr)) where
         → ⊥
     no_Evict-if_flat_memory t x s after = go (slice_get s.processors t)
       where
+        -- By whether the state has the event's processor.
         go : (o : Option Processor) → ProcessorTransition flat_memory o program (Evict t x) s (Ok tt) after → ⊥
         go None d = let e : ◌≡◌ {A = EventResult} (Ok tt) (Err NoCpu) = d.0 in cc
         go (Some p) d =

@@ -15,13 +15,13 @@ use Rattle.lw_bench.proofs.ListingTexts.{IsScheduleList-of_listing}
 abbrev pub SameWordsAgree : Type 0
 SameWordsAgree =
     (head : TestHead) (o p : FinalState)
-    → MentionsOnly head.threads (length head.locs) head.condition
+    → MentionsOnly head.threads (length head.locs) head.proposition
     → observed_words head o ≡ observed_words head p
-    → is_true head.condition o ≡ is_true head.condition p
+    → is_true head.proposition o ≡ is_true head.proposition p
 
 module _ (agree : SameWordsAgree) (test : LitmusTest) (outcomes : List FinalState)
     (are_observed : AreObservedOutcomesOf test outcomes) (head : TestHead) (same : head ≡ head_of_test test)
-    (speaks : MentionsOnly head.threads (length head.locs) head.condition) where
+    (speaks : MentionsOnly head.threads (length head.locs) head.proposition) where
   -- Each outcome of the test has the state of a listed one.
   state_observed : (o : FinalState)
       → OutcomeOf test o
@@ -29,7 +29,7 @@ module _ (agree : SameWordsAgree) (test : LitmusTest) (outcomes : List FinalStat
   state_observed o has =
       let p = are_observed.covered o has in
       let truth =
-      agree (head_of_test test) p.0 o (subst (λ d. MentionsOnly d.threads (length d.locs) d.condition) same speaks) p.2 in
+      agree (head_of_test test) p.0 o (subst (λ d. MentionsOnly d.threads (length d.locs) d.proposition) same speaks) p.2 in
       (p.0, p.1, λ i. record { words = p.2 i; holds = truth i })
 
   -- The report rendered from a list that shows a test's outcomes is the test's report.

@@ -24,7 +24,7 @@ CachesAreFlat =
 
 -- ---- texts
 
--- A test that a text says is well-formed.
+-- If a text has a test, this test is well-formed.
 pub well_formed : (text : Bytes) (test : LitmusTest) → HasTest text test → IsWellFormedTest test
 well_formed text (Of_source test) h =
     well_formed_source _ test (frame_well_formed text _ h.has_frame) (frame_columns text _ h.has_frame) h.says
@@ -65,7 +65,7 @@ outcomes_over_caches caches s p starts ok compiled fits protocol o =
     let same = IsMachineOutcome-compiled_iff s p starts o ok compiled in
     ((λ outcome. same.0 (over.0 outcome)), (λ outcome. over.1 (same.1 outcome)))
 
--- A program compiled with any choice of fences has at least its source test's outcomes.
+-- A program compiled with any choice of fences has over caches at least its source test's outcomes.
 pub OutcomeOverCaches-with_fences : {fences : List (List Bool)} {s : SourceTest} {p : X86Test} {starts : List (List ℕ)}
     → CachesAreFlat
     → IsWellScopedSource s

@@ -1,13 +1,13 @@
 -- Texts as sequences of tokens, by a test that computes: for the texts of examples, which are given byte by
 -- byte. ExampleTexts proves so that the bytes of the example are its tokens.
-use Rattle.lw_bench.proofs.Common.{◌≡◌, ℕ, zero, suc, ◌<◌, ◌==◌, ◌&&◌, ◌⊎◌, not, Bool, true, false}
+use Rattle.lw_bench.proofs.Common.{byte, ◌≡◌, ℕ, zero, suc, ◌<◌, ◌==◌, ◌&&◌, ◌⊎◌, not, Bool, true, false}
 use Rattle.lw_bench.proofs.Common.{if◌then◌else◌, Option, Some, None, [], ◌∷◌, ◌++◌, refl, sym, inl, inr}
 use Rattle.lw_bench.proofs.Common.{arith, Bytes, and_parts, false≢true, nat_lt, none-some, same_Some, ◌||◌}
 use Rattle.lw_bench.proofs.Common.{digit_value, is_ascii_digit, list_all, IsAscii, eqb-true, ltb-true}
 use Rattle.lw_bench.proofs.Common.{not-true, nat_tests, TokenList, first_byte_is, is_blank, is_name_byte}
-use Rattle.lw_bench.proofs.Common.{Comment, closed, other, begins_mark, none, blank, IsNameOrNumber, IsSymbol}
-use Rattle.lw_bench.proofs.Common.{IsToken, Tokens, is_two_byte_symbol, is_one_byte_symbol, opens_comment}
-use Rattle.lw_bench.proofs.Common.{list_all-AllByRecursion, is_name_text, name_by_test}
+use Rattle.lw_bench.proofs.Common.{Comment, closed, other, begins_comment_sign, none, blank, IsNameOrNumber}
+use Rattle.lw_bench.proofs.Common.{IsSymbol, IsToken, Tokens, is_two_byte_symbol, is_one_byte_symbol}
+use Rattle.lw_bench.proofs.Common.{opens_comment, list_all-AllByRecursion, is_name_text, name_by_test}
 
 -- ---- one token
 
@@ -46,6 +46,7 @@ IsNameOrNumber-by_test : (w : Bytes) → is_name_or_digit_text w ≡ true → Is
 IsNameOrNumber-by_test [] h = inl (name_by_test [] h)
 IsNameOrNumber-by_test (d ∷ []) h = go (or_true-cases (is_ascii_digit d) (is_name_text (d ∷ [])) h)
   where
+    -- By whether the byte is a digit or a name.
     go : (is_ascii_digit d ≡ true) ⊎ (is_name_text (d ∷ []) ≡ true) → IsNameOrNumber (d ∷ [])
     go (inl digit) =
         let small = digit_value_below_10 d digit in
@@ -67,6 +68,7 @@ IsSymbol-by_test (b ∷ c ∷ d ∷ more) rest h = absurd (false≢true h)
 pub IsToken-by_test : (t rest : Bytes) → is_token_text t rest ≡ true → IsToken t rest
 IsToken-by_test t rest h = go (or_true-cases (is_word_text t rest) (is_symbol_text t rest) h)
   where
+    -- By whether the text passes as a name or number, or as a symbol.
     go : (is_word_text t rest ≡ true) ⊎ (is_symbol_text t rest ≡ true) → IsToken t rest
     go (inl word) =
         let parts = and_parts (list_all is_name_byte t) _ word in
@@ -92,6 +94,7 @@ rest_after-append [] text rest h = same_Some text rest h
 rest_after-append (a ∷ t) [] rest h = absurd (none-some rest h)
 rest_after-append (a ∷ t) (b ∷ text) rest h = go (a == b) refl h (rest_after-append t text rest)
   where
+    -- By whether the first bytes are equal.
     go : (same : Bool)
         → (a == b) ≡ same
         → (if same then rest_after t text else None) ≡ Some rest
@@ -147,15 +150,16 @@ Tokens-by_test (suc n) (b ∷ text) (t ∷ ts) h =
 
 -- Tests whether a byte is neither `(` nor `*`.
 abbrev is_plain : ℕ → Bool
-is_plain b = not (b == 40) && not (b == 42)
+is_plain b = not (b == byte "(") && not (b == byte "*")
 
 -- A comment without `(` and `*` inside ends at its `*)`.
-pub plain_comment : (inside rest : Bytes) → list_all is_plain inside ≡ true → Comment (inside ++ 42 ∷ 41 ∷ rest) rest
+pub plain_comment : (inside rest : Bytes) → list_all is_plain inside ≡ true → Comment (inside ++ byte "*" ∷ byte ")" ∷ rest) rest
 plain_comment [] rest h = closed
 plain_comment (b ∷ inside) rest h =
     let parts = and_parts (is_plain b) _ h in
-    let apart = and_parts (not (b == 40)) (not (b == 42)) parts.0 in
-    let unmarked : begins_mark (b ∷ (inside ++ 42 ∷ 41 ∷ rest)) ≡ false = rw (not-true _ apart.0, not-true _ apart.1) refl in
+    let apart = and_parts (not (b == byte "(")) (not (b == byte "*")) parts.0 in
+    let unmarked : begins_comment_sign (b ∷ (inside ++ byte "*" ∷ byte ")" ∷ rest)) ≡ false =
+    rw (not-true _ apart.0, not-true _ apart.1) refl in
     other unmarked (plain_comment inside rest parts.1)
 
 -- ---- bytes

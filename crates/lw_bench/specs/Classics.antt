@@ -14,7 +14,7 @@ use Rattle.lw_litmus.specs.declared.stmt.Stmt.TheVariants as source
 
 -- The head of a test of two threads and the locations x and y, all 0, with this name, language, quantifier and proposition.
 abbrev pub two_threads : List ℕ → Arch → Quant → Formula → TestHead
-two_threads name arch quant condition = record {
+two_threads name arch quant proposition = record {
   name = name;
   arch = arch;
   threads = 2;
@@ -23,7 +23,7 @@ two_threads name arch quant condition = record {
   init_words = replicate 2 0;
   listed = [];
   quant = quant;
-  condition = condition;
+  proposition = proposition;
 }
 
 -- The proposition that both loads read the initial 0.

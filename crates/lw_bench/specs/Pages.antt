@@ -95,14 +95,14 @@ letter S = codes "S"
 letter I = codes "I"
 
 -- The line of a processor's cache, by the state of each location's copy there.
-abbrev pub cache_text : NameTable → ℕ → (ℕ → LineState) → Bytes
-cache_text names t held =
+abbrev pub cache_states_line : NameTable → ℕ → (ℕ → LineState) → Bytes
+cache_states_line names t held =
     processor_title t (codes " lines" ++ (numbered (named (λ x. letter (held x))) 0 names ++ codes "\n"))
 
 -- The lines of a processor: its position and registers, its store buffer, and its cache.
 abbrev pub processor_lines : TestHead → (ℕ → ℕ → LineState) → ℕ → Processor → Bytes
 processor_lines head held t p =
-    thread_line head.arch t p.position p.regs ++ (buffer_line head.locs t p.buffer ++ cache_text head.locs t (held t))
+    thread_line head.arch t p.position p.regs ++ (buffer_line head.locs t p.buffer ++ cache_states_line head.locs t (held t))
 
 -- The page of an x86 test: its processors, the words in memory, and the coherent words.
 abbrev pub machine_page : TestHead → Replay → List Processor → (ℕ → ℕ → LineState) → List ℕ → List ℕ → Bytes

@@ -26,7 +26,8 @@ pub record SourcePage (test : SourceTest) (events : List Event) (page : Bytes) (
   pub end_is : replay.end ≡ end
   pub page_is : page ≡ source_page test.head replay state
 
--- The same for an x86 test, on the machine over a memory with the initial state m; `words` are memory's words without the caches.
+-- The page is of the state that the events reach from an x86 test's initial state, on the machine over a memory with the
+-- initial state m, or the events before the first that is rejected; `words` are memory's words without the caches.
 pub record MachinePage
     {M : Type 0} (mem : Memory M) (words : M → List ℕ) (test : X86Test) (m : M) (events : List Event) (page : Bytes) (end : End) : Type 0 where
   pub replay : Replay

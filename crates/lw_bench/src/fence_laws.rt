@@ -34,7 +34,7 @@ pub fn fences_only_remove_outcomes_over_caches()
 /// both loads 0.
 pub fn store_buffering_is_forbidden_with_fences()
     ensures { (fenced : X86Test) × HasInsertedFences store_buffering_in_x86 fenced
-        × ((o : FinalState) → IsMachineOutcome flat_memory fenced fenced.head.init_words o → is_true fenced.head.condition o ≡ false) }
+        × ((o : FinalState) → IsMachineOutcome flat_memory fenced fenced.head.init_words o → is_true fenced.head.proposition o ≡ false) }
 {}
 
 /// States that a compiled program with more fences is the one with fewer fences with MFENCEs inserted, and that it

@@ -36,13 +36,13 @@ use lw_x86::a_canonical_text_reads_back;
 
 /// States of store buffering that no interleaving has the outcome that both loads are 0.
 pub fn store_buffering_is_forbidden_by_interleaving()
-    ensures { (o : FinalState) → SourceOutcome store_buffering o → is_true store_buffering.head.condition o ≡ false }
+    ensures { (o : FinalState) → SourceOutcome store_buffering o → is_true store_buffering.head.proposition o ≡ false }
 {}
 
 /// States of store buffering on x86, over caches of either protocol, that in some outcome both loads are 0.
 pub fn store_buffering_is_allowed_on_x86()
     ensures { (protocol : Protocol) → (o : FinalState) × OutcomeOverCaches protocol store_buffering_in_x86 o
-        × (is_true store_buffering_in_x86.head.condition o ≡ true) }
+        × (is_true store_buffering_in_x86.head.proposition o ≡ true) }
 {
     outcomes_over_caches_are_flat();
 }
@@ -51,7 +51,7 @@ pub fn store_buffering_is_allowed_on_x86()
 /// message.
 pub fn message_passing_is_forbidden_on_x86()
     ensures { (protocol : Protocol) (o : FinalState) → OutcomeOverCaches protocol message_passing_in_x86 o
-        → is_true message_passing_in_x86.head.condition o ≡ false }
+        → is_true message_passing_in_x86.head.proposition o ≡ false }
 {
     outcomes_over_caches_are_flat();
 }

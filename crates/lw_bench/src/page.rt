@@ -6,7 +6,7 @@ ghost use Rattle.lw_base.specs.Heads.{head_of};
 ghost use Rattle.lw_base.specs.declared.limits.TheConstants.{REGISTERS};
 ghost use Rattle.lw_base.specs.declared.stop.End.TheVariants as ends;
 ghost use Rattle.lw_bench.specs.Pages as pages;
-ghost use Rattle.lw_bench.specs.Pages.{numbered, named, first_lines, end_text, word_line, buffer_line, cache_text, location_line, processor_lines};
+ghost use Rattle.lw_bench.specs.Pages.{numbered, named, first_lines, end_text, word_line, buffer_line, cache_states_line, location_line, processor_lines};
 ghost use Rattle.lw_interleaving.specs.Runs.{source_outcome};
 ghost use Rattle.lw_interleaving.specs.declared.thread.Thread.{Thread};
 ghost use Rattle.lw_memory.specs.Memory.{memory_of};
@@ -290,7 +290,7 @@ fn write_cache<M: MemorySystem, A: Allocator>(
     requires cpu { cpu < M.cpus memory.now }
     requires words { length (M.content memory.now) ≡ length locs.now }
     ensures { OnOk result (string_bytes out.new
-        ≡ string_bytes out.old ++ cache_text locs.now cpu (M.state memory.now cpu)) }
+        ≡ string_bytes out.old ++ cache_states_line locs.now cpu (M.state memory.now cpu)) }
 {
     write!(out, "P{} lines", cpu.index())?;
     for loc in &Loc::all()[..locs.len()] {

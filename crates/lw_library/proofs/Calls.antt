@@ -82,7 +82,8 @@ module _ (IsMade : LitmusTest → Bytes → ℕ → Type 0) (FaultIsTrue : Litmu
       ReturnsAnswerOrFault-fault (IsAnswer IsMade FaultIsTrue text) (IsFault IsMade FaultIsTrue text) call_result before after
       (fault_text f) (record { fault = f; is_true = so; no_device = no_device; line_is = refl; status_is = tells.0 }) tells.1
 
-  -- The same, if the call may instead return the line of Memory, since memory ran out for the fault's line.
+  -- If a fault is true of the text and not a device's, and the call returns its line, or that of Memory since memory ran out
+  -- for this line, the result is right.
   pub IsCallResult-fault_line_or_Memory : (f : BenchFault)
       → RunFaultIsTrue FaultIsTrue text f
       → IsNotDeviceFault f

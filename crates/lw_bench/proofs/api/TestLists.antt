@@ -110,7 +110,8 @@ pub AreObservedOutcomesOf-if_all : (test : LitmusTest) (outcomes : List FinalSta
 AreObservedOutcomesOf-if_all test outcomes are =
     record { sound = λ o. (are.exactly o).0; covered = λ o h. (o, (are.exactly o).1 h, refl); shapes = are.shapes }
 
--- Outcomes that are exactly a source test's, of a result, if it is no fault.
+-- If the result for a source test is `Ok`, and its outcomes are exactly the test's and have its shape, they are the test's
+-- (`AreOutcomesOf`).
 pub AreOutcomesOf-source_result : {E Kept : Type 0} (test : SourceTest) (r : Result (OutcomesWith Kept) E)
     → IfOk r (λ l. (o : FinalState) → Contains (outcomes_of l) o ↔ SourceOutcome test o)
     → IfOk r (λ l. All (HasOutcomeShape test.head.threads (length test.head.locs)) (outcomes_of l))
@@ -118,7 +119,8 @@ pub AreOutcomesOf-source_result : {E Kept : Type 0} (test : SourceTest) (r : Res
 AreOutcomesOf-source_result test (Ok l) exactly shapes = record { exactly = exactly; shapes = shapes }
 AreOutcomesOf-source_result test (Err e) exactly shapes = tt
 
--- Outcomes that are exactly an x86 test's over caches, of a result, if it is no fault.
+-- If the result for an x86 test is `Ok`, and its outcomes are exactly the test's over caches and have its shape, they are the
+-- test's (`AreOutcomesOf`).
 pub AreOutcomesOf-x86_result : {E Kept : Type 0}
     → CachesAreFlat
     → (test : X86Test) (r : Result (OutcomesWith Kept) E)

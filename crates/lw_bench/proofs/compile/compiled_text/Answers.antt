@@ -1,10 +1,11 @@
 -- `compiled_text` promises that the text is that of the source test's compiled program, with the same
 -- outcomes on the machine and over caches. The text is what `write_program` ensures, the outcomes what
--- `compile` ensures; `IsCompilation-OutcomeOverCaches` adds the caches.
+-- `compile` ensures; `OutcomeOverCaches-iff_SourceOutcome` adds the caches.
 use Rattle.lw_bench.proofs.Common.{IfOk-weaker, source_of, program_of, IsCompiledText}
-use Rattle.lw_bench.proofs.Compilations.{IsCompilation-OutcomeOverCaches}
+use Rattle.lw_bench.proofs.Compilations.{OutcomeOverCaches-iff_SourceOutcome}
 use Rattle.lw_bench.proofs.compile.compiled_text.Goals as goal
 
+-- The text is that of the compiled program, which has the source's outcomes over caches too.
 pub returns : goal.returns
 returns g c =
     let compiled = c.in_ok-compiled.compiled in
@@ -17,6 +18,6 @@ returns g c =
       compiled = told.compiled;
       text_is = is;
       outcomes =
-          IsCompilation-OutcomeOverCaches source program c.outcomes_over_caches_are_flat.ensures compiled.program.well_formed
+          OutcomeOverCaches-iff_SourceOutcome source program c.outcomes_over_caches_are_flat.ensures compiled.program.well_formed
           told.outcomes;
     }) c.write_program-text.ensures.text

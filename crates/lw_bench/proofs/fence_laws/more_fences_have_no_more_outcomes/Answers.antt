@@ -5,6 +5,7 @@ use Rattle.lw_bench.proofs.Common.{IsWellScopedProgram-with_fences, [], HasInser
 use Rattle.lw_bench.proofs.Common.{AreSubset-nil}
 use Rattle.lw_bench.proofs.fence_laws.more_fences_have_no_more_outcomes.Goals as goal
 
+-- Each clause is the law of inserted fences; without fences the set is empty, and so among every other.
 pub returns : goal.returns
 returns c =
     let flat_law = c.fences_only_remove_outcomes.ensures in

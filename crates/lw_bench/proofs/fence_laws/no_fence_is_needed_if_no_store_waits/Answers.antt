@@ -4,6 +4,7 @@
 use Rattle.lw_bench.proofs.Common.{IsCompiled-iff_without_fences}
 use Rattle.lw_bench.proofs.fence_laws.no_fence_is_needed_if_no_store_waits.Goals as goal
 
+-- The program without fences is the compiled one, to which the laws of compiled programs apply.
 pub returns : goal.returns
 returns c =
     let compiled = c.compiled_programs_have_their_sources_outcomes.ensures in

@@ -7,6 +7,7 @@ use Rattle.lw_bench.proofs.FilmSteps.{IsFilm-IsFilmOf}
 use Rattle.lw_bench.proofs.FaultTruths.{holds-schedule_run_fault}
 use Rattle.lw_bench.proofs.films.film_of.Goals as goal
 
+-- A fault of the schedule, unless memory ran out, is a true fault of the film.
 pub returns-in_err-events-clause-fault : goal.returns-in_err-events-clause-fault
 returns-in_err-events-clause-fault g c =
     let test = litmus_test_of c.args.test.now in

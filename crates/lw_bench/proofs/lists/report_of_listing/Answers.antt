@@ -20,7 +20,7 @@ states_of-states-requires-clause-outcomes g c =
 pub write_report-report-requires-clause-locations : goal.write_report-report-requires-clause-locations
 write_report-report-requires-clause-locations g c =
     let head : TestHead = head_of c.head-head.result.now in
-    MentionsLocationsBelow-if_mentions_only head.threads (length head.locs) head.condition c.head-head.ensures.formed.condition
+    MentionsLocationsBelow-if_mentions_only head.threads (length head.locs) head.proposition c.head-head.ensures.formed.condition
 
 pub returns : goal.returns
 returns g c =

@@ -8,6 +8,7 @@ use Rattle.lw_bench.proofs.FaultTruths.{holds-text_run_fault, holds-cell_run_fau
 use Rattle.lw_bench.proofs.FaultTruths.{IsNotDeviceFault-text_run_fault, IsNotDeviceFault-cell_run_fault}
 use Rattle.lw_bench.proofs.litmus_test.read_test.Goals as goal
 
+-- A fault of the frame, unless memory ran out, is a true fault of the text.
 pub returns-in_err-frame-clause-fault : goal.returns-in_err-frame-clause-fault
 returns-in_err-frame-clause-fault g c =
     let f = c.in_err-frame in
@@ -26,6 +27,7 @@ returns-in_err-frame-clause-fault g c =
 pub returns-in_err-frame-clause-device : goal.returns-in_err-frame-clause-device
 returns-in_err-frame-clause-device g c = Err-clause_propagated _ _ c.from_residual.ensures.1 (IsNotDeviceFault-text_run_fault _)
 
+-- A fault of a cell, unless memory ran out, is a true fault of the text's cells.
 pub returns-in_err-read_cells-clause-fault : goal.returns-in_err-read_cells-clause-fault
 returns-in_err-read_cells-clause-fault g c =
     Err-clause_propagated _ _ c.from_residual-in_err-read_cells.ensures.1

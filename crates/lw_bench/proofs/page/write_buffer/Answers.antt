@@ -1,9 +1,9 @@
 -- `write_buffer` promises a line with the entries of a processor's store buffer, oldest first. The loop's
 -- invariant is `AllWritten`, of the entries before the index; each round adds the entry of that index, under
--- the name of its location. `AllWritten-newline` adds title and line end.
+-- the name of its location. `OnOk-line_with_title` adds title and line end.
 use Rattle.lw_bench.proofs.Common.{◌≤◌, [], codes, decimal, length, refl, sym, ap, arith}
 use Rattle.lw_bench.proofs.Common.{get_or_from_slice_get, buffer_of, named}
-use Rattle.lw_bench.proofs.Pages.{AllWritten-step, AllWritten-of_every, AllWritten-newline}
+use Rattle.lw_bench.proofs.Pages.{AllWritten-step, whole_text-AllWritten, OnOk-line_with_title}
 use Rattle.lw_bench.proofs.Pages.{processor_title-append}
 use Rattle.lw_bench.proofs.page.write_buffer.Goals as goal
 
@@ -22,5 +22,5 @@ returns g c =
     let begun = rw c.index.ensures.value at c.in_ok-write.ensures.bytes in
     let whole : length (buffer_of c.args.machine.now.state c.args.cpu) ≤ c.loop-index.index =
     omega (arith, c.loop-index-test.false, c.buffered-index-end.ensures) in
-    AllWritten-newline c.push_str.result _ _ _ begun (AllWritten-of_every c.loop-index.invariant whole)
+    OnOk-line_with_title c.push_str.result _ _ _ begun (whole_text-AllWritten c.loop-index.invariant whole)
     (processor_title-append c.args.cpu (codes " buffer") _) c.push_str.ensures.bytes

@@ -3,7 +3,7 @@
 -- says what has been written.
 use Rattle.lw_bench.proofs.Common.{◌≤◌, codes, length, slice_get, refl, sym, ap, ◌∙◌, arith, length-take}
 use Rattle.lw_bench.proofs.Common.{is_index, named, letter, most_locations}
-use Rattle.lw_bench.proofs.Pages.{AllWritten-step, AllWritten-of_every, AllWritten-newline}
+use Rattle.lw_bench.proofs.Pages.{AllWritten-step, whole_text-AllWritten, OnOk-line_with_title}
 use Rattle.lw_bench.proofs.Pages.{processor_title-append}
 use Rattle.lw_bench.proofs.page.write_cache.Goals as goal
 
@@ -17,6 +17,7 @@ loop-loc-preserved g c =
     AllWritten-step c.loop-loc.invariant _ _ _ (ap (slice_get c.args.locs.now) (sym index_is) ∙ c.name.ensures)
     (ap (λ s. named (λ _. letter s) 0 c.name.result.now) held) c.in_ok-write_line_state.ensures
 
+-- At the loop's end all locations are written, and with the line's end the line.
 pub returns : goal.returns
 returns g c =
     let table : length c.args.locs.now ≤ most_locations = c.len.ensures.table.bounded in
@@ -29,8 +30,8 @@ returns g c =
       table,
       c.loop-loc-test.false,
     ) in
-    AllWritten-newline c.push_str.result _ _ _ (rw c.index.ensures.value at c.in_ok-write.ensures.bytes)
-    (AllWritten-of_every c.loop-loc.invariant whole) (processor_title-append c.args.cpu (codes " lines") _)
+    OnOk-line_with_title c.push_str.result _ _ _ (rw c.index.ensures.value at c.in_ok-write.ensures.bytes)
+    (whole_text-AllWritten c.loop-loc.invariant whole) (processor_title-append c.args.cpu (codes " lines") _)
     c.push_str.ensures.bytes
 
 pub name-requires : goal.name-requires
@@ -38,6 +39,7 @@ name-requires g c =
     let index_is = is_index most_locations _ c.all.ensures refl c.loop-loc-test.true c.loc-item.is in
     omega (arith, index_is, c.loop-loc-test.true, length-take c.len.result c.all.result, c.len.ensures.len)
 
+-- The location of the loop's index is one of the memory's.
 pub state_of-requires : goal.state_of-requires
 state_of-requires g c =
     let index_is = is_index most_locations _ c.all.ensures refl c.loop-loc-test.true c.loc-item.is in

@@ -3,7 +3,7 @@
 -- written.
 use Rattle.lw_bench.proofs.Common.{◌≤◌, codes, decimal, length, slice_get, slice_index, refl, sym, ap, ◌∙◌}
 use Rattle.lw_bench.proofs.Common.{arith, length-take, is_index, named, most_locations}
-use Rattle.lw_bench.proofs.Pages.{AllWritten-step, AllWritten-of_every, AllWritten-newline}
+use Rattle.lw_bench.proofs.Pages.{AllWritten-step, whole_text-AllWritten, OnOk-line_with_title}
 use Rattle.lw_bench.proofs.page.write_memory.Goals as goal
 
 pub loop-loc-init : goal.loop-loc-init
@@ -16,6 +16,7 @@ loop-loc-preserved g c =
     AllWritten-step c.loop-loc.invariant _ _ _ (ap (slice_get c.args.locs.now) (sym index_is) ∙ c.name.ensures)
     (ap (λ w. named (λ _. decimal w) 0 c.name.result.now) word) c.in_ok-write_assignment.ensures
 
+-- At the loop's end all locations are written, and with the line's end the line.
 pub returns : goal.returns
 returns g c =
     let table : length c.args.locs.now ≤ most_locations = c.len.ensures.table.bounded in
@@ -28,8 +29,8 @@ returns g c =
       table,
       c.loop-loc-test.false,
     ) in
-    AllWritten-newline c.push_str-2.result _ (codes "Memory") _ c.in_ok-push_str.ensures.bytes
-    (AllWritten-of_every c.loop-loc.invariant whole) refl c.push_str-2.ensures.bytes
+    OnOk-line_with_title c.push_str-2.result _ (codes "Memory") _ c.in_ok-push_str.ensures.bytes
+    (whole_text-AllWritten c.loop-loc.invariant whole) refl c.push_str-2.ensures.bytes
 
 pub name-requires : goal.name-requires
 name-requires g c =

@@ -4,12 +4,13 @@
 use Rattle.lw_bench.proofs.Common.{List, ℕ, [], length, length-take, map, slice_get, slice_index_or, refl, ap}
 use Rattle.lw_bench.proofs.Common.{◌∙◌, arith, length-map, head_of, most_threads, is_index, Processor}
 use Rattle.lw_bench.proofs.Common.{slice_get-in_range, processor_lines}
-use Rattle.lw_bench.proofs.Pages.{AllWritten-step, AllWritten-of_every}
+use Rattle.lw_bench.proofs.Pages.{AllWritten-step, whole_text-AllWritten}
 use Rattle.lw_bench.proofs.page.write_processors.Goals as goal
 
 pub loop-cpu-init : goal.loop-cpu-init
 loop-cpu-init g c = record { left = refl }
 
+-- A round writes the lines of the processor of the loop's index.
 pub loop-cpu-preserved : goal.loop-cpu-preserved
 loop-cpu-preserved g c =
     let processors = c.args.machine.now.state.processors in
@@ -23,7 +24,7 @@ loop-cpu-preserved g c =
     index_is) (c.in_ok-write_processor.ensures here.0 (ap (slice_get processors) index_is ∙ here.1))
 
 pub returns : goal.returns
-returns g c = AllWritten-of_every c.loop-cpu.invariant (omega (
+returns g c = whole_text-AllWritten c.loop-cpu.invariant (omega (
   arith,
   length-take c.args.head.now.threads c.all.result,
   ap length c.all.ensures,
@@ -32,6 +33,7 @@ returns g c = AllWritten-of_every c.loop-cpu.invariant (omega (
   c.loop-cpu-test.false,
 ))
 
+-- The loop's index is below the number of rows of registers.
 pub bounds-regs-index : goal.bounds-regs-index
 bounds-regs-index g c =
     let index_is = is_index most_threads _ c.all.ensures refl c.loop-cpu-test.true c.cpu-item.is in
@@ -46,6 +48,7 @@ bounds-regs-index g c =
       c.requires.threads,
     )
 
+-- The loop's index is one of a processor, whose registers are the row at this index.
 pub write_processor-requires : goal.write_processor-requires
 write_processor-requires g c =
     let index_is = is_index most_threads _ c.all.ensures refl c.loop-cpu-test.true c.cpu-item.is in

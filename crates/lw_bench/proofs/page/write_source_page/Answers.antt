@@ -16,6 +16,7 @@ pub write_words-requires : goal.write_words-requires
 write_words-requires g c =
     ap length (c.as_slice-2.ensures ∙ ap (λ (o : FinalState). o.words) (c.state.view_is ∙ c.requires.outcome)) ∙ c.requires.words
 
+-- The parts written in sequence are the page.
 pub returns : goal.returns
 returns g c =
     on_ok_weaker c.write_words.result (λ is. source_page-SourceParts (head_of c.args.head.now) c.args.replay _ _ _ (record {

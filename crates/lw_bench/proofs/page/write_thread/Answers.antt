@@ -1,14 +1,15 @@
 -- `write_thread` promises a line with a thread's position and its six registers. The item of `Reg::all()` at
--- an index is that index, so name and word are those of this register; `AllWritten-newline` adds title and line end.
+-- an index is that index, so name and word are those of this register; `OnOk-line_with_title` adds title and line end.
 use Rattle.lw_bench.proofs.Common.{◌<◌, codes, decimal, length, take, slice_index, refl, sym, ap, ◌∙◌, ◌++◌}
 use Rattle.lw_bench.proofs.Common.{arith, register_name, is_index, named}
-use Rattle.lw_bench.proofs.Pages.{AllWritten-step, AllWritten-of_every, register_names-get}
-use Rattle.lw_bench.proofs.Pages.{AllWritten-newline, processor_title-append}
+use Rattle.lw_bench.proofs.Pages.{AllWritten-step, whole_text-AllWritten, register_names-get}
+use Rattle.lw_bench.proofs.Pages.{OnOk-line_with_title, processor_title-append}
 use Rattle.lw_bench.proofs.page.write_thread.Goals as goal
 
 pub loop-reg-init : goal.loop-reg-init
 loop-reg-init g c = record { left = refl }
 
+-- A round writes the name and the word of the register of the loop's index.
 pub loop-reg-preserved : goal.loop-reg-preserved
 loop-reg-preserved g c =
     let k = c.loop-reg.reg-index in
@@ -24,5 +25,5 @@ loop-reg-preserved g c =
 pub returns : goal.returns
 returns g c =
     let begun = rw c.index.ensures.value at c.in_ok-write.ensures.bytes in
-    AllWritten-newline c.push_str.result _ _ _ begun (AllWritten-of_every c.loop-reg.invariant c.loop-reg-test.false)
+    OnOk-line_with_title c.push_str.result _ _ _ begun (whole_text-AllWritten c.loop-reg.invariant c.loop-reg-test.false)
     (processor_title-append c.args.cpu (codes " at " ++ decimal c.args.position) _) c.push_str.ensures.bytes

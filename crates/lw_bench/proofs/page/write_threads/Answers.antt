@@ -5,12 +5,13 @@ use Rattle.lw_bench.proofs.Common.{[], length, length-take, map, slice_get, slic
 use Rattle.lw_bench.proofs.Common.{ap₂, ◌∙◌, arith, option_map, slice_get-map, get_or_from_slice_get}
 use Rattle.lw_bench.proofs.Common.{length-map, Thread, most_threads, is_index, slice_get-in_range}
 use Rattle.lw_bench.proofs.Common.{thread_line}
-use Rattle.lw_bench.proofs.Pages.{AllWritten-step, AllWritten-of_every, get-of_map}
+use Rattle.lw_bench.proofs.Pages.{AllWritten-step, whole_text-AllWritten, slice_get-map_value}
 use Rattle.lw_bench.proofs.page.write_threads.Goals as goal
 
 pub loop-cpu-init : goal.loop-cpu-init
 loop-cpu-init g c = record { left = refl }
 
+-- A round writes the line of the thread of the loop's index, with its position and registers.
 pub loop-cpu-preserved : goal.loop-cpu-preserved
 loop-cpu-preserved g c =
     let threads = c.args.run.now.state.threads in
@@ -20,7 +21,7 @@ loop-cpu-preserved g c =
     slice_get-in_range threads k
     (omega (arith, c.requires.threads, c.loop-cpu-test.true, length-take c.args.head.now.threads c.all.result)) in
     let position =
-    get-of_map (λ (t : Thread). t.position) threads k here.0 c.position.result here.1
+    slice_get-map_value (λ (t : Thread). t.position) threads k here.0 c.position.result here.1
     (ap (slice_get (map (λ (t : Thread). t.position) threads)) (sym index_is) ∙ c.position.ensures) in
     let listed =
     ap (λ l. slice_get l k) c.requires.regs
@@ -35,7 +36,7 @@ loop-cpu-preserved g c =
     AllWritten-step c.loop-cpu.invariant here.0 _ _ here.1 line c.in_ok-write_thread.ensures
 
 pub returns : goal.returns
-returns g c = AllWritten-of_every c.loop-cpu.invariant (omega (
+returns g c = whole_text-AllWritten c.loop-cpu.invariant (omega (
   arith,
   length-take c.args.head.now.threads c.all.result,
   ap length c.all.ensures,
@@ -53,6 +54,7 @@ position-requires g c = omega (
   c.requires.threads,
 )
 
+-- The loop's index is below the number of rows of registers.
 pub bounds-regs-index : goal.bounds-regs-index
 bounds-regs-index g c =
     let index_is = is_index most_threads _ c.all.ensures refl c.loop-cpu-test.true c.cpu-item.is in

@@ -3,7 +3,7 @@
 -- contract's premise.
 use Rattle.lw_bench.proofs.Common.{◌≤◌, decimal, length, slice_get, slice_index, refl, sym, ap, ◌∙◌, arith}
 use Rattle.lw_bench.proofs.Common.{length-take, is_index, named, most_locations}
-use Rattle.lw_bench.proofs.Pages.{AllWritten-step, AllWritten-of_every, AllWritten-newline}
+use Rattle.lw_bench.proofs.Pages.{AllWritten-step, whole_text-AllWritten, OnOk-line_with_title}
 use Rattle.lw_bench.proofs.page.write_words.Goals as goal
 
 pub loop-loc-init : goal.loop-loc-init
@@ -16,6 +16,7 @@ loop-loc-preserved g c =
     (ap (λ k. named (λ _. decimal (slice_index c.args.words.now k)) 0 c.name.result.now) (c.index.ensures.value ∙ index_is))
     c.in_ok-write_assignment.ensures
 
+-- At the loop's end all locations are written, and with the line's end the line.
 pub returns : goal.returns
 returns g c =
     let table : length c.args.locs.now ≤ most_locations = c.len.ensures.table.bounded in
@@ -28,14 +29,15 @@ returns g c =
       table,
       c.loop-loc-test.false,
     ) in
-    AllWritten-newline c.push_str-2.result _ c.args.title.now _ c.in_ok-push_str.ensures.bytes
-    (AllWritten-of_every c.loop-loc.invariant whole) refl c.push_str-2.ensures.bytes
+    OnOk-line_with_title c.push_str-2.result _ c.args.title.now _ c.in_ok-push_str.ensures.bytes
+    (whole_text-AllWritten c.loop-loc.invariant whole) refl c.push_str-2.ensures.bytes
 
 pub name-requires : goal.name-requires
 name-requires g c =
     let index_is = is_index most_locations _ c.all.ensures refl c.loop-loc-test.true c.loc-item.is in
     omega (arith, index_is, c.loop-loc-test.true, length-take c.len.result c.all.result, c.len.ensures.len)
 
+-- The loop's index is below the number of words.
 pub bounds-words-index : goal.bounds-words-index
 bounds-words-index g c =
     let index_is = is_index most_locations _ c.all.ensures refl c.loop-loc-test.true c.loc-item.is in

@@ -1,14 +1,15 @@
 -- `page_of` promises the page of the replay by the schedule, or a true fault of the schedule. The events are
--- those of the schedule (`IsReplay-IsPageOf`). A rejected schedule is none of the test's, as `read_schedule` ensures,
+-- those of the schedule (`IsReplayPage-IsPageOf`). A rejected schedule is none of the test's, as `read_schedule` ensures,
 -- for the head's table of names.
 use Rattle.lw_bench.proofs.Common.{◌≡◌, ◌⊎◌, inl, inr, ap, refl, IfOk-weaker, IfErr-weaker}
 use Rattle.lw_bench.proofs.Common.{Err-clause_propagated, TestHead, litmus_test_of, IsReplayPage}
 use Rattle.lw_bench.proofs.Common.{ReplayFaultIsTrue, Memory}
-use Rattle.lw_bench.proofs.Replays.{IsReplay-IsPageOf}
+use Rattle.lw_bench.proofs.Replays.{IsReplayPage-IsPageOf}
 use Rattle.lw_bench.proofs.FaultTruths.{holds-schedule_run_fault, IsNotDeviceFault-schedule_run_fault}
 use Rattle.lw_bench.proofs.FaultTruths.{IsNotDeviceFault-of_memory}
 use Rattle.lw_bench.proofs.replay.page_of.Goals as goal
 
+-- A fault of the schedule, unless memory ran out, is a true fault of the replay.
 pub returns-in_err-events-clause-fault : goal.returns-in_err-events-clause-fault
 returns-in_err-events-clause-fault g c =
     let test = litmus_test_of c.args.test.now in
@@ -29,7 +30,7 @@ returns-clause-found g c =
     let test = litmus_test_of c.args.test.now in
     let table = ap (λ (h : TestHead). h.locs) c.head.ensures.head in
     IfOk-weaker c.page_of_events-page.result _ (λ x. IsReplayPage c.args.protocol test c.args.schedule.now x.0 x.1) (λ x tells.
-    IsReplay-IsPageOf c.args.protocol test c.args.schedule.now x.0 x.1 table c.in_ok-events.ensures.found c.as_slice.ensures
+    IsReplayPage-IsPageOf c.args.protocol test c.args.schedule.now x.0 x.1 table c.in_ok-events.ensures.found c.as_slice.ensures
     tells) c.page_of_events-page.ensures.found
 
 pub returns-clause-fault : goal.returns-clause-fault

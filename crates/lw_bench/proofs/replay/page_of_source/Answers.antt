@@ -4,6 +4,7 @@
 use Rattle.lw_bench.proofs.Common.{refl, ap, ◌∙◌, length, length-map, State}
 use Rattle.lw_bench.proofs.replay.page_of_source.Goals as goal
 
+-- The page is that of the state which the replay reaches from the initial state.
 pub returns-clause-found : goal.returns-clause-found
 returns-clause-found g c =
     let replayed = rw (c.in_ok-run.ensures.program, c.in_ok-run.ensures.state) at c.run-replay.ensures.replayed in
@@ -15,6 +16,7 @@ returns-clause-found g c =
       page_is = c.in_ok-page.ensures;
     }
 
+-- The state has as many threads and words as the test, since the run preserves both numbers.
 pub source_page-page-requires : goal.source_page-page-requires
 source_page-page-requires g c =
     let source = c.args.source.now in

@@ -4,6 +4,7 @@
 use Rattle.lw_bench.proofs.Common.{refl, ap, ◌∙◌, length, length-map}
 use Rattle.lw_bench.proofs.replay.page_over_memory.Goals as goal
 
+-- The page is that of the state which the replay reaches from the initial state.
 pub returns-clause-found : goal.returns-clause-found
 returns-clause-found g c =
     let replayed = rw (c.in-Ok.ensures.program, c.in-Ok.ensures.start) at c.run-replay.ensures.replayed in
@@ -18,6 +19,7 @@ returns-clause-found g c =
 pub new-requires : goal.new-requires
 new-requires g c = record { threads = c.requires.threads; words = c.requires.words }
 
+-- The state has as many processors and words as the test, since the run preserves both numbers.
 pub machine_page-page-requires : goal.machine_page-page-requires
 machine_page-page-requires g c =
     let program = c.args.program.now in

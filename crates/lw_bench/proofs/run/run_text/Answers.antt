@@ -14,6 +14,7 @@ returns-in_err-text g c =
     (g.O.Renderer.fault_is_true c.args.output.now) _ _ _ (g.O.Renderer.is_made c.args.output.now) (known.machine _)
     (known.caches _) c.in_err-text.field-0.0 c.in_err-text.ensures.err c.in_err-text.ensures.left c.requires.writer)
 
+-- If nothing can be rendered, the run reports the fault, which is true of the bytes read.
 pub returns-in_err-made : goal.returns-in_err-made
 returns-in_err-made g c =
     let p = err_from_is_err_and c.from_residual-in_err-made.result c.from_residual-in_err-made.ensures.1 in

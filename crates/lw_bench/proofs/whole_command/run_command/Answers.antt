@@ -4,6 +4,7 @@
 use Rattle.lw_bench.proofs.Common.{IfOk, inr, sym, subst, IfErr, EndsTask, Reports}
 use Rattle.lw_bench.proofs.whole_command.run_command.Goals as goal
 
+-- If the words name a task and the input was read, the program ends as the task does.
 pub returns-in-Ok-clause-ended : goal.returns-in-Ok-clause-ended
 returns-in-Ok-clause-ended g c =
     let e = c.end_task.result in

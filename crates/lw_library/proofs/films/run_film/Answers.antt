@@ -8,6 +8,7 @@ use Rattle.lw_library.specs.CallResults.{IsFilmed, IsAnswer}
 use Rattle.lw_library.proofs.Calls.{IsCallResult-answer, IsCallResult-fault_line_or_Memory}
 use Rattle.lw_library.proofs.films.run_film.Goals as goal
 
+-- If the film was made, the call returns it with kind 0 and status 0.
 pub returns-in-Ok : goal.returns-in-Ok
 returns-in-Ok c =
     let made = c.in-Ok.ensures.made in

@@ -8,6 +8,7 @@ use Rattle.lw_beyond.specs.Requests.{IsMadeFor}
 use Rattle.lw_library.proofs.Calls.{IsReachResult-answer, IsReachResult-fault, IsReachResult-Memory}
 use Rattle.lw_library.proofs.reached.run_request.Goals as goal
 
+-- If the request was answered, the call returns the output with kind 0.
 pub returns-in-Ok-clause-call_result : goal.returns-in-Ok-clause-call_result
 returns-in-Ok-clause-call_result c =
     let made = c.in-Ok.ensures.made in

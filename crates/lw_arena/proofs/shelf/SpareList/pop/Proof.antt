@@ -41,7 +41,8 @@ abbrev stays : Stays ended.signature.params ended.kept
 stays = (stay_dropped (slot_of_index 0 ended.signature.params) ended.kept.0, tt)
 
 module _ {M : Type 1} {𝓤 : Ura M} {𝓛 : Logic 𝓤} {K : Type 0} {Γ : List (Item 𝓤)} {G : Goal 𝓤 𝓛.H} (k : ℕ) where
-  -- A nonempty list is the node at its front, the rest of that node's block, and the other blocks.
+  -- A goal holds with a list of at least one spare block if it holds with the node at its front, the right to exchange that for
+  -- its whole block, and the list of the other blocks.
   opens : K → (n : ℕ) (p : Ptr) → 1 ≤ n
       → ((m b o : ℕ) (next : Ptr) → n ≡ suc m → p ≡ block_ptr b o
       → Seq K 𝓛 (‵ (fat full_share node_type b o (node_val next)) ∷ ‵ (fwand (froom node_type b o) (froom (units k) b o)) ∷ ‵ (chain k m next) ∷ Γ) G)
