@@ -7,7 +7,7 @@ use Rattle.lw_axiomatic.proofs.Common.{is_locked, is_store, x86_language, X86Tes
 use Rattle.lw_axiomatic.proofs.Common.{GlobalHappensBefore, SatisfiesAxioms, IsCandidate, IsReadFrom}
 use Rattle.lw_axiomatic.proofs.Common.{MemoryEvent, Execution, operation_is, Reads, Writes, Po, Rf, Co, Fr}
 use Rattle.lw_axiomatic.proofs.Common.{IsAtomic, IsNewest, HasTimes}
-use Rattle.lw_axiomatic.proofs.CoherenceLaws.{Co_total-of_writes}
+use Rattle.lw_axiomatic.proofs.CoherenceLaws.{Co-total}
 use Rattle.lw_axiomatic.proofs.EventKinds.{reads-if_locked_event, writes-if_locked_event}
 
 -- What a locked instruction reads from comes before it in coherence order.
@@ -21,7 +21,7 @@ source_precedes_locked_in_co {test} {x} candidate coherence r u l reading writin
     let source : Writes x86_language test x u l =
     (subst (IsReadFrom x86_language test x r l) source_is (candidate.rf r l reading)).write in
     let rf : Rf x86_language test x u r = record { on_location = l; write = source; read = reading; source_is = source_is } in
-    elim (Co_total-of_writes candidate coherence u r l source writing) [
+    elim (Co-total candidate coherence u r l source writing) [
       | inl same ↦ absurd (omega (arith, coherence.increases u r (inr (inl rf)), ap coherence.rank same))
       | inr (inl co) ↦ co.co_lt
       | inr (inr co) ↦
@@ -29,7 +29,7 @@ source_precedes_locked_in_co {test} {x} candidate coherence r u l reading writin
     ]
 
 module _ (test : X86Test) (x : Execution) where
-  -- No write that comes after an event in from-reads comes before it in coherence order.
+  -- If global happens-before has no cycle, no write that comes after an event in from-reads comes before it in coherence order.
   not-both_Fr_and_Co : GlobalHappensBefore test x
       → (r v : MemoryEvent)
       → Fr x86_language test x r v
@@ -38,7 +38,8 @@ module _ (test : X86Test) (x : Execution) where
   not-both_Fr_and_Co acyclic r v fr co =
       omega (arith, acyclic.increases r v (inr (inr (inr fr))), acyclic.increases v r (inr (inr (inl co))))
 
-  -- A locked instruction reads what was there before a write, if what it reads from comes before the write, or is the initial word.
+  -- If a write comes before a locked instruction in coherence order, and after what the instruction reads from, if that is a
+  -- write, the instruction comes before it in from-reads.
   Fr-locked_source_before_write : (r v : MemoryEvent)
       → operation_is x86_language test is_locked r ≡ true
       → Co x86_language test x v r
@@ -56,7 +57,8 @@ module _ (test : X86Test) (x : Execution) where
     source_before = before;
   }
 
-  -- No write comes in coherence order between what a locked instruction reads and what it writes.
+  -- If global happens-before has no cycle, no write comes in coherence order between what a locked instruction reads and what
+  -- it writes.
   pub IsAtomic-GlobalHappensBefore : GlobalHappensBefore test x → IsAtomic test x
   IsAtomic-GlobalHappensBefore h = record {
     after_write = λ r w v locked rf before co.
@@ -68,7 +70,7 @@ module _ (test : X86Test) (x : Execution) where
         (Fr-locked_source_before_write r v locked co (λ u is_some. absurd (none-some u (sym from ∙ is_some)))) co;
   }
 
-  -- Program order and reads-from together have no cycle.
+  -- If an execution has times, program order and reads-from together have no cycle.
   pub Acyclic-po_and_rf : HasTimes test x → Acyclic (λ a b. Po x a b ⊎ Rf x86_language test x a b)
   Acyclic-po_and_rf t = record {
     rank = t.done;
@@ -114,7 +116,7 @@ pub locked_events_equal-same_source : (test : X86Test) (x : Execution) (o : Fina
     → x.rf r ≡ x.rf s
     → r ≡ s
 locked_events_equal-same_source test x o candidate axioms r s l locked_r locked_s reading_r reading_s same_source =
-    elim (Co_total-of_writes candidate axioms.coherence r s l (record {
+    elim (Co-total candidate axioms.coherence r s l (record {
       is_event = reading_r.is_event;
       location_is = reading_r.location_is;
       is_write = writes-if_locked_event test r locked_r;

@@ -20,12 +20,12 @@ module _ (r : ℕ → ℕ) where
   insert i [] = i ∷ []
   insert i (x ∷ xs) = if nat_lt (r i) (r x) then i ∷ x ∷ xs else x ∷ insert i xs
 
-  -- A lower time is at most that of each number too.
+  -- If t is at most the time of each number in a list, so is each s that is at most t.
   NoLater-mono : (s t : ℕ) (xs : List ℕ) → s ≤ t → NoLater t xs → NoLater s xs
   NoLater-mono s t [] le h = tt
   NoLater-mono s t (x ∷ xs) le h = (omega (arith, le, h.0), NoLater-mono s t xs le h.1)
 
-  -- Inserting a number that is not earlier preserves the bound.
+  -- If t is at most the time of i and of each number in a list, it is at most that of each number in the list with i inserted.
   NoLater-insert : (t i : ℕ) (xs : List ℕ) → t ≤ r i → NoLater t xs → NoLater t (insert i xs)
   NoLater-insert t i [] le h = (le, tt)
   NoLater-insert t i (x ∷ xs) le h =
@@ -45,7 +45,7 @@ module _ (r : ℕ → ℕ) where
   length_insert i (x ∷ xs) =
       elim (cases_Bool (nat_lt (r i) (r x))) [ inl e ↦ rw e refl | inr e ↦ rw e (ap suc (length_insert i xs)) ]
 
-  -- The inserted number is in the list, and so is each that was.
+  -- The inserted number, and each number of the list, is in the list with it inserted.
   in_range-insert : (i j : ℕ) (xs : List ℕ)
       → (i ≡ j) ⊎ (index_in xs j < length xs)
       → index_in (insert i xs) j < length (insert i xs)
@@ -63,11 +63,11 @@ module _ (r : ℕ → ℕ) where
   ]
 
   -- If t is at most the time of each number in a list, it is at most that of a member.
-  NoLater-at_member : (t j : ℕ) (xs : List ℕ) → NoLater t xs → index_in xs j < length xs → t ≤ r j
-  NoLater-at_member t j [] h l = absurd (omega arith)
-  NoLater-at_member t j (x ∷ xs) h l = elim (cases_eq x j) [
+  time_le-member : (t j : ℕ) (xs : List ℕ) → NoLater t xs → index_in xs j < length xs → t ≤ r j
+  time_le-member t j [] h l = absurd (omega arith)
+  time_le-member t j (x ∷ xs) h l = elim (cases_eq x j) [
     | inl e ↦ (let same : r x ≡ r j = ap r e in omega (arith, h.0, same))
-    | inr ne ↦ NoLater-at_member t j xs h.1 (grind (arith, nat_tests))
+    | inr ne ↦ time_le-member t j xs h.1 (grind (arith, nat_tests))
   ]
 
   -- In a sorted list a number with a lower time precedes one with a greater.
@@ -85,7 +85,7 @@ module _ (r : ℕ → ℕ) where
           let b : r x ≡ r i = ap r f in
           omega (arith, a, b, lt))
       | inr nf ↦
-          absurd (let a : r x ≡ r j = ap r e in omega (arith, a, lt, NoLater-at_member (r x) i xs h.0 (grind (arith, nat_tests))))
+          absurd (let a : r x ≡ r j = ap r e in omega (arith, a, lt, time_le-member (r x) i xs h.0 (grind (arith, nat_tests))))
     ]
     | inr ne ↦ elim (cases_eq x i) [
       | inl f ↦ grind (arith, nat_tests)
@@ -108,7 +108,7 @@ module _ (r : ℕ → ℕ) where
   length_by_time zero = refl
   length_by_time (suc n) = length_insert n (by_time n) ∙ ap suc (length_by_time n)
 
-  -- Each number below n is among them.
+  -- Each number below n is in the list of the numbers below n by their times.
   in_range-by_time : (n i : ℕ) → i < n → index_in (by_time n) i < length (by_time n)
   in_range-by_time zero i l = absurd (omega arith)
   in_range-by_time (suc n) i l =
@@ -118,7 +118,7 @@ module _ (r : ℕ → ℕ) where
   pub IsOrder-by_time : (n : ℕ) → IsOrder n (by_time n)
   IsOrder-by_time n = (length_by_time n, λ i l. omega (arith, in_range-by_time n i l, length_by_time n))
 
-  -- An earlier number precedes a later one.
+  -- Of two numbers below n, the one with the lower time precedes the other.
   pub Before-by_time : (n i j : ℕ) → i < n → j < n → r i < r j → Before (by_time n) i j
   Before-by_time n i j li lj lt =
       Before-Sorted (by_time n) i j (Sorted-by_time n) (in_range-by_time n i li) (in_range-by_time n j lj) lt

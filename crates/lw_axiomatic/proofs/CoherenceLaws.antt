@@ -32,30 +32,31 @@ module _ {test : X86Test} {x : Execution} {o : FinalState} (candidate : IsCandid
       location_is-of_access e (inl r) = r.location_is
       location_is-of_access e (inr w) = w.location_is
 
-  -- The ranks increase along from-reads.
+  -- The ranks of coherence increase along from-reads.
   coherence_rank_increases-Fr : (r w : MemoryEvent) → Fr x86_language test x r w → coherence_rank r < coherence_rank w
   coherence_rank_increases-Fr r w fr = coherence.increases r w (inr (inr (inr fr)))
 
-  -- The ranks increase along coherence order.
+  -- The ranks of coherence increase along coherence order.
   coherence_rank_increases-Co : (w v : MemoryEvent) → Co x86_language test x w v → coherence_rank w < coherence_rank v
   coherence_rank_increases-Co w v co = coherence.increases w v (inr (inr (inl co)))
 
-  -- The ranks increase along reads-from.
+  -- The ranks of coherence increase along reads-from.
   coherence_rank_increases-Rf : (w r : MemoryEvent) → Rf x86_language test x w r → coherence_rank w < coherence_rank r
   coherence_rank_increases-Rf w r rf = coherence.increases w r (inr (inl rf))
 
   -- Two writes to a location are equal, or one precedes the other in coherence order.
-  pub Co_total-of_writes : (w v : MemoryEvent) (l : ℕ)
+  pub Co-total : (w v : MemoryEvent) (l : ℕ)
       → Writes x86_language test x w l
       → Writes x86_language test x v l
       → (w ≡ v) ⊎ (Co x86_language test x w v ⊎ Co x86_language test x v w)
-  Co_total-of_writes w v l ww wv = elim (cases_order (x.co w) (x.co v)) [
+  Co-total w v l ww wv = elim (cases_order (x.co w) (x.co v)) [
     | inl same_co ↦ inl (candidate.co w v l ww wv same_co)
     | inr (inl co_lt) ↦ inr (inl (record { on_location = l; first_write = ww; second_write = wv; co_lt = co_lt }))
     | inr (inr co_gt) ↦ inr (inr (record { on_location = l; first_write = wv; second_write = ww; co_lt = co_gt }))
   ]
 
-  -- A read that does not read from before a write reads from it or from a later one.
+  -- If a read does not come before a write to its location in from-reads, and is not the write, it reads from it or from a
+  -- later one.
   reads_same_or_later-not_Fr : (r w : MemoryEvent) (l : ℕ)
       → Reads x86_language test x r l
       → Writes x86_language test x w l
@@ -80,7 +81,7 @@ module _ {test : X86Test} {x : Execution} {o : FinalState} (candidate : IsCandid
       reads_same_or_later-of_source (Some v) source_is is = (
         v,
         record { on_location = l; write = is.write; read = reading; source_is = source_is },
-        elim (Co_total-of_writes v w l is.write writing) [
+        elim (Co-total v w l is.write writing) [
           | inl same ↦ inl same
           | inr (inl less) ↦ absurd (never (record {
             on_location = l;
@@ -98,9 +99,9 @@ module _ {test : X86Test} {x : Execution} {o : FinalState} (candidate : IsCandid
   not-equal-Po : (a b : MemoryEvent) → Po x a b → a ≡ b → ⊥
   not-equal-Po a b po same = omega (arith, po.position_lt, ap (λ (z : MemoryEvent). z.position) same)
 
-  -- Two writes in program order have the same coherence order.
+  -- Of two writes of a thread to one location, the first in program order is the first in coherence order.
   pub CoWW-Coherence : CoWW test x
-  CoWW-Coherence w v l po ww wv = elim (Co_total-of_writes w v l ww wv) [
+  CoWW-Coherence w v l po ww wv = elim (Co-total w v l ww wv) [
     | inl same ↦ absurd (not-equal-Po w v po same)
     | inr (inl less) ↦ less
     | inr (inr more) ↦
@@ -111,7 +112,7 @@ module _ {test : X86Test} {x : Execution} {o : FinalState} (candidate : IsCandid
         ))
   ]
 
-  -- A read after a write reads from it, or from a later write in coherence order.
+  -- A read after a write of its thread to its location reads from it, or from a later write in coherence order.
   pub CoWR-Coherence : CoWR test x
   CoWR-Coherence w r l po writing reading =
       reads_same_or_later-not_Fr r w l reading writing (λ fr.
@@ -121,12 +122,12 @@ module _ {test : X86Test} {x : Execution} {o : FinalState} (candidate : IsCandid
         coherence_rank_increases-Po_on_location w r l po (inr writing) (inl reading),
       )) (λ same. not-equal-Po w r po (sym same))
 
-  -- A write after a read comes after the write that is read, in coherence order.
+  -- A write after a read of its thread from its location comes after the write that is read, in coherence order.
   pub CoRW-Coherence : CoRW test x
   CoRW-Coherence r w v l po reading writing rf =
       let one : rf.on_location ≡ l = same_Some rf.on_location l (sym rf.read.location_is ∙ reading.location_is) in
       let wv : Writes x86_language test x v l = subst (Writes x86_language test x v) one rf.write in
-      elim (Co_total-of_writes v w l wv writing) [
+      elim (Co-total v w l wv writing) [
         | inl same ↦ absurd (omega (
           arith,
           coherence_rank_increases-Rf v r rf,
@@ -142,7 +143,7 @@ module _ {test : X86Test} {x : Execution} {o : FinalState} (candidate : IsCandid
         ))
       ]
 
-  -- The second of two reads in program order reads from the same write, or from a later one in coherence order.
+  -- Of two reads of a thread from one location, the second reads from the write that the first reads from, or from a later one.
   pub CoRR-Coherence : CoRR test x
   CoRR-Coherence r s v l po reading too rf =
       let one : rf.on_location ≡ l = same_Some rf.on_location l (sym rf.read.location_is ∙ reading.location_is) in

@@ -20,9 +20,9 @@ pub use Rattle.std.specs.List.{AllByRecursion}
 pub use Rattle.std.specs.Option.{ForSome, option_map_or, option_or}
 pub use Rattle.lw_base.proofs.Common.{Bytes, FinalState, HasOutcomeShape, TestHead, most_threads}
 pub use Rattle.lw_base.proofs.Common.{operand_value, registers, thread_code, word_or_zero, wrapping_sum}
-pub use Rattle.lw_base.proofs.api.Lists.{AtEach, get-set_other, get-set_same, length-set_word_if_some}
-pub use Rattle.lw_base.proofs.api.Lists.{slice_get-in_range, take_drop-at}
-pub use Rattle.lw_base.proofs.api.Zips.{get-map, list_all_zip-at_index, list_all_zip-of_each}
+pub use Rattle.lw_base.proofs.api.Lists.{AtEach, length-set_word_if_some, slice_get-in_range}
+pub use Rattle.lw_base.proofs.api.Lists.{slice_get-slice_set_other, slice_get-slice_set_same, take_drop-at}
+pub use Rattle.lw_base.proofs.api.Zips.{list_all_zip-at_index, list_all_zip-of_each, slice_get-map_inv}
 pub use Rattle.lw_base.specs.declared.event.Event.TheVariants.{Drain, Step}
 pub use Rattle.lw_base.specs.declared.operand.Operand.TheVariants.{Number, Register}
 pub use Rattle.lw_base.specs.declared.stop.Stop.TheVariants.{FenceWaits, SwapWaits}

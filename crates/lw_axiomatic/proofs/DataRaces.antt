@@ -5,7 +5,7 @@ use Rattle.lw_axiomatic.proofs.Common.{x86_operation, is_load, is_store, Interle
 use Rattle.lw_axiomatic.proofs.Common.{IsNext, RunsToWithoutBarrier, HasTriangularRace, HasDataRace, is_plain}
 
 module _ (test : X86Test) where
-  -- A quiet run is a run.
+  -- A run in which thread q does nothing that waits for an empty store buffer is a run.
   InterleavedRunsTo-without_barrier : (q : ℕ) (order : List ℕ) (s end : Interleaved)
       → RunsToWithoutBarrier test q order s end
       → InterleavedRunsTo x86_language test.threads order s end
@@ -23,7 +23,7 @@ module _ (test : X86Test) where
   InterleavedRunsTo-append (t ∷ order) more s mid end first run =
       (first.0, first.1, InterleavedRunsTo-append order more first.0 mid end first.2 run)
 
-  -- A load is a plain access.
+  -- If the next instruction of a thread is a load of l, it is a plain access of l.
   IsNext-plain : (l t : ℕ) (s : Interleaved) → IsNext test is_load l t s → IsNext test is_plain l t s
   IsNext-plain l t s load = record {
     thread = load.thread;

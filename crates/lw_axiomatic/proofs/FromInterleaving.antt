@@ -7,9 +7,9 @@ use Rattle.lw_axiomatic.proofs.Common.{slice_set, Contains, true≢false, length
 use Rattle.lw_axiomatic.proofs.Common.{slice_index_or, option_map, option_and_then, option_map_or, cases_eq}
 use Rattle.lw_axiomatic.proofs.Common.{get_or_past, get_or-set_same, get_or-set_other, length-map, All-get_or}
 use Rattle.lw_axiomatic.proofs.Common.{none-some, same_Some, slice_get_within, get_or_from_slice_get}
-use Rattle.lw_axiomatic.proofs.Common.{slice_get-map, get-set_same, get-set_other, slice_get-in_range}
-use Rattle.lw_axiomatic.proofs.Common.{get-map, FinalState, HasOutcomeShape, thread_code}
-use Rattle.lw_axiomatic.proofs.Common.{IsFlowSuccessor-in_range, not-Contains-nil, Contains-head}
+use Rattle.lw_axiomatic.proofs.Common.{slice_get-map, slice_get-slice_set_same, slice_get-slice_set_other}
+use Rattle.lw_axiomatic.proofs.Common.{slice_get-in_range, slice_get-map_inv, FinalState, HasOutcomeShape}
+use Rattle.lw_axiomatic.proofs.Common.{thread_code, IsFlowSuccessor-in_range, not-Contains-nil, Contains-head}
 use Rattle.lw_axiomatic.proofs.Common.{Contains-tail, Contains-cons, IsAscendingFrom}
 use Rattle.lw_axiomatic.proofs.Common.{IsAscendingFrom-lower_bound, IsAscendingFrom-flow_path}
 use Rattle.lw_axiomatic.proofs.Common.{JumpsForward-thread, Operation, IsFlowSuccessor, location_of, writes}
@@ -84,7 +84,7 @@ module _ {S : Type 0} (language : Language S) where
       }
 
 module _ {S : Type 0} {language : Language S} {test : Test S} (well_scoped : IsWellScoped language test) where
-  -- No thread has a step ahead.
+  -- The empty path, whatever the code.
   abbrev empty_path : List S → List ℕ
   empty_path code = []
 
@@ -210,15 +210,15 @@ module _ {S : Type 0} {language : Language S} {test : Test S} (well_scoped : IsW
     abbrev step_event : MemoryEvent
     step_event = event t step_position
 
-    -- The thread after it.
+    -- The state of the first event's thread after the event.
     abbrev next : ThreadState
     next = state_after op step.thread (read_value op s.words)
 
-    -- The word that it finds.
+    -- The word that the first event finds.
     abbrev word_found : ℕ
     word_found = read_value op s.words
 
-    -- The word that it writes, if it writes.
+    -- The word that the first event leaves, if it writes.
     abbrev word_left : ℕ
     word_left = word_written op step.thread.regs word_found
 
@@ -235,13 +235,15 @@ module _ {S : Type 0} {language : Language S} {test : Test S} (well_scoped : IsW
     thread_in_range = omega (arith, slice_get_within s.threads t step.thread step.thread_at, good.thread_count)
 
     -- After the step its thread is the next state of it.
-    pub get-next_thread : slice_get mid.threads t ≡ Some next
-    get-next_thread =
-        ap (λ (z : Interleaved). slice_get z.threads t) step.state_is ∙ get-set_same s.threads t next step.thread step.thread_at
+    pub slice_get-next_thread : slice_get mid.threads t ≡ Some next
+    slice_get-next_thread =
+        ap (λ (z : Interleaved). slice_get z.threads t) step.state_is
+        ∙ slice_get-slice_set_same s.threads t next step.thread step.thread_at
 
     -- The other threads are unchanged.
     pub others_unchanged : (u : ℕ) → t ≢ u → slice_get mid.threads u ≡ slice_get s.threads u
-    others_unchanged u ne = ap (λ (z : Interleaved). slice_get z.threads u) step.state_is ∙ get-set_other s.threads t u next ne
+    others_unchanged u ne =
+        ap (λ (z : Interleaved). slice_get z.threads u) step.state_is ∙ slice_get-slice_set_other s.threads t u next ne
 
     -- The thread's next position is later, and in its code.
     pub next_position_later : (step_position < next.position) × (next.position ≤ length (thread_code test.threads t))
@@ -303,7 +305,7 @@ module _ {S : Type 0} {language : Language S} {test : Test S} (well_scoped : IsW
       positions_in_range = λ u th at. elim (cases_eq t u) [
         | inl same_thread ↦
             (let is_next : next ≡ th =
-            same_Some next th (sym get-next_thread ∙ subst (λ k. slice_get mid.threads k ≡ Some th) (sym same_thread) at) in
+            same_Some next th (sym slice_get-next_thread ∙ subst (λ k. slice_get mid.threads k ≡ Some th) (sym same_thread) at) in
             subst (λ k. th.position ≤ length (thread_code test.threads k)) same_thread
             (omega (arith, next_position_later.1, ap (λ (z : ThreadState). z.position) is_next)))
         | inr threads_differ ↦ good.positions_in_range u th (sym (others_unchanged u threads_differ) ∙ at)
@@ -311,7 +313,7 @@ module _ {S : Type 0} {language : Language S} {test : Test S} (well_scoped : IsW
       register_counts = λ u th at. elim (cases_eq t u) [
         | inl same_thread ↦
             (let is_next : next ≡ th =
-            same_Some next th (sym get-next_thread ∙ subst (λ k. slice_get mid.threads k ≡ Some th) (sym same_thread) at) in
+            same_Some next th (sym slice_get-next_thread ∙ subst (λ k. slice_get mid.threads k ≡ Some th) (sym same_thread) at) in
             ap (λ (z : ThreadState). length z.regs) (sym is_next)
             ∙ (state_after-register_count op step.thread word_found ∙ good.register_counts t step.thread step.thread_at))
         | inr threads_differ ↦ good.register_counts u th (sym (others_unchanged u threads_differ) ∙ at)
@@ -334,9 +336,9 @@ module _ {S : Type 0} {language : Language S} {test : Test S} (well_scoped : IsW
 
       -- The source of a read: as in the rest, but the first event if the rest has none and it writes the
       -- location.
-      abbrev from_it : MemoryEvent → Option MemoryEvent → Option MemoryEvent
-      from_it r (Some v) = Some v
-      from_it r None = pick (exists_WritesHere-decidable (location language test r)) (Some step_event) None
+      abbrev source_with_first : MemoryEvent → Option MemoryEvent → Option MemoryEvent
+      source_with_first r (Some v) = Some v
+      source_with_first r None = pick (exists_WritesHere-decidable (location language test r)) (Some step_event) None
 
       -- The execution of the whole run: the first event, and then those of the rest.
       abbrev whole_execution : Execution
@@ -344,7 +346,7 @@ module _ {S : Type 0} {language : Language S} {test : Test S} (well_scoped : IsW
         paths = slice_set later_execution.paths t (step_position ∷ thread_code later_execution.paths t);
         read = λ r. pick (decided_event_equal r step_event) word_found (later_execution.read r);
         written = λ w. pick (decided_event_equal w step_event) word_left (later_execution.written w);
-        rf = λ r. pick (decided_event_equal r step_event) None (from_it r (later_execution.rf r));
+        rf = λ r. pick (decided_event_equal r step_event) None (source_with_first r (later_execution.rf r));
         co = λ w. pick (decided_event_equal w step_event) 0 (suc (later_execution.co w));
       }
 
@@ -371,8 +373,8 @@ module _ {S : Type 0} {language : Language S} {test : Test S} (well_scoped : IsW
           (Contains-head step_position step_position (thread_code later_execution.paths t) refl)
 
       -- An event of the rest is an event of the whole.
-      IsEvent-of_later : (a : MemoryEvent) → IsEvent later_execution a → IsEvent whole_execution a
-      IsEvent-of_later a is_event = elim (cases_eq t a.thread) [
+      IsEvent-in_whole : (a : MemoryEvent) → IsEvent later_execution a → IsEvent whole_execution a
+      IsEvent-in_whole a is_event = elim (cases_eq t a.thread) [
         | inl same_thread ↦
             subst (λ u. Contains (thread_code whole_execution.paths u) a.position) same_thread
             (subst (λ (path : List ℕ). Contains path a.position) (sym own_path)
@@ -399,7 +401,7 @@ module _ {S : Type 0} {language : Language S} {test : Test S} (well_scoped : IsW
       -- The rest of its thread is ahead.
       later_in_thread : (a : MemoryEvent) → IsEvent later_execution a → a.thread ≡ t → step_position < a.position
       later_in_thread a is_event same_thread =
-          let goes = later.threads t next get-next_thread in
+          let goes = later.threads t next slice_get-next_thread in
           let up : IsAscendingFrom next.position (thread_code later_execution.paths t) =
           IsAscendingFrom-flow_path language (thread_code test.threads t) next.position (thread_code later_execution.paths t)
           (JumpsForward-thread language test well_scoped t)
@@ -420,54 +422,54 @@ module _ {S : Type 0} {language : Language S} {test : Test S} (well_scoped : IsW
             ap (λ (z : MemoryEvent). z.position) same,
           )
 
-      -- What another event reads, it reads in the rest.
-      Reads-of_later : (r : MemoryEvent) (l : ℕ)
+      -- What an event other than the first reads in the whole, it reads in the rest.
+      Reads-in_later : (r : MemoryEvent) (l : ℕ)
           → Reads language test whole_execution r l
           → (r ≡ step_event → ⊥)
           → Reads language test later_execution r l
-      Reads-of_later r l reading differ = record {
+      Reads-in_later r l reading differ = record {
         is_event = IsEvent-in_later r reading.is_event differ;
         location_is = reading.location_is;
         is_read = reading.is_read;
       }
 
-      -- What another event writes, it writes in the rest.
-      Writes-of_later : (w : MemoryEvent) (l : ℕ)
+      -- What an event other than the first writes in the whole, it writes in the rest.
+      Writes-in_later : (w : MemoryEvent) (l : ℕ)
           → Writes language test whole_execution w l
           → (w ≡ step_event → ⊥)
           → Writes language test later_execution w l
-      Writes-of_later w l writing differ = record {
+      Writes-in_later w l writing differ = record {
         is_event = IsEvent-in_later w writing.is_event differ;
         location_is = writing.location_is;
         is_write = writing.is_write;
       }
 
       -- What an event of the rest writes, it writes in the whole.
-      Writes-of_earlier_execution : (w : MemoryEvent) (l : ℕ)
+      Writes-in_whole : (w : MemoryEvent) (l : ℕ)
           → Writes language test later_execution w l
           → Writes language test whole_execution w l
-      Writes-of_earlier_execution w l writing = record {
-        is_event = IsEvent-of_later w writing.is_event;
+      Writes-in_whole w l writing = record {
+        is_event = IsEvent-in_whole w writing.is_event;
         location_is = writing.location_is;
         is_write = writing.is_write;
       }
 
-      -- What another event writes, it writes in the rest, whatever the initial words.
-      Writes-of_later_words : (w : MemoryEvent) (l : ℕ)
+      -- What an event other than the first writes in the whole, it writes in the rest, each with its own initial words.
+      Writes-in_later_with_words : (w : MemoryEvent) (l : ℕ)
           → Writes language (with_words s.words) whole_execution w l
           → (w ≡ step_event → ⊥)
           → Writes language (with_words mid.words) later_execution w l
-      Writes-of_later_words w l writing differ =
+      Writes-in_later_with_words w l writing differ =
           Writes-with_words later_execution mid.words w l
-          (Writes-of_later w l (Writes-of_words whole_execution s.words w l writing) differ)
+          (Writes-in_later w l (Writes-of_words whole_execution s.words w l writing) differ)
 
-      -- What an event of the rest writes, it writes in the whole, whatever the initial words.
-      Writes-of_earlier_words : (w : MemoryEvent) (l : ℕ)
+      -- What an event of the rest writes, it writes in the whole, each with its own initial words.
+      Writes-in_whole_with_words : (w : MemoryEvent) (l : ℕ)
           → Writes language (with_words mid.words) later_execution w l
           → Writes language (with_words s.words) whole_execution w l
-      Writes-of_earlier_words w l writing =
+      Writes-in_whole_with_words w l writing =
           Writes-with_words whole_execution s.words w l
-          (Writes-of_earlier_execution w l (Writes-of_words later_execution mid.words w l writing))
+          (Writes-in_whole w l (Writes-of_words later_execution mid.words w l writing))
 
       -- ---- what it says of its event, and of the others
 
@@ -504,28 +506,29 @@ module _ {S : Type 0} {language : Language S} {test : Test S} (well_scoped : IsW
       read_first : whole_execution.read step_event ≡ word_found
       read_first = pick-if_holds (decided_event_equal step_event step_event) word_found (later_execution.read step_event) refl
 
-      -- The first event reads from no event, so it reads an initial word.
+      -- The first event has no source.
       rf_first : (r : MemoryEvent) → r ≡ step_event → whole_execution.rf r ≡ None
-      rf_first r same = pick-if_holds (decided_event_equal r step_event) None (from_it r (later_execution.rf r)) same
+      rf_first r same = pick-if_holds (decided_event_equal r step_event) None (source_with_first r (later_execution.rf r)) same
 
       -- Each event but the first reads from its source in the rest, or from the first event.
-      rf_other : (r : MemoryEvent) → (r ≡ step_event → ⊥) → whole_execution.rf r ≡ from_it r (later_execution.rf r)
-      rf_other r differ = pick-if_fails (decided_event_equal r step_event) None (from_it r (later_execution.rf r)) differ
+      rf_other : (r : MemoryEvent) → (r ≡ step_event → ⊥) → whole_execution.rf r ≡ source_with_first r (later_execution.rf r)
+      rf_other r differ =
+          pick-if_fails (decided_event_equal r step_event) None (source_with_first r (later_execution.rf r)) differ
 
-      -- A read that has a source in the rest has this source.
+      -- An event other than the first that has a source in the rest has this source in the whole.
       rf_some : (r v : MemoryEvent) → (r ≡ step_event → ⊥) → later_execution.rf r ≡ Some v → whole_execution.rf r ≡ Some v
-      rf_some r v differ source_is = rf_other r differ ∙ ap (from_it r) source_is
+      rf_some r v differ source_is = rf_other r differ ∙ ap (source_with_first r) source_is
 
       -- A read without a source in the rest reads from the first event, if that writes its location.
-      rf_it : (r : MemoryEvent) (l : ℕ)
+      rf_from_first : (r : MemoryEvent) (l : ℕ)
           → (r ≡ step_event → ⊥)
           → later_execution.rf r ≡ None
           → location language test r ≡ Some l
           → WritesHere l
           → whole_execution.rf r ≡ Some step_event
-      rf_it r l differ source_is location_is here =
+      rf_from_first r l differ source_is location_is here =
           rf_other r differ
-          ∙ (ap (from_it r) source_is
+          ∙ (ap (source_with_first r) source_is
           ∙ pick-if_holds (exists_WritesHere-decidable (location language test r)) (Some step_event) None
           (l, (location_is, here)))
 
@@ -538,7 +541,7 @@ module _ {S : Type 0} {language : Language S} {test : Test S} (well_scoped : IsW
           → whole_execution.rf r ≡ None
       rf_none r l differ source_is location_is not =
           rf_other r differ
-          ∙ (ap (from_it r) source_is
+          ∙ (ap (source_with_first r) source_is
           ∙ pick-if_fails (exists_WritesHere-decidable (location language test r)) (Some step_event) None
           (λ h. not (subst WritesHere (same_Some h.0 l (sym h.1.0 ∙ location_is)) h.1.1)))
 
@@ -554,7 +557,7 @@ module _ {S : Type 0} {language : Language S} {test : Test S} (well_scoped : IsW
       ThreadExecutesTo-own_thread : ThreadExecutesTo language whole_execution t (thread_code test.threads t)
           (step_position ∷ thread_code later_execution.paths t) step.thread o
       ThreadExecutesTo-own_thread =
-          let rest = later.threads t next get-next_thread in
+          let rest = later.threads t next slice_get-next_thread in
           record {
             end = rest.end;
             executes = record {
@@ -628,7 +631,7 @@ module _ {S : Type 0} {language : Language S} {test : Test S} (well_scoped : IsW
             (sym event_location ∙ (ap (location language test) (sym same_event) ∙ reading.location_is))))
         | inr events_differ ↦
             IsReadFrom-by_source events_differ (later_execution.rf r) refl
-            (later.rf r l (Reads-of_later r l reading events_differ))
+            (later.rf r l (Reads-in_later r l reading events_differ))
       ]
         where
           -- By the source that the read has in the rest of the execution.
@@ -639,13 +642,13 @@ module _ {S : Type 0} {language : Language S} {test : Test S} (well_scoped : IsW
               → IsReadFrom language (with_words s.words) whole_execution r l (whole_execution.rf r)
           IsReadFrom-by_source differ (Some v) source_is is =
               subst (IsReadFrom language (with_words s.words) whole_execution r l) (sym (rf_some r v differ source_is)) (record {
-                write = Writes-of_earlier_words v l is.write;
+                write = Writes-in_whole_with_words v l is.write;
                 word_is = read_other r differ ∙ (is.word_is ∙ sym (written_other v (ne_first_event v is.write.is_event)));
               })
           IsReadFrom-by_source differ None source_is is = elim (WritesHere-decidable l) [
             | inl here ↦
                 subst (IsReadFrom language (with_words s.words) whole_execution r l)
-                (sym (rf_it r l differ source_is reading.location_is here)) (record {
+                (sym (rf_from_first r l differ source_is reading.location_is here)) (record {
                   write = record { is_event = is_event; location_is = here.0; is_write = here.1 };
                   word_is = read_other r differ ∙ (is ∙ (word_left-at_written l here ∙ sym written_first));
                 })
@@ -655,7 +658,7 @@ module _ {S : Type 0} {language : Language S} {test : Test S} (well_scoped : IsW
                 (read_other r differ ∙ (is ∙ word_unchanged-elsewhere l not))
           ]
 
-      -- Different writes have different ranks in coherence order.
+      -- Two writes to one location with the same index in coherence order are equal.
       co-injective : (w v : MemoryEvent) (l : ℕ)
           → Writes language test whole_execution w l
           → Writes language test whole_execution v l
@@ -669,7 +672,7 @@ module _ {S : Type 0} {language : Language S} {test : Test S} (well_scoped : IsW
         | inr events_differ ↦ elim (decided_event_equal v step_event) [
           | inl same_event ↦ absurd (omega (arith, same, co_other w events_differ, co_first v same_event))
           | inr nv ↦
-              later.co w v l (Writes-of_later w l ww events_differ) (Writes-of_later v l wv nv)
+              later.co w v l (Writes-in_later w l ww events_differ) (Writes-in_later v l wv nv)
               (omega (arith, same, co_other w events_differ, co_other v nv))
         ]
       ]
@@ -683,7 +686,7 @@ module _ {S : Type 0} {language : Language S} {test : Test S} (well_scoped : IsW
             record { is_event = is_event; location_is = here.0; is_write = here.1 },
             (λ f wf. elim (decided_event_equal f step_event) [
               | inl same_event ↦ omega (arith, co_first f same_event, co_first step_event refl)
-              | inr events_differ ↦ absurd (never f (Writes-of_later_words f l wf events_differ))
+              | inr events_differ ↦ absurd (never f (Writes-in_later_with_words f l wf events_differ))
             ]),
             is ∙ (word_left-at_written l here ∙ sym written_first),
           )
@@ -693,21 +696,21 @@ module _ {S : Type 0} {language : Language S} {test : Test S} (well_scoped : IsW
                 ap (location language test) (sym same_event) ∙ wf.location_is,
                 ap (operation_is language test writes) (sym same_event) ∙ wf.is_write,
               )
-              | inr events_differ ↦ never f (Writes-of_later_words f l wf events_differ)
+              | inr events_differ ↦ never f (Writes-in_later_with_words f l wf events_differ)
             ]),
             is ∙ word_unchanged-elsewhere l not,
           )
         ]
         | inr (v, writing, most, is) ↦ inr (
           v,
-          Writes-of_earlier_words v l writing,
+          Writes-in_whole_with_words v l writing,
           (λ f wf. elim (decided_event_equal f step_event) [
             | inl same_event ↦ omega (arith, co_first f same_event)
             | inr events_differ ↦ omega (
               arith,
               co_other f events_differ,
               co_other v (ne_first_event v writing.is_event),
-              most f (Writes-of_later_words f l wf events_differ),
+              most f (Writes-in_later_with_words f l wf events_differ),
             )
           ]),
           is ∙ sym (written_other v (ne_first_event v writing.is_event)),
@@ -723,62 +726,62 @@ module _ {S : Type 0} {language : Language S} {test : Test S} (well_scoped : IsW
       ]
       no_ScOrder-to_first a (inr (inl rf)) = none-some a (sym (rf_first step_event refl) ∙ rf.source_is)
       no_ScOrder-to_first a (inr (inr (inl co))) = omega (arith, co.co_lt, co_first step_event refl)
-      no_ScOrder-to_first a (inr (inr (inr fr))) = IsReadFrom-by_source (later_execution.rf a) refl
+      no_ScOrder-to_first a (inr (inr (inr fr))) = not-read_before_first (later_execution.rf a) refl
         where
           -- By the source that the event has in the rest of the execution.
-          IsReadFrom-by_source : (q : Option MemoryEvent) → later_execution.rf a ≡ q → ⊥
-          IsReadFrom-by_source (Some v) source_is =
+          not-read_before_first : (q : Option MemoryEvent) → later_execution.rf a ≡ q → ⊥
+          not-read_before_first (Some v) source_is =
               omega (arith, fr.source_before v (rf_some a v fr.events_differ source_is), co_first step_event refl)
-          IsReadFrom-by_source None source_is = omega (
+          not-read_before_first None source_is = omega (
             arith,
-            fr.source_before step_event
-                (rf_it a fr.on_location fr.events_differ source_is fr.read.location_is (fr.write.location_is, fr.write.is_write)),
+            fr.source_before step_event (rf_from_first a fr.on_location fr.events_differ source_is fr.read.location_is
+                (fr.write.location_is, fr.write.is_write)),
             co_first step_event refl,
           )
 
       -- Of two events that are not the first, one precedes the other only if it does so in the rest.
-      ScOrder-of_later : (a b : MemoryEvent)
+      ScOrder-in_later : (a b : MemoryEvent)
           → (a ≡ step_event → ⊥)
           → (b ≡ step_event → ⊥)
           → ScOrder language test whole_execution a b
           → ScOrder language test later_execution a b
-      ScOrder-of_later a b na nb (inl po) = inl (record {
+      ScOrder-in_later a b na nb (inl po) = inl (record {
         first_event = IsEvent-in_later a po.first_event na;
         second_event = IsEvent-in_later b po.second_event nb;
         same_thread = po.same_thread;
         position_lt = po.position_lt;
       })
-      ScOrder-of_later a b na nb (inr (inl rf)) = inr (inl (record {
+      ScOrder-in_later a b na nb (inr (inl rf)) = inr (inl (record {
         on_location = rf.on_location;
-        write = Writes-of_later a rf.on_location rf.write na;
-        read = Reads-of_later b rf.on_location rf.read nb;
-        source_is = IsReadFrom-by_source (later_execution.rf b) refl;
+        write = Writes-in_later a rf.on_location rf.write na;
+        read = Reads-in_later b rf.on_location rf.read nb;
+        source_is = source_in_later (later_execution.rf b) refl;
       }))
         where
           -- The source in the rest is the source in the whole, since that is not the first event.
-          IsReadFrom-by_source : (q : Option MemoryEvent) → later_execution.rf b ≡ q → later_execution.rf b ≡ Some a
-          IsReadFrom-by_source (Some v) source_is = source_is ∙ (sym (rf_some b v nb source_is) ∙ rf.source_is)
-          IsReadFrom-by_source None source_is = elim (WritesHere-decidable rf.on_location) [
+          source_in_later : (q : Option MemoryEvent) → later_execution.rf b ≡ q → later_execution.rf b ≡ Some a
+          source_in_later (Some v) source_is = source_is ∙ (sym (rf_some b v nb source_is) ∙ rf.source_is)
+          source_in_later None source_is = elim (WritesHere-decidable rf.on_location) [
             | inl here ↦
                 absurd (na (same_Some a step_event
-                (sym rf.source_is ∙ rf_it b rf.on_location nb source_is rf.read.location_is here)))
+                (sym rf.source_is ∙ rf_from_first b rf.on_location nb source_is rf.read.location_is here)))
             | inr not ↦ absurd (none-some a (sym (rf_none b rf.on_location nb source_is rf.read.location_is not) ∙ rf.source_is))
           ]
-      ScOrder-of_later a b na nb (inr (inr (inl co))) = inr (inr (inl (record {
+      ScOrder-in_later a b na nb (inr (inr (inl co))) = inr (inr (inl (record {
         on_location = co.on_location;
-        first_write = Writes-of_later a co.on_location co.first_write na;
-        second_write = Writes-of_later b co.on_location co.second_write nb;
+        first_write = Writes-in_later a co.on_location co.first_write na;
+        second_write = Writes-in_later b co.on_location co.second_write nb;
         co_lt = omega (arith, co.co_lt, co_other a na, co_other b nb);
       })))
-      ScOrder-of_later a b na nb (inr (inr (inr fr))) = inr (inr (inr (record {
+      ScOrder-in_later a b na nb (inr (inr (inr fr))) = inr (inr (inr (record {
         on_location = fr.on_location;
-        read = Reads-of_later a fr.on_location fr.read na;
-        write = Writes-of_later b fr.on_location fr.write nb;
+        read = Reads-in_later a fr.on_location fr.read na;
+        write = Writes-in_later b fr.on_location fr.write nb;
         events_differ = fr.events_differ;
         source_before = λ v is_some.
             (let is : IsReadFrom language (with_words mid.words) later_execution a fr.on_location (Some v) =
             subst (IsReadFrom language (with_words mid.words) later_execution a fr.on_location) is_some
-            (later.rf a fr.on_location (Reads-of_later a fr.on_location fr.read na)) in
+            (later.rf a fr.on_location (Reads-in_later a fr.on_location fr.read na)) in
             omega (
               arith,
               fr.source_before v (rf_some a v na is_some),
@@ -797,7 +800,7 @@ module _ {S : Type 0} {language : Language S} {test : Test S} (well_scoped : IsW
             arith,
             rank-of_other a na,
             rank-of_other b events_differ,
-            later.increases a b (ScOrder-of_later a b na events_differ r),
+            later.increases a b (ScOrder-in_later a b na events_differ r),
           )
         ]
       ]
@@ -839,10 +842,10 @@ module _ {S : Type 0} {language : Language S} {test : Test S} (well_scoped : IsW
     thread_count = length-map test.head.init_regs first_state ∙ (well_scoped.head.regs ∙ sym well_scoped.as_many);
     size = well_scoped.head.words;
     positions_in_range = λ t th at.
-        (let mapped = get-map first_state test.head.init_regs t th at in
+        (let mapped = slice_get-map_inv first_state test.head.init_regs t th at in
         omega (arith, ap (λ (z : ThreadState). z.position) mapped.2));
     register_counts = λ t th at.
-        (let mapped = get-map first_state test.head.init_regs t th at in
+        (let mapped = slice_get-map_inv first_state test.head.init_regs t th at in
         ap (λ (z : ThreadState). length z.regs) mapped.2
         ∙ row_length test.head.init_regs t mapped.0 well_scoped.head.register_counts mapped.1);
   }
@@ -868,7 +871,7 @@ module _ {S : Type 0} {language : Language S} {test : Test S} (well_scoped : IsW
           as_many = later.path_count;
           threads = λ t l.
               (let found = slice_get-in_range (start language test).threads t (omega (arith, l, IsGood-start.thread_count)) in
-              let from = get-map first_state test.head.init_regs t found.0 found.1 in
+              let from = slice_get-map_inv first_state test.head.init_regs t found.0 found.1 in
               let regs : slice_index_or test.head.init_regs t [] ≡ from.0 =
               get_or_from_slice_get test.head.init_regs t from.0 [] from.1 in
               let goes = later.threads t found.0 found.1 in

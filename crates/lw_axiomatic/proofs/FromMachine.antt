@@ -10,23 +10,24 @@ use Rattle.lw_axiomatic.proofs.Common.{nat_lt, option_map_or, cases_Bool, cases_
 use Rattle.lw_axiomatic.proofs.Common.{cond-false, and_from, and_parts, or_cases, or_left, or_right, lt-ltb}
 use Rattle.lw_axiomatic.proofs.Common.{ltb-true, nat_tests, length-map, length-set, none-some, same_Some}
 use Rattle.lw_axiomatic.proofs.Common.{slice_get_within, get_or_from_slice_get, slice_get-get_or}
-use Rattle.lw_axiomatic.proofs.Common.{slice_get-map, HasOutcomeShape, thread_code, get-set_same}
-use Rattle.lw_axiomatic.proofs.Common.{get-set_other, slice_get-in_range, take_drop-at, get-map}
-use Rattle.lw_axiomatic.proofs.Common.{list_all_zip-at_index, is_same_location, Instr, Operation, writes}
-use Rattle.lw_axiomatic.proofs.Common.{location_of, IsSuccessor, x86_language, x86_operation, IsFlowSuccessor}
-use Rattle.lw_axiomatic.proofs.Common.{X86Test, flat_memory, index_in, IsOrder, index_in-order_split, Item}
-use Rattle.lw_axiomatic.proofs.Common.{IsFlowSuccessor-in_range, Contains-map, Contains-map_inv}
-use Rattle.lw_axiomatic.proofs.Common.{Contains-head, Contains-tail, Contains-cons, not-Contains-nil}
-use Rattle.lw_axiomatic.proofs.Common.{IsMember, item, item_slot-increasing, IsItemOnPath}
-use Rattle.lw_axiomatic.proofs.Common.{IsItemOnPath-of_member, IsAscendingFrom, IsAscendingFrom-lower_bound}
-use Rattle.lw_axiomatic.proofs.Common.{IsAscendingFrom-flow_path, MachineState, Processor, initial_processor}
-use Rattle.lw_axiomatic.proofs.Common.{initial_machine_state, machine_outcome, is_final, has_terminated}
-use Rattle.lw_axiomatic.proofs.Common.{ItemsRunTo, X86ItemTransition, x86_item_system, ItemStep}
-use Rattle.lw_axiomatic.proofs.Common.{ItemStep-of_transition, AllBuffersHoldStores-start}
-use Rattle.lw_axiomatic.proofs.Common.{AreWaitingStores-start, ThreadState, first_state, state_after}
-use Rattle.lw_axiomatic.proofs.Common.{word_written, MemoryEvent, Execution, reads, operation_is, location}
-use Rattle.lw_axiomatic.proofs.Common.{operation_at, IsEvent, Reads, Writes, ThreadExecutes, IsReadFrom}
-use Rattle.lw_axiomatic.proofs.Common.{IsLast, IsCandidate, IsBefore, IsNewest, HasConsistentTimes}
+use Rattle.lw_axiomatic.proofs.Common.{slice_get-map, HasOutcomeShape, thread_code, slice_get-slice_set_same}
+use Rattle.lw_axiomatic.proofs.Common.{slice_get-slice_set_other, slice_get-in_range, take_drop-at}
+use Rattle.lw_axiomatic.proofs.Common.{slice_get-map_inv, list_all_zip-at_index, is_same_location, Instr}
+use Rattle.lw_axiomatic.proofs.Common.{Operation, writes, location_of, IsSuccessor, x86_language}
+use Rattle.lw_axiomatic.proofs.Common.{x86_operation, IsFlowSuccessor, X86Test, flat_memory, index_in}
+use Rattle.lw_axiomatic.proofs.Common.{IsOrder, index_in-order_split, Item, IsFlowSuccessor-in_range}
+use Rattle.lw_axiomatic.proofs.Common.{Contains-map, Contains-map_inv, Contains-head, Contains-tail}
+use Rattle.lw_axiomatic.proofs.Common.{Contains-cons, not-Contains-nil, IsMember, item, item_slot-increasing}
+use Rattle.lw_axiomatic.proofs.Common.{IsItemOnPath, IsItemOnPath-of_member, IsAscendingFrom}
+use Rattle.lw_axiomatic.proofs.Common.{IsAscendingFrom-lower_bound, IsAscendingFrom-flow_path, MachineState}
+use Rattle.lw_axiomatic.proofs.Common.{Processor, initial_processor, initial_machine_state, machine_outcome}
+use Rattle.lw_axiomatic.proofs.Common.{is_final, has_terminated, ItemsRunTo, X86ItemTransition}
+use Rattle.lw_axiomatic.proofs.Common.{x86_item_system, ItemStep, ItemStep-of_transition}
+use Rattle.lw_axiomatic.proofs.Common.{AllBuffersHoldStores-start, AreWaitingStores-start, ThreadState}
+use Rattle.lw_axiomatic.proofs.Common.{first_state, state_after, word_written, MemoryEvent, Execution, reads}
+use Rattle.lw_axiomatic.proofs.Common.{operation_is, location, operation_at, IsEvent, Reads, Writes}
+use Rattle.lw_axiomatic.proofs.Common.{ThreadExecutes, IsReadFrom, IsLast, IsCandidate, IsBefore, IsNewest}
+use Rattle.lw_axiomatic.proofs.Common.{HasConsistentTimes}
 use Rattle.lw_axiomatic.proofs.EventLists.{event}
 use Rattle.lw_axiomatic.proofs.StepCases.{StepCase, thread_of, word_seen, word_for, word_for-reads}
 use Rattle.lw_axiomatic.proofs.Paths.{IsSuccessor-state_after}
@@ -124,15 +125,15 @@ module _ (time : MemoryEvent → ℕ) (test : MemoryEvent → Bool) where
       ]
 
 -- A number in a list is at the index that `index_in` finds.
-get-index_in : (xs : List ℕ) (i : ℕ) → index_in xs i < length xs → slice_get xs (index_in xs i) ≡ Some i
-get-index_in [] i l = absurd (omega (arith, l))
-get-index_in (x ∷ xs) i l = elim (cases_eq x i) [
+slice_get-index_in : (xs : List ℕ) (i : ℕ) → index_in xs i < length xs → slice_get xs (index_in xs i) ≡ Some i
+slice_get-index_in [] i l = absurd (omega (arith, l))
+slice_get-index_in (x ∷ xs) i l = elim (cases_eq x i) [
   | inl e ↦
       (let here : index_in (x ∷ xs) i ≡ 0 = cond-true (x == i) 0 (suc (index_in xs i)) (eq-eqb x i e) in
       ap (slice_get (x ∷ xs)) here ∙ ap Some e)
   | inr ne ↦
       (let there : index_in (x ∷ xs) i ≡ suc (index_in xs i) = grind (arith, nat_tests) in
-      ap (slice_get (x ∷ xs)) there ∙ get-index_in xs i (omega (arith, l, there)))
+      ap (slice_get (x ∷ xs)) there ∙ slice_get-index_in xs i (omega (arith, l, there)))
 ]
 
 module _ {test : X86Test} {paths : List (List ℕ)} (given : KeptOrder test paths) (end : MachineState (List ℕ)) where
@@ -164,19 +165,19 @@ module _ {test : X86Test} {paths : List (List ℕ)} (given : KeptOrder test path
   states_of (a ∷ done_items) s e ran zero = s
   states_of (a ∷ done_items) s e ran (suc k) = states_of done_items ran.0 e ran.2 k
 
-  -- Before the first item it is the start.
+  -- The state after no item is the start of the run.
   states_of-first : (done_items : List Item) (s e : MachineState (List ℕ)) (ran : Ran done_items s e)
       → states_of done_items s e ran 0 ≡ s
   states_of-first [] s e ran = refl
   states_of-first (a ∷ done_items) s e ran = refl
 
-  -- After the last item it is the end.
+  -- The state after all items is the end of the run.
   states_of-last : (done_items : List Item) (s e : MachineState (List ℕ)) (ran : Ran done_items s e)
       → states_of done_items s e ran (length done_items) ≡ e
   states_of-last [] s e ran = sym ran
   states_of-last (a ∷ done_items) s e ran = states_of-last done_items ran.0 e ran.2
 
-  -- From each state to the next the run executes the item between.
+  -- From the state after k items to that after `k + 1` the run executes the item at index k.
   X86ItemTransition-states_of : (done_items : List Item) (s e : MachineState (List ℕ)) (ran : Ran done_items s e) (k : ℕ)
       (a : Item)
       → slice_get done_items k ≡ Some a
@@ -235,7 +236,8 @@ module _ {test : X86Test} {paths : List (List ℕ)} (given : KeptOrder test path
     Contains-events : (w : MemoryEvent) → IsEvent run_execution w → Contains events w
     Contains-events w is_event =
         let p = Placed-step given w is_event in
-        let is_there : Contains all_items (item w.thread w.position false) = (p.index, p.below, places.get-of_Placed given p) in
+        let is_there : Contains all_items (item w.thread w.position false) =
+        (p.index, p.below, places.slice_index_or-of_Placed given p) in
         Contains-map (λ (a : Item). event a.thread a.position) all_items (item w.thread w.position false) is_there
 
     -- Each event of the list is one of the execution.
@@ -386,11 +388,11 @@ module _ {test : X86Test} {paths : List (List ℕ)} (given : KeptOrder test path
           ItemStep-of_transition test.threads turn_thread turn_position (nth_item ta.now_at.index).is_drain (state_at k)
           (state_at (suc k)) ta.out
 
-      -- The item has its turn at k.
+      -- The item that has its turn at k has the turn k.
       item_turn : turn given (nth_item ta.now_at.index) ≡ k
       item_turn = turn-of_number given ta.now_at.index ta.now_at.below ∙ ta.now_at.index_is
 
-      -- If it is a step, its event is done now.
+      -- If the item that has its turn at k is a step, its event is done at k.
       done_at_turn : (nth_item ta.now_at.index).is_drain ≡ false → done_index (event turn_thread turn_position) ≡ k
       done_at_turn f = ap (λ b. turn given (item turn_thread turn_position b)) (sym f) ∙ item_turn
 
@@ -399,7 +401,7 @@ module _ {test : X86Test} {paths : List (List ℕ)} (given : KeptOrder test path
           ≡ Some (x86_operation item_on_path.statement)
       operation_at_turn = ap (option_map x86_operation) item_on_path.at
 
-      -- The event reads the word that the processor finds now.
+      -- If the item that has its turn at k is a step, its event reads the word that its processor finds then.
       read_at_turn : (nth_item ta.now_at.index).is_drain ≡ false
           → run_execution.read (event turn_thread turn_position)
           ≡ word_for (x86_operation item_on_path.statement) item_step.old.buffer (state_at k).memory
@@ -410,7 +412,7 @@ module _ {test : X86Test} {paths : List (List ℕ)} (given : KeptOrder test path
           ∙ (ap (λ q. read_of q (slice_get (state_at k).processors turn_thread) (state_at k).memory) operation_at_turn
           ∙ ap (λ q. read_of (Some (x86_operation item_on_path.statement)) q (state_at k).memory) item_step.was)
 
-      -- The event writes the word that the processor writes now.
+      -- If the item that has its turn at k is a step, its event writes the word that its processor writes then.
       written_at_turn : (nth_item ta.now_at.index).is_drain ≡ false
           → run_execution.written (event turn_thread turn_position)
           ≡ word_written (x86_operation item_on_path.statement) item_step.old.regs
@@ -427,7 +429,7 @@ module _ {test : X86Test} {paths : List (List ℕ)} (given : KeptOrder test path
         → slice_get (map initial_processor test.head.init_regs) t ≡ Some p
         → p.buffer ≡ []
     initial_buffer_empty t p found_at =
-        ap (λ (q : Processor). q.buffer) (get-map initial_processor test.head.init_regs t p found_at).2
+        ap (λ (q : Processor). q.buffer) (slice_get-map_inv initial_processor test.head.init_regs t p found_at).2
 
     -- The invariant holds at the start.
     IsInv-start : IsInv 0 (λ t. []) (initial_machine_state test test.head.init_words)
@@ -464,7 +466,8 @@ module _ {test : X86Test} {paths : List (List ℕ)} (given : KeptOrder test path
         let p : Placed given (step_of given e) = Placed-step given e reading.is_event in
         let k_low : index_in given.order p.index < length given.order =
         omega (arith, number_in_order given p.index p.below, order_length given) in
-        IsReadFrom-of_item p (TurnAt-get (index_in given.order p.index) p.index (get-index_in given.order p.index k_low)) k_low
+        IsReadFrom-of_item p (TurnAt-get (index_in given.order p.index) p.index (slice_get-index_in given.order p.index k_low))
+        k_low
       where
         -- The read has the word of its source, shown at the turn of the read's step.
         IsReadFrom-of_item : (p : Placed given (step_of given e)) (ta : TurnAt (index_in given.order p.index))
@@ -533,7 +536,7 @@ module _ {test : X86Test} {paths : List (List ℕ)} (given : KeptOrder test path
       | inr ne ↦
           (let same : slice_get (state_at (suc k)).processors t ≡ slice_get (state_at k).processors t =
           ap (λ (z : MachineState (List ℕ)). slice_get z.processors t) (item_step k ta).state_is
-          ∙ get-set_other (state_at k).processors (nth_item ta.now_at.index).thread t (item_step k ta).new ne in
+          ∙ slice_get-slice_set_other (state_at k).processors (nth_item ta.now_at.index).thread t (item_step k ta).new ne in
           ap thread_of (same_Some q p (sym at_q ∙ (same ∙ at_p))))
       | inl own ↦ elim (cases_Bool (nth_item ta.now_at.index).is_drain) [
         | inr f ↦
@@ -551,8 +554,8 @@ module _ {test : X86Test} {paths : List (List ℕ)} (given : KeptOrder test path
             subst (λ u. slice_get (state_at (suc k)).processors u ≡ Some (item_step k ta).new) own
             (ap (λ (z : MachineState (List ℕ)). slice_get z.processors (nth_item ta.now_at.index).thread)
             (item_step k ta).state_is
-            ∙ get-set_same (state_at k).processors (nth_item ta.now_at.index).thread (item_step k ta).new (item_step k ta).old
-            (item_step k ta).was) in
+            ∙ slice_get-slice_set_same (state_at k).processors (nth_item ta.now_at.index).thread (item_step k ta).new
+            (item_step k ta).old (item_step k ta).was) in
             let new_is : (item_step k ta).new ≡ q = same_Some (item_step k ta).new q (sym new_at ∙ at_q) in
             ap thread_of (sym new_is) ∙ (ap thread_of drained.processor_is ∙ ap thread_of old_is))
       ]
@@ -636,35 +639,35 @@ module _ {test : X86Test} {paths : List (List ℕ)} (given : KeptOrder test path
         instruction_at_turn =
             ap₂ (λ u h. slice_get (thread_code test.threads u) h) (sym item_thread) (sym item_position) ∙ (item_on_path m ta).at
 
-        -- The processor before it.
-        get-old_processor : slice_get (state_at m).processors t ≡ Some (item_step m ta).old
-        get-old_processor = ap (slice_get (state_at m).processors) (sym item_thread) ∙ (item_step m ta).was
+        -- Before the step thread t has the processor `old` of the step.
+        slice_get-old_processor : slice_get (state_at m).processors t ≡ Some (item_step m ta).old
+        slice_get-old_processor = ap (slice_get (state_at m).processors) (sym item_thread) ∙ (item_step m ta).was
 
-        -- The processor after it.
-        get-new_processor : slice_get (state_at (suc m)).processors t ≡ Some (item_step m ta).new
-        get-new_processor =
+        -- After the step thread t has the processor `new` of the step.
+        slice_get-new_processor : slice_get (state_at (suc m)).processors t ≡ Some (item_step m ta).new
+        slice_get-new_processor =
             ap (slice_get (state_at (suc m)).processors) (sym item_thread)
             ∙ (ap (λ (z : MachineState (List ℕ)). slice_get z.processors (nth_item ta.now_at.index).thread)
             (item_step m ta).state_is
-            ∙ get-set_same (state_at m).processors (nth_item ta.now_at.index).thread (item_step m ta).new (item_step m ta).old
-            (item_step m ta).was)
+            ∙ slice_get-slice_set_same (state_at m).processors (nth_item ta.now_at.index).thread (item_step m ta).new
+            (item_step m ta).old (item_step m ta).was)
 
         -- The item's event is the next one of the path.
         item_event : event (nth_item ta.now_at.index).thread (nth_item ta.now_at.index).position ≡ event t j
         item_event = ap₂ event item_thread item_position
 
-        -- The event reads the word that the processor finds.
+        -- The event reads the word that the processor finds at the step.
         read_word : run_execution.read (event t j)
             ≡ word_for (x86_operation (item_on_path m ta).statement) (item_step m ta).old.buffer (state_at m).memory
         read_word = ap run_execution.read (sym item_event) ∙ read_at_turn m ta item_is_step
 
         module _ (p : Processor) (unmoved : thread_of (item_step m ta).old ≡ thread_of p) where
-          -- The thread before it is at this position.
+          -- Before the step the thread is at the position j.
           thread_position : (thread_of p).position ≡ j
           thread_position =
               ap (λ (z : ThreadState). z.position) (sym unmoved) ∙ ((item_step m ta).position_is item_is_step ∙ item_position)
 
-          -- The event writes what the thread's registers and its word give.
+          -- The event writes the word that the operation gives for the thread's registers and the word that it reads.
           written_word : run_execution.written (event t j)
               ≡ word_written (x86_operation (item_on_path m ta).statement) (thread_of p).regs (run_execution.read (event t j))
           written_word =
@@ -745,7 +748,7 @@ module _ {test : X86Test} {paths : List (List ℕ)} (given : KeptOrder test path
               let low_m : index_in given.order i < length given.order =
               omega (arith, number_in_order given i in_range, order_length given) in
               let ta : TurnAt (index_in given.order i) =
-              TurnAt-get (index_in given.order i) i (get-index_in given.order i low_m) in
+              TurnAt-get (index_in given.order i) i (slice_get-index_in given.order i low_m) in
               let this : nth_item ta.now_at.index ≡ item t j false =
               ap nth_item (places.same_number_at given ta.now_at.index i ta.now_at.below in_range ta.now_at.index_is) ∙ is in
               let unmoved : thread_of (item_step (index_in given.order i) ta).old ≡ thread_of p =
@@ -753,11 +756,13 @@ module _ {test : X86Test} {paths : List (List ℕ)} (given : KeptOrder test path
               (omega (arith, low_m)) (λ h on from to. (elim (all h on from) [
                 | inl e ↦ omega (arith, to, ap (λ g. done_index (event t g)) e, turn_is_i)
                 | inr there ↦ omega (arith, to, done_before_rest h there, turn_is_i)
-              ])) p (item_step (index_in given.order i) ta).old at_p (get-old_processor j (index_in given.order i) ta this) in
+              ])) p (item_step (index_in given.order i) ta).old at_p
+              (slice_get-old_processor j (index_in given.order i) ta this) in
               let rest_goes =
               further (suc (index_in given.order i)) (suc j) (item_step (index_in given.order i) ta).new (omega (arith, low_m))
-              (get-new_processor j (index_in given.order i) ta this) (new_within j (index_in given.order i) ta this p unmoved)
-              up.1 (λ h there. (omega (arith, done_before_rest h there, turn_is_i), (later h (inr there)).1))
+              (slice_get-new_processor j (index_in given.order i) ta this)
+              (new_within j (index_in given.order i) ta this p unmoved) up.1
+              (λ h there. (omega (arith, done_before_rest h there, turn_is_i), (later h (inr there)).1))
               (λ h on from. elim (all h on (omega (arith, from, turn_is_i, (later j (inl refl)).0))) [
                 | inl e ↦ absurd (omega (arith, from, ap (λ g. done_index (event t g)) e, turn_is_i))
                 | inr there ↦ there
@@ -796,7 +801,7 @@ module _ {test : X86Test} {paths : List (List ℕ)} (given : KeptOrder test path
           ap (λ (z : MachineState (List ℕ)). slice_get z.processors t)
           (sym (states_of-first (map nth_item given.order) (initial_machine_state test test.head.init_words) end ran))
           ∙ found.1 in
-          let mapped = get-map initial_processor test.head.init_regs t found.0 at_start in
+          let mapped = slice_get-map_inv initial_processor test.head.init_regs t found.0 at_start in
           let regs : slice_index_or test.head.init_regs t [] ≡ mapped.0 =
           get_or_from_slice_get test.head.init_regs t mapped.0 [] mapped.1 in
           let first : thread_of found.0 ≡ first_state (slice_index_or test.head.init_regs t []) =

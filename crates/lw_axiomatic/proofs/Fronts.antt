@@ -97,11 +97,11 @@ module _ (passes : ℕ → ℕ → Bool) where
   abbrev no_paths : List (List ℕ)
   no_paths = []
 
-  -- Each of no paths is empty.
+  -- The empty list of paths has the empty path for each thread.
   no_paths-if_empty : (k : ℕ) → thread_code no_paths k ≡ []
   no_paths-if_empty k = get_or_past no_paths k [] (omega arith)
 
-  -- The front at k is that of the path at k, which is thread u's.
+  -- If the first path is thread t's, and u is `t + k`, the front at k is that of the path at k by the test of thread u.
   pub fronts-get : (t k u : ℕ) (paths : List (List ℕ))
       → u ≡ t + k
       → thread_code (fronts t paths) k ≡ front (passes u) (thread_code paths k)
@@ -109,7 +109,7 @@ module _ (passes : ℕ → ℕ → Bool) where
   fronts-get t zero u (path ∷ paths) e = let same : t ≡ u = omega (arith, e) in ap (λ n. front (passes n) path) same
   fronts-get t (suc k) u (path ∷ paths) e = fronts-get (suc t) k u paths (omega (arith, e))
 
-  -- The tail at k is that of the path at k, which is thread u's.
+  -- If the first path is thread t's, and u is `t + k`, the tail at k is that of the path at k by the test of thread u.
   pub tails-get : (t k u : ℕ) (paths : List (List ℕ))
       → u ≡ t + k
       → thread_code (tails t paths) k ≡ tail (passes u) (thread_code paths k)

@@ -157,7 +157,7 @@ module _ (test : X86Test) (x : Execution) where
         bit-true b.is_second halves.second_is_second,
       )
 
-      -- From-reads increases the doubled ranks.
+      -- If ranks increase along from-reads of events, doubled ranks increase along from-reads of halves.
       doubled_increases-HalvesFr : ((r w : MemoryEvent) → Fr x86_language test x r w → rank r < rank w)
           → (r w : Half)
           → HalvesFr test x r w
@@ -312,7 +312,7 @@ module _ (test : X86Test) (x : Execution) where
     abbrev ghb_rank : Half → ℕ
     ghb_rank = axioms.happens_before.rank
 
-    -- The two halves of one instruction.
+    -- The first half and the last half of a locked instruction are its two halves.
     AreHalves-locked : (e : MemoryEvent)
         → IsEvent x e
         → has_kind is_locked e ≡ true
@@ -325,7 +325,7 @@ module _ (test : X86Test) (x : Execution) where
       second_is_second = locked;
     }
 
-    -- The first half is no later than the last.
+    -- By the ranks of coherence the first half of an event with a location is no later than its last half.
     coherence_rank_first_at_most_last : (e : MemoryEvent) (l : ℕ)
         → IsEvent x e
         → location x86_language test e ≡ Some l
@@ -343,7 +343,7 @@ module _ (test : X86Test) (x : Execution) where
       | inr e_not_locked ↦ omega (arith, ap (λ b. coherence_rank (record { event = e; is_second = b })) e_not_locked)
     ]
 
-    -- The read of an event is no later than its write, in global happens-before.
+    -- By the ranks of global happens-before the first half of an event that reads is no later than its last half.
     ghb_rank_first_at_most_last : (e : MemoryEvent) (l : ℕ)
         → Reads x86_language test x e l
         → ghb_rank (first_half e) ≤ ghb_rank (last_half e)

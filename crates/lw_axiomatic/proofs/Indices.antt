@@ -182,8 +182,9 @@ module _ {test : X86Test} {paths : List (List ℕ)} (given : KeptOrder test path
   paths_length = length-path_assignment x86_language test.threads paths given.assignment
 
   -- An item of the path assignment is read at its number.
-  pub get-of_Placed : {a : Item} (p : Placed a) → slice_index_or items p.index a ≡ a
-  get-of_Placed {a} p = get_or_default items p.index a (record { thread = 0; position = 0; is_drain = false }) p.below ∙ p.item_is
+  pub slice_index_or-of_Placed : {a : Item} (p : Placed a) → slice_index_or items p.index a ≡ a
+  slice_index_or-of_Placed {a} p =
+      get_or_default items p.index a (record { thread = 0; position = 0; is_drain = false }) p.below ∙ p.item_is
 
   -- Each item of the list is a statement on its thread's path, or its drain.
   pub IsItemOnPath-Contains : (a : Item) → Contains items a → IsItemOnPath x86_language test.threads paths a

@@ -23,7 +23,7 @@ module _ {code fenced : List Instr} (fencing : HasInsertedFencesInCode code fenc
     pub found : slice_get fenced index ≡ Some instr
     pub ends : EndsBlock fencing.block code index instr
 
-  -- Each instruction of the longer code is of one of these two kinds.
+  -- Each instruction of the longer code is an inserted MFENCE or one of the shorter code.
   pub IsInsertedFence-or_kept : (index : ℕ) → index < length fenced → IsInsertedFence index ⊎ IsKeptAt index
   IsInsertedFence-or_kept index in_range =
       let i = slice_get-in_range fenced index in_range in IsInsertedFence-or_kept_instruction i.0 i.1 (fencing.each index i.0 i.1)
@@ -48,7 +48,7 @@ module _ {code fenced : List Instr} (fencing : HasInsertedFencesInCode code fenc
     | inr kept ↦ omega (arith, kept.ends.1)
   ]
 
-  -- Nor does it from an index to a later one.
+  -- From an index to a later one in the longer code, or its end, the block does not decrease.
   block-increasing : (index n : ℕ) → index + n ≤ length fenced → fencing.block index ≤ fencing.block (index + n)
   block-increasing index zero within = let same : index + zero ≡ index = omega arith in omega (arith, ap fencing.block same)
   block-increasing index (suc n) within =
@@ -87,7 +87,8 @@ module _ {code fenced : List Instr} (fencing : HasInsertedFencesInCode code fenc
     kept : IsKeptAt index
     number : fencing.block index ≡ k
 
-  -- An index at whose block k has been passed shows where k is.
+  -- If the block of an index of the longer code is above k, the instruction at position k of the shorter code has an index in
+  -- the longer one.
   KeptIndex-below : (k n : ℕ) → n ≤ length fenced → k < fencing.block n → KeptIndex k
   KeptIndex-below k zero within below = absurd (omega (arith, fencing.first))
   KeptIndex-below k (suc n) within below = elim (IsInsertedFence-or_kept n (omega arith)) [
@@ -116,7 +117,7 @@ module _ {code fenced : List Instr} (fencing : HasInsertedFencesInCode code fenc
   pub kept_index : ℕ → ℕ
   kept_index k = kept_index_by k (cases_lt k (length code))
 
-  -- At that index the longer code has the instruction.
+  -- The index that is found for a position k of the shorter code has an instruction of it, and its block is k.
   kept_index_by-kept : (k : ℕ) (d : (k < length code) ⊎ (length code ≤ k))
       → k < length code
       → IsKeptAt (kept_index_by k d) × (fencing.block (kept_index_by k d) ≡ k)

@@ -29,7 +29,7 @@ level-le width (suc a) (suc b) le = omega (arith, level-le width a b (omega (ari
 pub level-lt : (width a b : ℕ) → a < b → level width a + width ≤ level width b
 level-lt width a b less = omega (arith, level-le width (suc a) b (omega (arith, less)), level-suc width a)
 
--- What begins no higher than a number of a level is no higher a level.
+-- If level a begins at or below a number of level b, a is at most b.
 pub level-below : (width a b s : ℕ) → s < width → level width a ≤ level width b + s → a ≤ b
 level-below width a b s low le = elim (cases_order a b) [
   | inl same ↦ omega (arith, same)
@@ -37,7 +37,7 @@ level-below width a b s low le = elim (cases_order a b) [
   | inr (inr more) ↦ absurd (omega (arith, level-lt width b a more, low, le))
 ]
 
--- A number has one level, and one place in it.
+-- A number is in one level only, and at one place in it.
 pub level-unique : (width a b s t : ℕ) → s < width → t < width → level width a + s ≡ level width b + t → (a ≡ b) × (s ≡ t)
 level-unique width a b s t low lower same = elim (cases_order a b) [
   | inl one ↦ (one, omega (arith, same, ap (level width) one))

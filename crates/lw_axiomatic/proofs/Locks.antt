@@ -10,7 +10,7 @@ use Rattle.lw_axiomatic.proofs.Common.{SatisfiesAxioms, HappensBefore, FinalStat
 use Rattle.lw_axiomatic.proofs.Common.{IsOrderedBefore, IsUsedAsLock, IsOverBefore}
 use Rattle.lw_axiomatic.proofs.Anchored.{Po-Rf_in_thread}
 use Rattle.lw_axiomatic.proofs.Atomic.{IsAtomic-GlobalHappensBefore, source_precedes_locked_in_co}
-use Rattle.lw_axiomatic.proofs.CoherenceLaws.{Co_total-of_writes, CoWW-Coherence}
+use Rattle.lw_axiomatic.proofs.CoherenceLaws.{Co-total, CoWW-Coherence}
 use Rattle.lw_axiomatic.proofs.EventKinds.{reads-if_locked_event, writes-if_locked_event}
 
 -- An operation that writes is a plain store or a locked one.
@@ -30,11 +30,11 @@ not-is_locked-if_store (Some (Store y v)) store locked = true≢false (sym locke
 not-is_locked-if_store (Some _) store locked = true≢false (sym store)
 
 module _ (test : X86Test) (x : Execution) where
-  -- What comes before in global happens-before precedes.
+  -- An event that comes before another in global happens-before precedes it (`IsOrderedBefore`).
   IsOrderedBefore-step : (a b : MemoryEvent) → HappensBefore test x a b → IsOrderedBefore test x a b
   IsOrderedBefore-step a b step rank up = up a b step
 
-  -- What precedes an event precedes what that precedes.
+  -- `IsOrderedBefore` is transitive.
   IsOrderedBefore-trans : (a b c : MemoryEvent)
       → IsOrderedBefore test x a b
       → IsOrderedBefore test x b c
@@ -126,12 +126,12 @@ module _ {test : X86Test} {x : Execution} {o : FinalState} (candidate : IsCandid
           ap (λ t. let e : MemoryEvent = record { thread = t; position = u.position } in e) thread
           ∙ ap (λ j. let e : MemoryEvent = record { thread = v.thread; position = j } in e) same
 
-  -- Of two acquisitions, the later at an index below n in coherence order, the one that comes first has ended its critical section when
-  -- The other acquires.
+  -- Of two acquisitions, of which the later has an index below n in coherence order, the earlier has ended its critical section
+  -- when the later acquires.
   abbrev EachOverBefore : ℕ → Type 0
   EachOverBefore n = (s r : MemoryEvent) → x.co s < n → Take s → Take r → Co x86_language test x r s → IsOverBefore test x l r s
 
-  -- By induction on n.
+  -- `EachOverBefore` holds of each n, by induction on n.
   EachOverBefore-each : (n : ℕ) → EachOverBefore n
   EachOverBefore-each zero s r below take_s take_r co = absurd (omega (arith, below))
   EachOverBefore-each (suc n) s r below take_s take_r co =
@@ -154,7 +154,7 @@ module _ {test : X86Test} {x : Execution} {o : FinalState} (candidate : IsCandid
           let m : MemoryEvent = held.0 in
           let after : Co x86_language test x m u =
           CoWW-Coherence candidate axioms.coherence m u l held.2.po (Writes-of_take m held.1) writing in
-          elim (Co_total-of_writes candidate axioms.coherence r m l (Writes-of_take r take_r) (Writes-of_take m held.1)) [
+          elim (Co-total candidate axioms.coherence r m l (Writes-of_take r take_r) (Writes-of_take m held.1)) [
             | inl same ↦ (u, subst (λ (z : MemoryEvent). Releases test x l z u) (sym same) held.2, order)
             | inr (inl earlier) ↦
                 (let rest = again m r (omega (arith, below, less, after.co_lt)) held.1 take_r earlier in (
@@ -164,18 +164,17 @@ module _ {test : X86Test} {x : Execution} {o : FinalState} (candidate : IsCandid
                       (IsOrderedBefore-trans test x m u s
                       (IsOrderedBefore-read test x m u held.2.po (reads-if_locked_event test m held.1.locked)) order),
                 ))
-            | inr (inr later) ↦
-                absurd (elim (Co_total-of_writes candidate axioms.coherence r u l (Writes-of_take r take_r) writing) [
-                  | inl same ↦
-                      not-is_locked-if_store _ store
-                      (subst (λ (z : MemoryEvent). operation_is x86_language test is_locked z ≡ true) same take_r.locked)
-                  | inr (inr between) ↦
-                      (IsAtomic-GlobalHappensBefore test x axioms.happens_before).after_write s u r take_s.locked rf between co
-                  | inr (inl co_after) ↦
-                      (let rest = again r m (omega (arith, below, less, co_after.co_lt)) take_r held.1 later in
-                      let same : rest.0 ≡ u = Releases-unique m rest.0 u rest.1 held.2 in
-                      not-Co-IsOrderedBefore u r (subst (λ (z : MemoryEvent). IsOrderedBefore test x z r) same rest.2) co_after)
-                ])
+            | inr (inr later) ↦ absurd (elim (Co-total candidate axioms.coherence r u l (Writes-of_take r take_r) writing) [
+              | inl same ↦
+                  not-is_locked-if_store _ store
+                  (subst (λ (z : MemoryEvent). operation_is x86_language test is_locked z ≡ true) same take_r.locked)
+              | inr (inr between) ↦
+                  (IsAtomic-GlobalHappensBefore test x axioms.happens_before).after_write s u r take_s.locked rf between co
+              | inr (inl co_after) ↦
+                  (let rest = again r m (omega (arith, below, less, co_after.co_lt)) take_r held.1 later in
+                  let same : rest.0 ≡ u = Releases-unique m rest.0 u rest.1 held.2 in
+                  not-Co-IsOrderedBefore u r (subst (λ (z : MemoryEvent). IsOrderedBefore test x z r) same rest.2) co_after)
+            ])
           ]
 
       -- By what s reads from: it is a store, since locked instructions leave the lock taken.
@@ -197,7 +196,7 @@ module _ {test : X86Test} {x : Execution} {o : FinalState} (candidate : IsCandid
       → Acquires test x l s
       → (r ≡ s) ⊎ (IsOverBefore test x l r s ⊎ IsOverBefore test x l s r)
   IsOverBefore-total r s take_r take_s =
-      elim (Co_total-of_writes candidate axioms.coherence r s l (Writes-of_take r take_r) (Writes-of_take s take_s)) [
+      elim (Co-total candidate axioms.coherence r s l (Writes-of_take r take_r) (Writes-of_take s take_s)) [
         | inl same ↦ inl same
         | inr (inl co) ↦ inr (inl (EachOverBefore-each (suc (x.co s)) s r (omega arith) take_s take_r co))
         | inr (inr co) ↦ inr (inr (EachOverBefore-each (suc (x.co r)) r s (omega arith) take_r take_s co))

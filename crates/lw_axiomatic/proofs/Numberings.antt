@@ -112,11 +112,12 @@ Numbered events R =
 
 module _ (R : MemoryEvent → MemoryEvent → Type 0) (decide : (a b : MemoryEvent) → Decidable (R a b)) (none : HasNoCycle R)
     (e : MemoryEvent) (events : List MemoryEvent) (rest : Numbered events (Past R e)) where
-  -- The least number above the ranks of what is related to the event.
+  -- There is a least number above the numbers of the events that are related to e.
   Top-least_above : Top R rest.0 e events
   Top-least_above = Top-exists R decide rest.0 e events
 
-  -- The rank immediately above those of all related events.
+  -- The number of an event of the list: for e the odd number above those of the events related to it, and for another event
+  -- twice its number in the rest, and 2.
   abbrev rank : MemoryEvent → ℕ
   rank a = number_if (decided_event_equal a e) (2 * Top-least_above.top + 1) (2 * rest.0 a + 2)
 
@@ -124,7 +125,7 @@ module _ (R : MemoryEvent → MemoryEvent → Type 0) (decide : (a b : MemoryEve
   rank-of_first : (a : MemoryEvent) → a ≡ e → rank a ≡ 2 * Top-least_above.top + 1
   rank-of_first a same = number_if-holds (decided_event_equal a e) (2 * Top-least_above.top + 1) (2 * rest.0 a + 2) same
 
-  -- Each event but the first has an even number.
+  -- Each event but the first has twice its number in the rest, and 2 more.
   rank-of_others : (a : MemoryEvent) → (a ≡ e → ⊥) → rank a ≡ 2 * rest.0 a + 2
   rank-of_others a differ = number_if-fails (decided_event_equal a e) (2 * Top-least_above.top + 1) (2 * rest.0 a + 2) differ
 

@@ -8,14 +8,14 @@ use Rattle.lw_axiomatic.proofs.Common.{◌||◌, get_or_past, get_or-set_same, g
 use Rattle.lw_axiomatic.proofs.Common.{option_map, option_and_then, slice_index, cases_Bool, cases_lt}
 use Rattle.lw_axiomatic.proofs.Common.{cases_eq, cond-true, cond-false, or_left, or_right, All-get_or}
 use Rattle.lw_axiomatic.proofs.Common.{none-some, same_Some, slice_get_within, get_or_from_slice_get}
-use Rattle.lw_axiomatic.proofs.Common.{slice_get-map, thread_code, get-set_same, get-set_other, Instr}
-use Rattle.lw_axiomatic.proofs.Common.{Operation, Store, is_store, is_locked, or_cases, location_of-if_locked}
-use Rattle.lw_axiomatic.proofs.Common.{is_store-false_if_locked, writes, location_of, x86_language}
-use Rattle.lw_axiomatic.proofs.Common.{x86_operation, X86Test, IsWellScopedThread, IsWellFormedStatement}
-use Rattle.lw_axiomatic.proofs.Common.{flat_memory, index_in, Item, statement_of, item, IsItemOnPath}
-use Rattle.lw_axiomatic.proofs.Common.{IsItemOnPath-of_member, MachineState, Processor, step_effect}
-use Rattle.lw_axiomatic.proofs.Common.{drain_effect, EffectLeadsTo, X86ItemTransition, entry_location}
-use Rattle.lw_axiomatic.proofs.Common.{own_waits, waits_after, waits_after-same_thread}
+use Rattle.lw_axiomatic.proofs.Common.{slice_get-map, thread_code, slice_get-slice_set_same}
+use Rattle.lw_axiomatic.proofs.Common.{slice_get-slice_set_other, Instr, Operation, Store, is_store}
+use Rattle.lw_axiomatic.proofs.Common.{is_locked, or_cases, location_of-if_locked, is_store-false_if_locked}
+use Rattle.lw_axiomatic.proofs.Common.{writes, location_of, x86_language, x86_operation, X86Test}
+use Rattle.lw_axiomatic.proofs.Common.{IsWellScopedThread, IsWellFormedStatement, flat_memory, index_in, Item}
+use Rattle.lw_axiomatic.proofs.Common.{statement_of, item, IsItemOnPath, IsItemOnPath-of_member, MachineState}
+use Rattle.lw_axiomatic.proofs.Common.{Processor, step_effect, drain_effect, EffectLeadsTo, X86ItemTransition}
+use Rattle.lw_axiomatic.proofs.Common.{entry_location, own_waits, waits_after, waits_after-same_thread}
 use Rattle.lw_axiomatic.proofs.Common.{waits_after-other_thread, ItemStep, ItemStep-of_transition}
 use Rattle.lw_axiomatic.proofs.Common.{AllBuffersHoldStores-after_item, AllBuffersHoldStores, BufferHolds}
 use Rattle.lw_axiomatic.proofs.Common.{HoldsStores, AreWaitingStores, DrainsOldest-at_turn}
@@ -93,12 +93,13 @@ AtEach-after_set P ps t old new was others own u q at = elim (cases_eq t u) [
   | inl same_thread ↦
       (let got : new ≡ q =
       same_Some new q
-      (sym (get-set_same ps t new old was) ∙ subst (λ k. slice_get (slice_set ps t new) k ≡ Some q) (sym same_thread) at) in
+      (sym (slice_get-slice_set_same ps t new old was)
+      ∙ subst (λ k. slice_get (slice_set ps t new) k ≡ Some q) (sym same_thread) at) in
       subst (λ k. P k q) same_thread (subst (P t) got own))
-  | inr threads_differ ↦ others u q (sym (get-set_other ps t u new threads_differ) ∙ at) threads_differ
+  | inr threads_differ ↦ others u q (sym (slice_get-slice_set_other ps t u new threads_differ) ∙ at) threads_differ
 ]
 
--- What an operation leaves of memory.
+-- A locked operation has a location, and changes only the word there; any other leaves memory unchanged.
 pub memory_cases : (o : Operation) (regs m : List ℕ) (w : ℕ)
     → ((is_locked o ≡ true)
     × (l : ℕ)
@@ -112,7 +113,7 @@ memory_cases o regs m w = elim (cases_Bool (is_locked o)) [
   | inr plain ↦ inr (plain, cond-false (is_locked o) _ m plain)
 ]
 
--- What an operation leaves of the store buffer: one entry more if it is a store, and otherwise the same.
+-- A store has a location, and appends one entry for it to the store buffer; any other operation leaves the buffer unchanged.
 buffer_cases : (o : Operation) (p : Processor)
     → ((is_store o ≡ true)
     × (l : ℕ)
@@ -133,7 +134,7 @@ store_writes _ e = absurd (true≢false (sym e))
 pub store_writes_too : (i : Instr) → is_store (x86_operation i) ≡ true → writes (x86_operation i) ≡ true
 store_writes_too i e = (store_writes (x86_operation i) e).0
 
--- Program order is preserved if the second of its two events writes.
+-- The disjunction of three tests is true if the second is.
 pub or_true-middle : (a b c : Bool) → b ≡ true → (a || (b || c)) ≡ true
 or_true-middle a b c e = or_right a _ (or_left b c e)
 
@@ -241,7 +242,7 @@ module _ {test : X86Test} (x : Execution) (given : KeptOrder test x.paths) where
 
   -- ---- the buffers, one item further
 
-  -- An appended entry has the word of its store.
+  -- If the entries of a buffer have the words of their stores, so do these and one more entry that has the word of its store.
   Written-pushed : (t j l w : ℕ) (ws : List ℕ) (b : List (ℕ × ℕ))
       → Written t ws b
       → x.written (event t j) ≡ w
@@ -250,7 +251,7 @@ module _ {test : X86Test} (x : Execution) (given : KeptOrder test x.paths) where
   Written-pushed t j l w (u ∷ ws) (f ∷ b) h e = (h.0, Written-pushed t j l w ws b h.1 e)
   Written-pushed t j l w _ _ h e = absurd h
 
-  -- The entries that remain after a drain have their words.
+  -- If the entries of a buffer have the words of their stores, so do those that remain after the first is drained.
   Written-dropped : (t j : ℕ) (o : Option ℕ) (ws : List ℕ) (e : ℕ × ℕ) (b : List (ℕ × ℕ))
       → Written t ws (e ∷ b)
       → Written t (own_waits true o j ws) b
@@ -312,11 +313,11 @@ module _ {test : X86Test} (x : Execution) (given : KeptOrder test x.paths) where
     abbrev pub item_step : ItemStep test.threads item_thread item_position (nth_item now_at.index).is_drain s mid
     item_step = ItemStep-of_transition test.threads item_thread item_position (nth_item now_at.index).is_drain s mid out
 
-    -- Before it the buffer holds the stores that wait.
+    -- Before the item its thread's buffer holds the stores that wait.
     HoldsStores-old : HoldsStores (thread_code test.threads item_thread) (pending item_thread) item_step.old
     HoldsStores-old = inv.hold item_thread item_step.old item_step.was
 
-    -- A drain is that of the store that has waited longest.
+    -- If the item is a drain, its store is the one that has waited longest.
     pub waiting_head : (nth_item now_at.index).is_drain ≡ true → (rest : List ℕ) × (pending item_thread ≡ item_position ∷ rest)
     waiting_head =
         DrainsOldest-at_turn test.threads (forward given) x.paths given.assignment given.order given.keeps k
@@ -346,12 +347,12 @@ module _ {test : X86Test} (x : Execution) (given : KeptOrder test x.paths) where
     event_kind : (q : Operation → Bool) → operation_is x86_language test q item_event ≡ q (x86_operation item_on_path.statement)
     event_kind q = operation_is-of_instruction given q item_event item_on_path.statement item_on_path.at
 
-    -- The item's event reaches memory now, if the item is the one by which the event does.
+    -- If the item is a drain exactly if its event is a store, the event reaches memory at k.
     reached_now : operation_is x86_language test is_store item_event ≡ (nth_item now_at.index).is_drain
         → reached_at item_event ≡ k
     reached_now same = ap (λ b. turn given (item item_thread item_position b)) same ∙ item_turn
 
-    -- What reaches memory now is its event.
+    -- A write that reaches memory at k is the item's event, and it is a store exactly if the item is a drain.
     reached_now-unique : (f : MemoryEvent) (y : ℕ)
         → Writes x86_language test x f y
         → reached_at f ≡ k
@@ -368,7 +369,7 @@ module _ {test : X86Test} (x : Execution) (given : KeptOrder test x.paths) where
         (at_k ∙ sym item_turn) in
         (ap (event_of_item given) same, ap (λ (a : Item). a.is_drain) same)
 
-    -- Memory after it is what the machine leaves.
+    -- Memory after the item is what the item's step leaves.
     memory_after_item : mid.memory ≡ item_step.words
     memory_after_item = ap (λ (z : MachineState (List ℕ)). z.memory) item_step.state_is
 
@@ -386,7 +387,8 @@ module _ {test : X86Test} (x : Execution) (given : KeptOrder test x.paths) where
         item_step.was Written-others own u q
         (subst (λ (z : MachineState (List ℕ)). slice_get z.processors u ≡ Some q) item_step.state_is got)
 
-    -- By whether the item is a drain.
+    -- If the buffer of the item's thread has the words of the stores that wait after a drain, or after a step, it has those of
+    -- the stores that wait after this item; b says which it is.
     Written-own : (b : Bool)
         → (nth_item now_at.index).is_drain ≡ b
         → Written item_thread
@@ -402,11 +404,11 @@ module _ {test : X86Test} (x : Execution) (given : KeptOrder test x.paths) where
 
     -- A drain.
     module _ (kind_is : (nth_item now_at.index).is_drain ≡ true) where
-      -- What a drain does.
+      -- If the item is a drain, the oldest entry of its processor goes to memory.
       drained : Drained item_step.old item_step.new s.memory item_step.words
       drained = Drained-ItemStep (nth_item now_at.index).is_drain kind_is item_step
 
-      -- After a drain the own buffer has its words.
+      -- After a drain the buffer of the item's thread has the words of its stores.
       Written-after_drain : Written item_thread (waiting_after item_thread) item_step.new.buffer
       Written-after_drain =
           Written-own true kind_is
@@ -420,7 +422,7 @@ module _ {test : X86Test} (x : Execution) (given : KeptOrder test x.paths) where
           (subst (Written item_thread (pending item_thread)) drained.buffer_is
           (inv.words item_thread item_step.old item_step.was))))
 
-      -- The first entry of a buffer is that of the store that has waited longest.
+      -- The first entry of the buffer is for the location, and has the word, of the item's store, which has waited longest.
       entry_of_head : (ws : List ℕ) (b : List (ℕ × ℕ))
           → pending item_thread ≡ ws
           → item_step.old.buffer ≡ b
@@ -496,12 +498,12 @@ module _ {test : X86Test} (x : Execution) (given : KeptOrder test x.paths) where
           StepCase (x86_operation item_on_path.statement) item_step.old item_step.new s.memory item_step.words
       StepCase-at_items_turn = step_case (nth_item now_at.index).is_drain kind_is item_step item_on_path.at
 
-      -- Whether a step adds an entry, and for which location.
+      -- The item's instruction adds an entry for its location if it is a store, and none otherwise.
       entry_location_of_item : entry_location x86_language (statement_of x86_language test.threads (nth_item now_at.index))
           ≡ (if is_store (x86_operation item_on_path.statement) then location_of (x86_operation item_on_path.statement) else None)
       entry_location_of_item = ap (entry_location x86_language) item_on_path.at
 
-      -- After a step the own buffer has its words.
+      -- After a step the buffer of the item's thread has the words of its stores.
       Written-after_step : Written item_thread (waiting_after item_thread) item_step.new.buffer
       Written-after_step = Written-own false kind_is (elim (buffer_cases (x86_operation item_on_path.statement) item_step.old) [
         | inl (store, y, loc, is) ↦
@@ -524,7 +526,7 @@ module _ {test : X86Test} (x : Execution) (given : KeptOrder test x.paths) where
             (inv.words item_thread item_step.old item_step.was)))
       ])
 
-      -- After a step each location has the last word written before k + 1.
+      -- After a step each location has the last word written before `k + 1`, and there are as many words as before.
       step_memory : ((y : ℕ) → LastBefore (suc k) y (slice_index mid.memory y)) × (length mid.memory ≡ length test.head.locs)
       step_memory =
           elim (memory_cases (x86_operation item_on_path.statement) item_step.old.regs s.memory

@@ -26,13 +26,14 @@ IsReport-same_outcomes head Has Other same made report = record {
   text_is = report.text_is;
 }
 
--- The equivalence of two statements, reversed.
+-- If a statement is equivalent to another, the other is equivalent to it.
 iff-symmetric : {P Q : Type 0} → P ↔ Q → Q ↔ P
 iff-symmetric same = (same.1, same.0)
 
 module _ (one : (text : Bytes) (s t : LitmusTest) → HasTest text s → HasTest text t → s ≡ t)
     (formed : (text : Bytes) (test : LitmusTest) → HasTest text test → IsWellFormedTest test) where
-  -- What is printed for a text is made of its one test.
+  -- If a text has a test with the outcomes `Other`, a report is printed for the text if and only if the test is within the
+  -- limits of lists and the report is that of `Other`.
   IsOutputOf-iff_report : (text made : Bytes) (test : LitmusTest) (Other : FinalState → Type 0)
       → HasTest text test
       → ((o : FinalState) → OutcomeOf test o ↔ Other o)

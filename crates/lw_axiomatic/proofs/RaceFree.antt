@@ -308,7 +308,7 @@ module _ {test : X86Test} (well_scoped : IsWellScopedProgram test) {x : Executio
           inr (eqb-true t late_read.thread both.0, ltb-true j late_read.position both.1))
     ]
 
-    -- What precedes an event that passes, passes.
+    -- If an event of a path passes, each earlier event of the path passes.
     passes-downward_closed : (t h j : ℕ)
         → Contains (thread_code x.paths t) h
         → Contains (thread_code x.paths t) j
@@ -457,7 +457,7 @@ module _ {test : X86Test} (well_scoped : IsWellScopedProgram test) {x : Executio
             absurd (walk_of_fronts.none_ahead (event e.thread h)
             (subst (λ (path : List ℕ). Contains path h) (sym same) (Contains-head h h more refl)))
 
-    -- An event with neither property does not pass.
+    -- An event that has no lower rank than the write, and does not precede the read in its thread, does not pass.
     passes-false : (e : MemoryEvent)
         → ((rank e < rank late_write) → ⊥)
         → ((e.thread ≡ late_read.thread) × (e.position < late_read.position) → ⊥)

@@ -204,13 +204,13 @@ module _ {test : X86Test} (x : Execution) (given : KeptOrder test x.paths) where
         ]
       where
         -- If no own store to the location waits, the writes before the read have reached memory.
-        early : HasNoEntry read_thread (pending read_thread) p.buffer l
+        writes_have_reached : HasNoEntry read_thread (pending read_thread) p.buffer l
             → (v : MemoryEvent)
             → Writes x86_language test x v l
             → IsBefore x finish reach v read_event
             → reach v < k
-        early h v writing (inl lt) = omega (arith, lt, e_done)
-        early h v writing (inr po) = elim (cases_lt (reach v) k) [
+        writes_have_reached h v writing (inl lt) = omega (arith, lt, e_done)
+        writes_have_reached h v writing (inr po) = elim (cases_lt (reach v) k) [
           | inl lt ↦ lt
           | inr ge ↦ (let there = IsMember-store_pending v l writing po ge in absurd (h.none v.position there.0 there.1))
         ]
@@ -225,7 +225,7 @@ module _ {test : X86Test} (x : Execution) (given : KeptOrder test x.paths) where
             let g = Writes-pending_store h.store l h.waits h.of in
             let most : reach (event read_thread h.store) ≤ reach v = new.latest (event read_thread h.store) g.0 (inr g.1) in
             let own : Po x v read_event =
-            ⊎_elim (λ early. absurd (omega (arith, early, e_done, g.2, most))) (λ po. po) new.is_before in
+            ⊎_elim (λ reached_by_then. absurd (omega (arith, reached_by_then, e_done, g.2, most))) (λ po. po) new.is_before in
             let there = IsMember-store_pending v l new.write own (omega (arith, g.2, most)) in
             let least : v.position ≤ h.store = h.last v.position there.0 there.1 in
             elim (cases_eq v.position h.store) [
@@ -252,11 +252,12 @@ module _ {test : X86Test} (x : Execution) (given : KeptOrder test x.paths) where
             → IsNewest test x finish reach read_event l q
             → slice_index s.memory l ≡ source_word l q
         source_word-HasNoEntry h (inl (never, is)) None new = is
-        source_word-HasNoEntry h (inl (never, is)) (Some v) new = absurd (never v new.write (early h v new.write new.is_before))
+        source_word-HasNoEntry h (inl (never, is)) (Some v) new =
+            absurd (never v new.write (writes_have_reached h v new.write new.is_before))
         source_word-HasNoEntry h (inr (w, writing, less, last, is)) None new =
             absurd (new w writing (inl (omega (arith, less, e_done))))
         source_word-HasNoEntry h (inr (w, writing, less, last, is)) (Some v) new =
             let most : reach w ≤ reach v = new.latest w writing (inl (omega (arith, less, e_done))) in
-            let least : reach v ≤ reach w = last v new.write (early h v new.write new.is_before) in
+            let least : reach v ≤ reach w = last v new.write (writes_have_reached h v new.write new.is_before) in
             is
             ∙ ap x.written (reached-injective given x refl w v writing.is_event new.write.is_event (omega (arith, most, least)))

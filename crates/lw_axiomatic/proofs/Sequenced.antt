@@ -46,7 +46,8 @@ IsAllowed-IsScOutcome test o s = record {
 -- ---- fenced where another thread overwrites what is read
 
 module _ {test : X86Test} {x : Execution} (axioms : SatisfiesAxioms test x) (overwritten : IsFencedWhereOverwritten test x) where
-  -- A load that reads what was there before another thread's write has a fence after each store before it.
+  -- The anchored number of a read that comes before another thread's write in from-reads is at most one more than the read's
+  -- rank, if the execution is fenced where another thread overwrites.
   anchored_at_most_top-Fr_of_fenced : (r w : MemoryEvent)
       → Fr x86_language test x r w
       → r.thread ≢ w.thread
@@ -97,11 +98,11 @@ IsFencedWhereOverwritten-IsFencedWhereShared test x fenced a b c pair fr two = e
 
 -- If each execution with an outcome that satisfies the axioms is fenced where another thread overwrites, and the axioms allow the
 -- outcome, it is sequentially consistent.
-pub IsAllowed-iff_IsScOutcome : (test : X86Test) (o : FinalState)
+pub IsScOutcome-IsAllowed : (test : X86Test) (o : FinalState)
     → ((x : Execution) → IsCandidate x86_language test x o → SatisfiesAxioms test x → IsFencedWhereOverwritten test x)
     → IsAllowed test o
     → IsScOutcome x86_language test o
-IsAllowed-iff_IsScOutcome test o each a = record {
+IsScOutcome-IsAllowed test o each a = record {
   execution = a.execution;
   candidate = a.candidate;
   sequential = IsSequentiallyConsistent-IsFencedWhereOverwritten a.axioms (each a.execution a.candidate a.axioms);

@@ -5,7 +5,7 @@ use Rattle.lw_axiomatic.proofs.Common.{IsWellScopedSource, ◌≡◌, ◌↔◌,
 use Rattle.lw_axiomatic.proofs.Common.{Ok, refl, sym, ap, ap₂, ◌∙◌, subst, arith, slice_get, IsTrue, nat_le}
 use Rattle.lw_axiomatic.proofs.Common.{leb-true, le-leb, length-set, option_map, slice_set, map-set}
 use Rattle.lw_axiomatic.proofs.Common.{length-map, slice_get-map, slice_get_within, slice_get-get_or}
-use Rattle.lw_axiomatic.proofs.Common.{get_or_from_slice_get, get-map, list_all_zip-of_each}
+use Rattle.lw_axiomatic.proofs.Common.{get_or_from_slice_get, slice_get-map_inv, list_all_zip-of_each}
 use Rattle.lw_axiomatic.proofs.Common.{list_all_zip-at_index, FinalState, thread_code, Step, StepEffect}
 use Rattle.lw_axiomatic.proofs.Common.{StepEffect-of_step, State, SourceRunsTo, SourceOutcome, initial_state}
 use Rattle.lw_axiomatic.proofs.Common.{initial_thread, is_source_final, source_outcome, source_step}
@@ -72,7 +72,7 @@ module _ (program : List (List Stmt)) where
       → (next : Interleaved) × IsStep source_language program t s next × (without_flags next ≡ mid)
   IsStep-source_step t s mid e =
       let d : StepEffect program t (without_flags s) mid = StepEffect-of_step program t (without_flags s) mid e in
-      let mapped = get-map without_flag s.threads t d.thread d.was in (
+      let mapped = slice_get-map_inv without_flag s.threads t d.thread d.was in (
         interleaved_after t mapped.0 (source_operation d.stmt) s,
         record {
           thread = mapped.0;
@@ -118,7 +118,7 @@ module _ (program : List (List Stmt)) where
   is_source_final-IsEnd : (s : Interleaved) → IsEnd source_language program s → IsTrue (is_source_final program (without_flags s))
   is_source_final-IsEnd s final =
       list_all_zip-of_each (λ p. nat_le (length p.0) p.1.position) program (map without_flag s.threads) (λ t code th at_t at.
-      (let mapped = get-map without_flag s.threads t th at in
+      (let mapped = slice_get-map_inv without_flag s.threads t th at in
       let same : thread_code program t ≡ code = get_or_from_slice_get program t code [] at_t in
       le-leb (length code) th.position
       (omega (arith, final t mapped.0 mapped.1, ap length same, ap (λ (z : Thread). z.position) mapped.2))))

@@ -465,7 +465,7 @@ module _ {test fenced : X86Test} (fencing : HasInsertedFences test fenced) (well
     ]
   ]
     where
-      -- If the earlier event does not lead, the later one is an access or a fence.
+      -- If the earlier event does not block, the later one is an access or a fence.
       kind-of_last : blocks (event t i) ≡ false
           → (has_kind reads (event t j) || (has_kind writes (event t j) || has_kind operations.is_fence (event t j))) ≡ true
       kind-of_last not_blocking = elim (or_cases (has_kind reads (event t i)) _ ppo.is_preserved) [
@@ -668,7 +668,7 @@ module _ {test fenced : X86Test} (fencing : HasInsertedFences test fenced) (well
           position_below_size fenced r l reading.location_is,
         )
       where
-        -- An event that counts and does not lead is a store.
+        -- An event that counts and does not block is a store.
         is_store-from_counts : (e : MemoryEvent) → counts e ≡ true → blocks e ≡ false → has_kind is_store e ≡ true
         is_store-from_counts e counting not_blocking =
             elim (or_cases (has_kind reads e) _ (and_parts (not (is_inserted e)) _ counting).1) [

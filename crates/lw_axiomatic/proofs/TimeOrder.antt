@@ -278,7 +278,7 @@ module _ {test : X86Test} (well_scoped : IsWellScopedProgram test) {x : Executio
       r_turn : reached_index r ≡ done_index r
       r_turn = ap (λ b. turn kept_order (item r.thread r.position b)) (is_store-false_if_reads_event test r reading.is_read)
 
-      -- What is before it by the indices is before it by the times.
+      -- A write that is before the read by the indices is before it by the times.
       IsBefore-of_indices : (w : MemoryEvent)
           → IsEvent x w
           → IsBefore x done_index reached_index w r
@@ -297,7 +297,7 @@ module _ {test : X86Test} (well_scoped : IsWellScopedProgram test) {x : Executio
         ))
       ]
 
-      -- What is before it by the times is before it by the indices.
+      -- A write that is before the read by the times is before it by the indices.
       IsBefore-of_times : (w : MemoryEvent)
           → IsEvent x w
           → IsBefore x doneT reachedT w r

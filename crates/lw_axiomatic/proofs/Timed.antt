@@ -58,7 +58,7 @@ module _ {test : X86Test} {x : Execution} {done reached : MemoryEvent → ℕ} (
         fr.source_before (inl (omega (arith, more, read_reached_is_done r fr.read.is_read))))
   ]
 
-  -- What a read sees, from a source that is known.
+  -- If a read reads from a write, this write is the newest before the read, by the times.
   IsNewest-of_source : (r w : MemoryEvent) (l : ℕ)
       → Reads x86_language test x r l
       → x.rf r ≡ Some w
@@ -86,7 +86,7 @@ module _ {test : X86Test} {x : Execution} {done reached : MemoryEvent → ℕ} (
 
   -- ---- coherence: each load comes right after what it reads, those of one write by their positions
 
-  -- More than any position.
+  -- A number above all positions.
   abbrev width : ℕ
   width = suc (size test.threads)
 
@@ -103,11 +103,11 @@ module _ {test : X86Test} {x : Execution} {done reached : MemoryEvent → ℕ} (
   rank-of_write : (e : MemoryEvent) → has_kind writes e ≡ true → rank e ≡ level width (suc (reached e))
   rank-of_write e w = cond-true (has_kind writes e) _ _ w
 
-  -- The rank of a load follows its source's.
+  -- The rank of a load is one more than its position and the level of its source.
   rank-of_load : (e : MemoryEvent) → has_kind is_load e ≡ true → rank e ≡ suc (e.position + source (x.rf e))
   rank-of_load e l = cond-false (has_kind writes e) _ _ (writes-false_if_load_event test e l)
 
-  -- A write that is before a load is no newer than what the load reads.
+  -- The level of a write that is before a read is at most that of the read's source.
   source_at_least-write_before : (r w : MemoryEvent) (l : ℕ) (q : Option MemoryEvent)
       → IsNewest test x done reached r l q
       → Writes x86_language test x w l
@@ -117,7 +117,7 @@ module _ {test : X86Test} {x : Execution} {done reached : MemoryEvent → ℕ} (
   source_at_least-write_before r w l (Some v) newest writing before =
       level-le width (suc (reached w)) (suc (reached v)) (omega (arith, newest.latest w writing before))
 
-  -- What a read sees is older than a write after it.
+  -- The level of a read's source is at most that at which a later write of the thread reaches memory.
   source_at_most-later_write : (r w : MemoryEvent) (l : ℕ) (q : Option MemoryEvent)
       → IsNewest test x done reached r l q
       → Po x r w
@@ -135,7 +135,7 @@ module _ {test : X86Test} {x : Execution} {done reached : MemoryEvent → ℕ} (
       }) writing) newest.is_before in
       level-le width (suc (reached v)) (reached w) (omega (arith, less))
 
-  -- What was there for a load is there for the next one.
+  -- Of two reads of a thread, of which the second is of the location l, the first has no later source for l than the second.
   source_increases-Po : (r s : MemoryEvent) (l : ℕ) (q : Option MemoryEvent)
       → IsNewest test x done reached r l q
       → Reads x86_language test x s l
@@ -243,7 +243,7 @@ module _ {test : X86Test} {x : Execution} {done reached : MemoryEvent → ℕ} (
     )
   ]
     where
-      -- What a read reads from is older than each write that it precedes in from-reads.
+      -- The level of a read's source is at most that at which a write that the read precedes in from-reads reaches memory.
       source_at_most-newer_in_co : (q : Option MemoryEvent)
           → IsNewest test x done reached r fr.on_location q
           → ForSome q (λ v. x.co v < x.co w)

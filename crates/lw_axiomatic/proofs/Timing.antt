@@ -158,7 +158,7 @@ module _ {test : X86Test} {x : Execution} {o : FinalState} (candidate : IsCandid
   abbrev pub reached : MemoryEvent → ℕ
   reached e = if has_kind is_store e then level slots (suc (ghb_rank e)) + suc (slot e) else done e
 
-  -- When a store reaches memory.
+  -- A store reaches memory right after its slot in the level of its rank.
   reached-of_store : (e : MemoryEvent) → has_kind is_store e ≡ true → reached e ≡ level slots (suc (ghb_rank e)) + suc (slot e)
   reached-of_store e s = cond-true (has_kind is_store e) _ (done e) s
 
@@ -268,7 +268,7 @@ module _ {test : X86Test} {x : Execution} {o : FinalState} (candidate : IsCandid
     least : level slots (suc (ghb_rank e)) ≤ reached e
     most : reached e < level slots (suc (ghb_rank e)) + slots
 
-  -- An event's slot is below the bound.
+  -- One more than an event's slot is below the number of slots.
   slot_low : (e : MemoryEvent) → IsEvent x e → suc (slot e) < slots
   slot_low e is_event =
       let w : IsWithin e = IsWithin-IsEvent e is_event in
@@ -434,7 +434,7 @@ module _ {test : X86Test} {x : Execution} {o : FinalState} (candidate : IsCandid
     read_reached_is_done : reached r ≡ done r
     read_reached_is_done = reached-of_other r (is_store-false_if_reads_event test r reading.is_read)
 
-    -- Nothing that r would have to see is newer than what it reads.
+    -- A write that is before the read is not later in coherence order than what the read reads from.
     not-newer_than_read : (w : MemoryEvent)
         → Writes x86_language test x w l
         → IsBefore x done reached w r

@@ -39,7 +39,7 @@ module _ {S : Type 0} {language : Language S} {test : Test S} (well_scoped : IsW
 
   module _ (rest : List (List ℕ)) (s : Interleaved) (at_state : IsHere rest s)
       (none : (e : MemoryEvent) → Contains (thread_code rest e.thread) e.position → ⊥) where
-    -- If no event is ahead, no thread's path is.
+    -- At the end of the walk no path has a position ahead.
     no_path_left : (t : ℕ) (path : List ℕ) → thread_code rest t ≡ path → path ≡ []
     no_path_left t [] same = refl
     no_path_left t (h ∷ more) same =

@@ -7,9 +7,9 @@ use Rattle.lw_axiomatic.proofs.Common.{append_assoc, append-nil, length-append, 
 use Rattle.lw_axiomatic.proofs.Common.{option_and_then, slice_index, slice_index_or, option_map_or}
 use Rattle.lw_axiomatic.proofs.Common.{cases_Bool, cases_eq, cases_order, and_from, le-leb, length-map}
 use Rattle.lw_axiomatic.proofs.Common.{ext_get_or, same_Some, slice_get_within, get_or_from_slice_get}
-use Rattle.lw_axiomatic.proofs.Common.{FinalState, thread_code, Step, Drain, slice_get-in_range, get-map}
-use Rattle.lw_axiomatic.proofs.Common.{list_all_zip-of_each, Operation, needs_empty_buffer, writes}
-use Rattle.lw_axiomatic.proofs.Common.{location_of, x86_language, x86_operation, X86Test, flat_memory}
+use Rattle.lw_axiomatic.proofs.Common.{FinalState, thread_code, Step, Drain, slice_get-in_range}
+use Rattle.lw_axiomatic.proofs.Common.{slice_get-map_inv, list_all_zip-of_each, Operation, needs_empty_buffer}
+use Rattle.lw_axiomatic.proofs.Common.{writes, location_of, x86_language, x86_operation, X86Test, flat_memory}
 use Rattle.lw_axiomatic.proofs.Common.{index_in, IsOrder, index_in-order_split, Item}
 use Rattle.lw_axiomatic.proofs.Common.{statement_needs_empty_buffer, IsMember, item, item_slot-increasing}
 use Rattle.lw_axiomatic.proofs.Common.{IsItemOnPath, IsItemOnPath-of_member, IsAscendingFrom}
@@ -114,7 +114,7 @@ module _ {test : X86Test} {x : Execution} {o : FinalState} (candidate : IsCandid
     event_kind : (q : Operation → Bool) → operation_is x86_language test q item_event ≡ q (x86_operation item_on_path.statement)
     event_kind q = operation_is-of_instruction given q item_event item_on_path.statement item_on_path.at
 
-    -- A step whose turn it is now is this one.
+    -- An event that is done at k is the item's event, and the item is a step.
     done_now-unique : (f : MemoryEvent)
         → IsEvent x f
         → done_index f ≡ k
@@ -200,7 +200,7 @@ module _ {test : X86Test} {x : Execution} {o : FinalState} (candidate : IsCandid
           AheadOf-of_processor.end AheadOf-of_processor.executes
           (AheadOf-of_processor.rest_complete item_position on_path (omega (arith, event_done_now f))) f
 
-      -- An instruction that waits for an empty buffer finds one.
+      -- If a buffer holds the stores of a list, and the list is empty, so is the buffer.
       no_entry-if_none_waits : (ws : List ℕ) (b : List (ℕ × ℕ))
           → BufferHolds (thread_code test.threads item_thread) ws b
           → ((v : ℕ) → IsMember v ws → ⊥)
@@ -258,11 +258,11 @@ module _ {test : X86Test} {x : Execution} {o : FinalState} (candidate : IsCandid
 
     -- ---- the state after it
 
-    -- The state after it.
+    -- The state after the item.
     abbrev next_state : MachineState (List ℕ)
     next_state = item_transition.0
 
-    -- What the machine does at this turn.
+    -- What the machine does at the item's turn.
     abbrev item_step : ItemStep test.threads item_thread item_position (nth_item now_at.index).is_drain s next_state
     item_step = prefixes.item_step x given at_state.inv now_at item_transition.1
 
@@ -271,13 +271,14 @@ module _ {test : X86Test} {x : Execution} {o : FinalState} (candidate : IsCandid
     ahead_c = at_state.ahead item_thread item_step.old item_step.was
 
     -- The processors after it are those before it, except the item's own.
-    get-after_item : (u : ℕ) (q : Processor)
+    slice_get-after_item : (u : ℕ) (q : Processor)
         → slice_get next_state.processors u ≡ Some q
         → slice_get (slice_set s.processors item_thread item_step.new) u ≡ Some q
-    get-after_item u q processor_at =
+    slice_get-after_item u q processor_at =
         subst (λ (z : MachineState (List ℕ)). slice_get z.processors u ≡ Some q) item_step.state_is processor_at
 
-    -- The rest of another thread's run is unchanged, and so is this one's if the item is a drain.
+    -- What is ahead of a thread is so after the item too, if the thread's state is unchanged and none of its events is done at
+    -- k.
     AheadOf-unchanged_thread : (u : ℕ) (p q : Processor)
         → AheadOf u k p
         → thread_of q ≡ thread_of p
@@ -296,7 +297,7 @@ module _ {test : X86Test} {x : Execution} {o : FinalState} (candidate : IsCandid
       rest_complete = λ h there le. a.rest_complete h there (omega (arith, le));
     }
 
-    -- A read's turn finds the word that the execution says.
+    -- If the item is a step that reads, its processor finds the word that the execution says.
     word_for-is_read : (nth_item now_at.index).is_drain ≡ false
         → reads (x86_operation item_on_path.statement) ≡ true
         → word_for (x86_operation item_on_path.statement) item_step.old.buffer s.memory ≡ x.read item_event
@@ -458,7 +459,7 @@ module _ {test : X86Test} {x : Execution} {o : FinalState} (candidate : IsCandid
         (λ v p there ne.
         AheadOf-unchanged_thread v p p (at_state.ahead v p there) refl
         (λ h on now. ne (sym (ap (λ (z : MemoryEvent). z.thread) (done_now-unique (event v h) on now).0)))) AheadOf-own_thread u q
-        (get-after_item u q processor_at)
+        (slice_get-after_item u q processor_at)
 
     -- The invariant holds at k + 1.
     IsAt-next : IsAt (suc k) next_state
@@ -478,7 +479,7 @@ module _ {test : X86Test} {x : Execution} {o : FinalState} (candidate : IsCandid
       → slice_get (map initial_processor test.head.init_regs) t ≡ Some p
       → (t < length test.threads) × (thread_of p ≡ first_state (slice_index_or test.head.init_regs t [])) × (p.buffer ≡ [])
   initial_case t p found_at =
-      let mapped = get-map initial_processor test.head.init_regs t p found_at in
+      let mapped = slice_get-map_inv initial_processor test.head.init_regs t p found_at in
       let regs : slice_index_or test.head.init_regs t [] ≡ mapped.0 =
       get_or_from_slice_get test.head.init_regs t mapped.0 [] mapped.1 in (
         omega (

@@ -8,9 +8,9 @@ use Rattle.lw_axiomatic.proofs.Common.{None, refl, sym, ap, ap₂, ◌∙◌, su
 use Rattle.lw_axiomatic.proofs.Common.{Contains, length-set, slice_index, slice_index_or, cases_Bool}
 use Rattle.lw_axiomatic.proofs.Common.{cases_eq, cases_lt, cases_order, get_or_past, get_or-set_same}
 use Rattle.lw_axiomatic.proofs.Common.{get_or-set_other, Contains-append_left, none-some, same_Some}
-use Rattle.lw_axiomatic.proofs.Common.{slice_get_within, get_or_from_slice_get, slice_get-in_range, get-map}
-use Rattle.lw_axiomatic.proofs.Common.{FinalState, thread_code, not-Contains-nil, Contains-head}
-use Rattle.lw_axiomatic.proofs.Common.{Contains-tail, Contains-cons, IsAscendingFrom}
+use Rattle.lw_axiomatic.proofs.Common.{slice_get_within, get_or_from_slice_get, slice_get-in_range}
+use Rattle.lw_axiomatic.proofs.Common.{slice_get-map_inv, FinalState, thread_code, not-Contains-nil}
+use Rattle.lw_axiomatic.proofs.Common.{Contains-head, Contains-tail, Contains-cons, IsAscendingFrom}
 use Rattle.lw_axiomatic.proofs.Common.{IsAscendingFrom-lower_bound, IsAscendingFrom-flow_path, Operation}
 use Rattle.lw_axiomatic.proofs.Common.{Language, writes, Test, ThreadExecutes, IsReadFrom, IsCandidate}
 use Rattle.lw_axiomatic.proofs.Common.{MemoryEvent, Execution, IsEvent, reads, operation_is, location, Reads}
@@ -20,7 +20,7 @@ use Rattle.lw_axiomatic.proofs.Common.{first_state, state_after, word_written}
 use Rattle.lw_axiomatic.proofs.EventLists.{event, IsFirst, first_of_paths_or_empty}
 use Rattle.lw_axiomatic.proofs.Decisions.{decided_event_equal, decided_contains, decided_and, decided_number}
 use Rattle.lw_axiomatic.proofs.Decisions.{decided_true}
-use Rattle.lw_axiomatic.proofs.FromInterleaving.{IsGood, IsGood-start, IsGood-next, get-next_thread}
+use Rattle.lw_axiomatic.proofs.FromInterleaving.{IsGood, IsGood-start, IsGood-next, slice_get-next_thread}
 use Rattle.lw_axiomatic.proofs.FromInterleaving.{others_unchanged, event_kind, event_location}
 use Rattle.lw_axiomatic.proofs.FromInterleaving.{word_left-at_written, word_unchanged-elsewhere}
 use Rattle.lw_axiomatic.proofs.Paths.{IsFlowPathFrom-ThreadExecutes, state_after-unread, writes_unread}
@@ -146,7 +146,7 @@ module _ {S : Type 0} {language : Language S} {test : Test S} (well_scoped : IsW
     is_event-next : IsEvent x next_event
     is_event-next = is_event next_event IsIn-next_event
 
-    -- Where its thread ends.
+    -- The state in which the next event's thread ends.
     abbrev end : ThreadState
     end = (at_state.threads next_thread th next.thread_at).end
 
@@ -166,11 +166,11 @@ module _ {S : Type 0} {language : Language S} {test : Test S} (well_scoped : IsW
     abbrev op : Operation
     op = language.operation_of next_statement
 
-    -- The state after it.
+    -- The state after the next event.
     abbrev mid : Interleaved
     mid = interleaved_after next_thread th op s
 
-    -- What the step does.
+    -- The step of the next event leads to that state.
     abbrev next_step : IsStep language test.threads next_thread s mid
     next_step = record {
       thread = th;
@@ -180,7 +180,7 @@ module _ {S : Type 0} {language : Language S} {test : Test S} (well_scoped : IsW
       state_is = refl;
     }
 
-    -- The paths that are ahead after it.
+    -- The paths that are ahead after the next event.
     abbrev rest_after : List (List ℕ)
     rest_after = slice_set rest next_thread more
 
@@ -197,7 +197,7 @@ module _ {S : Type 0} {language : Language S} {test : Test S} (well_scoped : IsW
     other_path : (u : ℕ) → next_thread ≢ u → thread_code rest_after u ≡ thread_code rest u
     other_path u ne = get_or-set_other rest next_thread u more [] (λ same. ne (sym same))
 
-    -- The rest of its thread follows it.
+    -- The positions ahead in its thread after the next event are greater than the event's.
     position_increases-rest : (h : ℕ) → Contains more h → th.position < h
     position_increases-rest h is_member =
         let up : IsAscendingFrom th.position (th.position ∷ (more ++ thread_code tails next_thread)) =
@@ -209,7 +209,7 @@ module _ {S : Type 0} {language : Language S} {test : Test S} (well_scoped : IsW
         (in_list (more ++ thread_code tails next_thread) h
         (Contains-append_left more (thread_code tails next_thread) h is_member))
 
-    -- What is ahead after it was ahead before.
+    -- What is ahead after the next event was ahead before it.
     IsAhead-before_step : (f : MemoryEvent) → IsAhead rest_after f → IsAhead rest f
     IsAhead-before_step f a = elim (cases_eq next_thread f.thread) [
       | inl same_thread ↦
@@ -221,7 +221,7 @@ module _ {S : Type 0} {language : Language S} {test : Test S} (well_scoped : IsW
       | inr threads_differ ↦ subst (λ (path : List ℕ). Contains path f.position) (other_path f.thread threads_differ) a
     ]
 
-    -- What was ahead is ahead still, except the event itself.
+    -- What was ahead before the next event, except this event, is ahead after it.
     IsAhead-after_step : (f : MemoryEvent) → IsAhead rest f → (f ≡ next_event → ⊥) → IsAhead rest_after f
     IsAhead-after_step f a differ = elim (cases_eq next_thread f.thread) [
       | inl same_thread ↦
@@ -236,19 +236,19 @@ module _ {S : Type 0} {language : Language S} {test : Test S} (well_scoped : IsW
       | inr threads_differ ↦ subst (λ (path : List ℕ). Contains path f.position) (sym (other_path f.thread threads_differ)) a
     ]
 
-    -- The event is no longer ahead.
+    -- After the step the next event is no longer ahead.
     not-IsAhead-next_after : IsAhead rest_after next_event → ⊥
     not-IsAhead-next_after a =
         omega (arith, position_increases-rest th.position (subst (λ (path : List ℕ). Contains path th.position) own_path a))
 
-    -- What is done after it is this event, or was done before.
+    -- What is done after the step is the next event, or was done before it.
     IsDone-after_step_inv : (f : MemoryEvent) → IsDone rest_after f → (f ≡ next_event) ⊎ IsDone rest f
     IsDone-after_step_inv f done = elim (decided_event_equal f next_event) [
       | inl same_event ↦ inl same_event
       | inr events_differ ↦ inr (done.0, λ a. done.1 (IsAhead-after_step f a events_differ))
     ]
 
-    -- What was done is done.
+    -- What was done before the step is done after it.
     IsDone-after_step : (f : MemoryEvent) → IsDone rest f → IsDone rest_after f
     IsDone-after_step f done = (done.0, λ a. done.1 (IsAhead-before_step f a))
 
@@ -258,7 +258,7 @@ module _ {S : Type 0} {language : Language S} {test : Test S} (well_scoped : IsW
       next_ne_done : (f : MemoryEvent) → IsDone rest f → next_event ≡ f → ⊥
       next_ne_done f done same = done.1 (subst (IsAhead rest) same IsAhead-next_event)
 
-      -- Nothing that is done comes after it in from-reads: it would have a greater rank.
+      -- Nothing that is done comes after the next event in from-reads: it would have a greater rank.
       none_newer : (f : MemoryEvent) → IsDone rest f → Fr language test x next_event f → ⊥
       none_newer f done fr = omega (
         arith,
@@ -266,7 +266,7 @@ module _ {S : Type 0} {language : Language S} {test : Test S} (well_scoped : IsW
         at_state.done_before_ahead f next_event done IsAhead-next_event,
       )
 
-      -- The write that it reads from is done.
+      -- The write that the next event reads from is done.
       source_done : (v : MemoryEvent) → Writes language test x v l → x.rf next_event ≡ Some v → IsDone rest v
       source_done v writing source_is =
           let rf : Rf language test x v next_event =
@@ -347,7 +347,7 @@ module _ {S : Type 0} {language : Language S} {test : Test S} (well_scoped : IsW
       | inl same ↦
           (let next_is : state_after op th (read_value op s.words) ≡ q =
           same_Some (state_after op th (read_value op s.words)) q
-          (sym (get-next_thread well_scoped next_step at_state.good)
+          (sym (slice_get-next_thread well_scoped next_step at_state.good)
           ∙ subst (λ k. slice_get mid.threads k ≡ Some q) (sym same) thread_at) in
           let own : ThreadExecutes language x next_thread (thread_code test.threads next_thread)
           (thread_code rest_after next_thread ++ thread_code tails next_thread) q end =
@@ -372,14 +372,14 @@ module _ {S : Type 0} {language : Language S} {test : Test S} (well_scoped : IsW
           })
     ]
 
-    -- What is done has no greater rank than what is ahead.
+    -- After the step what is done has no greater rank than what is ahead.
     rank_at_most-done_and_ahead : (f g : MemoryEvent) → IsDone rest_after f → IsAhead rest_after g → rank f ≤ rank g
     rank_at_most-done_and_ahead f g done a = elim (IsDone-after_step_inv f done) [
       | inl same ↦ omega (arith, ap rank same, next.least g (IsAhead-before_step g a))
       | inr old ↦ at_state.done_before_ahead f g old (IsAhead-before_step g a)
     ]
 
-    -- Each location has the word of the last write that is done.
+    -- After the step each location has the word of the last write that is done.
     LastDone-after_step : (l : ℕ) → LastDone rest_after l (slice_index mid.words l)
     LastDone-after_step l =
         elim (decided_and (decided_number (location language test next_event) l)
@@ -539,7 +539,7 @@ module _ {S : Type 0} {language : Language S} {test : Test S} (well_scoped : IsW
         fewer = total-one_step rest e.thread found.0.position head.0 in_rest head.1;
       }
 
-  -- If nothing is ahead, the walk has ended.
+  -- If nothing is ahead, the walk is complete, without events.
   CompleteWalk-none_ahead : (rest : List (List ℕ)) (s : Interleaved)
       → IsAt rest s
       → ((f : MemoryEvent) → IsAhead rest f → ⊥)
@@ -555,7 +555,8 @@ module _ {S : Type 0} {language : Language S} {test : Test S} (well_scoped : IsW
     end_is_at = is;
   }
 
-  -- One event more at the front of a walk.
+  -- If a walk is complete from the state after the next event, it is complete from the state before, with this event at its
+  -- front.
   CompleteWalk-one_event_more : (rest : List (List ℕ)) (s : Interleaved) (is : IsAt rest s) (a : NextEvent rest s)
       → CompleteWalk (slice_set rest a.thread a.more) (mid is a)
       → CompleteWalk rest s
@@ -578,7 +579,7 @@ module _ {S : Type 0} {language : Language S} {test : Test S} (well_scoped : IsW
         end_is_at = later.end_is_at;
       }
 
-  -- By induction on the number of events ahead.
+  -- A state of the walk with at most n events ahead has a complete walk, by induction on n.
   CompleteWalk-by_count : (n : ℕ) (rest : List (List ℕ)) (s : Interleaved) → IsAt rest s → total rest ≤ n → CompleteWalk rest s
   CompleteWalk-by_count zero rest s is le = elim (first_of_paths_or_empty rank rest) [
     | inl none ↦ CompleteWalk-none_ahead rest s is none
@@ -600,7 +601,7 @@ module _ {S : Type 0} {language : Language S} {test : Test S} (well_scoped : IsW
     path_count = are.path_count;
     good = IsGood-start well_scoped;
     threads = λ t th at.
-        (let from = get-map first_state test.head.init_regs t th at in
+        (let from = slice_get-map_inv first_state test.head.init_regs t th at in
         let in_range : t < length test.threads =
         omega (arith, slice_get_within test.head.init_regs t from.0 from.1, well_scoped.head.regs, well_scoped.as_many) in
         let regs : slice_index_or test.head.init_regs t [] ≡ from.0 =

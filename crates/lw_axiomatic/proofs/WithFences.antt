@@ -53,7 +53,7 @@ HasInsertedFencesInCode-nil =
     record { block = λ index. 0; first = refl; each = λ index i there. absurd cc; last = λ index past. refl }
 
 module _ {test fenced : X86Test} (fencing : HasInsertedFences test fenced) where
-  -- Past the last thread both codes are empty.
+  -- Past the last thread both codes are empty, so one is the other with no MFENCE inserted.
   pub code_at-past : (t : ℕ)
       → length test.threads ≤ t
       → HasInsertedFencesInCode (thread_code test.threads t) (thread_code fenced.threads t)
@@ -383,7 +383,7 @@ module _ {test fenced : X86Test} (fencing : HasInsertedFences test fenced) (well
       executes.end) (sym (code_at fencing t).first) executes.executes) in
       (r.0, record { end = executes.end; is_route = r.1; regs = executes.regs_are })
 
-  -- Each thread has a route.
+  -- There is a list of routes, one for each thread.
   pub routes : (paths : List (List ℕ))
       × (length paths ≡ length test.threads)
       × ((t : ℕ) → t < length test.threads → IsThreadRoute t (thread_code paths t))
@@ -492,13 +492,13 @@ module _ {test fenced : X86Test} (fencing : HasInsertedFences test fenced) (well
             ∙ ap x.written (sym (event_without-event_with fencing w (position-in_code test w l from.write.location_is)));
       }
 
-  -- Different writes have different ranks in coherence order.
-  co-unique : (w v : MemoryEvent) (l : ℕ)
+  -- Two writes to one location with the same index in coherence order are equal.
+  co-injective : (w v : MemoryEvent) (l : ℕ)
       → Writes x86_language fenced with_fences w l
       → Writes x86_language fenced with_fences v l
       → with_fences.co w ≡ with_fences.co v
       → w ≡ v
-  co-unique w v l writing also same =
+  co-injective w v l writing also same =
       let one : event_without fencing w ≡ event_without fencing v =
       candidate.co (event_without fencing w) (event_without fencing v) l (Writes-event_without w l writing)
       (Writes-event_without v l also) same in
@@ -547,7 +547,7 @@ module _ {test fenced : X86Test} (fencing : HasInsertedFences test fenced) (well
           regs_are = route.regs ∙ ap (λ (s : ThreadState). s.regs) route.is_route.ends;
         });
     rf = IsReadFrom-with_fences;
-    co = co-unique;
+    co = co-injective;
     words = IsLast-with_fences;
     of_test =
         subst (λ n. HasOutcomeShape n (length fenced.head.locs) o) (sym fencing.as_many)

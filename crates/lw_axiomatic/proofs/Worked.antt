@@ -15,7 +15,7 @@ use Rattle.lw_litmus.specs.Operations as operations
 abbrev early_execution : Execution
 early_execution = record { paths = replicate 2 (0 ∷ 1 ∷ []); read = λ e. 0; written = λ e. 1; rf = λ e. None; co = λ e. 0 }
 
--- The stores are at position 0 and the loads at 1; thread 0 stores to location 0, and thread 1 to location 1.
+-- A position on a path is 0, that of the store, or 1, that of the load.
 position_cases : (j : ℕ) → Contains (0 ∷ 1 ∷ []) j → (j ≡ 0) ⊎ (j ≡ 1)
 position_cases j is_member = elim (Contains-cons 0 j (1 ∷ []) is_member) [
   | inl is_head ↦ inl (sym is_head)
@@ -23,7 +23,7 @@ position_cases j is_member = elim (Contains-cons 0 j (1 ∷ []) is_member) [
       elim (Contains-cons 1 j [] in_tail) [ inl is_head ↦ inr (sym is_head) | inr in_tail ↦ absurd (not-Contains-nil j in_tail) ]
 ]
 
--- What holds of the four events holds of all.
+-- What holds of each of the two events of each thread holds of all events of the execution.
 events-cases : (P : ℕ → ℕ → Type 0)
     → P 0 0
     → P 0 1
@@ -32,34 +32,45 @@ events-cases : (P : ℕ → ℕ → Type 0)
     → (t j : ℕ)
     → Contains (thread_code early_execution.paths t) j
     → P t j
-events-cases P a b c d zero j on_path =
-    elim (position_cases j on_path) [ inl e ↦ subst (P 0) (sym e) a | inr e ↦ subst (P 0) (sym e) b ]
-events-cases P a b c d (suc zero) j on_path =
-    elim (position_cases j on_path) [ inl e ↦ subst (P 1) (sym e) c | inr e ↦ subst (P 1) (sym e) d ]
-events-cases P a b c d (suc (suc t)) j on_path = absurd (not-Contains-nil j on_path)
+events-cases P at_00 at_01 at_10 at_11 zero j on_path = elim (position_cases j on_path) [
+  | inl is_store ↦ subst (P 0) (sym is_store) at_00
+  | inr is_load ↦ subst (P 0) (sym is_load) at_01
+]
+events-cases P at_00 at_01 at_10 at_11 (suc zero) j on_path = elim (position_cases j on_path) [
+  | inl is_store ↦ subst (P 1) (sym is_store) at_10
+  | inr is_load ↦ subst (P 1) (sym is_load) at_11
+]
+events-cases P at_00 at_01 at_10 at_11 (suc (suc t)) j on_path = absurd (not-Contains-nil j on_path)
 
--- A write to l is the store of thread l, and a read of l the load of the other thread.
+-- A write to l is at position 0 of thread l.
 Writes-cases : (e : MemoryEvent) (l : ℕ)
     → Writes x86_language store_buffering_in_x86 early_execution e l
     → (e.position ≡ 0) × (e.thread ≡ l)
 Writes-cases e l writing =
-    events-cases (λ t j.
+    let Claim : ℕ → ℕ → Type 0 = λ t j.
     location x86_language store_buffering_in_x86 (event t j) ≡ Some l
     → operation_is x86_language store_buffering_in_x86 (operations.writes) (event t j) ≡ true
-    → (j ≡ 0) × (t ≡ l)) (λ a b. (refl, same_Some 0 l a)) (λ a b. absurd (true≢false (sym b))) (λ a b. (refl, same_Some 1 l a))
-    (λ a b. absurd (true≢false (sym b))) e.thread e.position writing.is_event writing.location_is writing.is_write
+    → (j ≡ 0) × (t ≡ l) in
+    let at_00 : Claim 0 0 = λ at is_write. (refl, same_Some 0 l at) in
+    let at_01 : Claim 0 1 = λ at is_write. absurd (true≢false (sym is_write)) in
+    let at_10 : Claim 1 0 = λ at is_write. (refl, same_Some 1 l at) in
+    let at_11 : Claim 1 1 = λ at is_write. absurd (true≢false (sym is_write)) in
+    events-cases Claim at_00 at_01 at_10 at_11 e.thread e.position writing.is_event writing.location_is writing.is_write
 
--- A read is a thread's second event, the load, of one of the two locations.
+-- A read is at position 1 of its thread, and of one of the two locations.
 Reads-cases : (e : MemoryEvent) (l : ℕ)
     → Reads x86_language store_buffering_in_x86 early_execution e l
     → (e.position ≡ 1) × (l < 2)
 Reads-cases e l reading =
-    events-cases (λ t j.
+    let Claim : ℕ → ℕ → Type 0 = λ t j.
     location x86_language store_buffering_in_x86 (event t j) ≡ Some l
     → operation_is x86_language store_buffering_in_x86 reads (event t j) ≡ true
-    → (j ≡ 1) × (l < 2)) (λ a b. absurd (true≢false (sym b))) (λ a b. (refl, omega (arith, same_Some 1 l a)))
-    (λ a b. absurd (true≢false (sym b))) (λ a b. (refl, omega (arith, same_Some 0 l a))) e.thread e.position reading.is_event
-    reading.location_is reading.is_read
+    → (j ≡ 1) × (l < 2) in
+    let at_00 : Claim 0 0 = λ at is_read. absurd (true≢false (sym is_read)) in
+    let at_01 : Claim 0 1 = λ at is_read. (refl, omega (arith, same_Some 1 l at)) in
+    let at_10 : Claim 1 0 = λ at is_read. absurd (true≢false (sym is_read)) in
+    let at_11 : Claim 1 1 = λ at is_read. (refl, omega (arith, same_Some 0 l at)) in
+    events-cases Claim at_00 at_01 at_10 at_11 e.thread e.position reading.is_event reading.location_is reading.is_read
 
 -- Ranks for both axioms, along which their relations increase: loads have 0, stores 1.
 abbrev rank : MemoryEvent → ℕ
@@ -81,24 +92,30 @@ preserves_order a b =
     || (operation_is x86_language store_buffering_in_x86 operations.is_fence a
     || operation_is x86_language store_buffering_in_x86 operations.is_fence b))
 
--- What holds of the store and the load of each thread holds of each pair in program order.
+-- What holds of the two events of thread 0, and of those of thread 1, holds of each pair in program order.
 Po-cases : (P : MemoryEvent → MemoryEvent → Type 0)
     → P (event 0 0) (event 0 1)
     → P (event 1 0) (event 1 1)
     → (a b : MemoryEvent)
     → Po early_execution a b
     → P a b
-Po-cases P p q a b po =
-    events-cases (λ t j. (u k : ℕ) → Contains (thread_code early_execution.paths u) k → t ≡ u → j < k → P (event t j) (event u k))
-    (events-cases (λ u k. 0 ≡ u → 0 < k → P (event 0 0) (event u k)) (λ e l. absurd (omega (arith, l))) (λ e l. p)
-    (λ e l. absurd (omega (arith, e))) (λ e l. absurd (omega (arith, e))))
-    (events-cases (λ u k. 0 ≡ u → 1 < k → P (event 0 1) (event u k)) (λ e l. absurd (omega (arith, l)))
-    (λ e l. absurd (omega (arith, l))) (λ e l. absurd (omega (arith, e))) (λ e l. absurd (omega (arith, e))))
-    (events-cases (λ u k. 1 ≡ u → 0 < k → P (event 1 0) (event u k)) (λ e l. absurd (omega (arith, e)))
-    (λ e l. absurd (omega (arith, e))) (λ e l. absurd (omega (arith, l))) (λ e l. q))
-    (events-cases (λ u k. 1 ≡ u → 1 < k → P (event 1 1) (event u k)) (λ e l. absurd (omega (arith, e)))
-    (λ e l. absurd (omega (arith, e))) (λ e l. absurd (omega (arith, l))) (λ e l. absurd (omega (arith, l)))) a.thread a.position
-    po.first_event b.thread b.position po.second_event po.same_thread po.position_lt
+Po-cases P thread_0 thread_1 a b po =
+    let Second : (t j u k : ℕ) → Type 0 = λ t j u k. t ≡ u → j < k → P (event t j) (event u k) in
+    let First : ℕ → ℕ → Type 0 = λ t j. (u k : ℕ) → Contains (thread_code early_execution.paths u) k → Second t j u k in
+    let after_00 : First 0 0 =
+    events-cases (Second 0 0) (λ same lt. absurd (omega (arith, lt))) (λ same lt. thread_0)
+    (λ same lt. absurd (omega (arith, same))) (λ same lt. absurd (omega (arith, same))) in
+    let after_01 : First 0 1 =
+    events-cases (Second 0 1) (λ same lt. absurd (omega (arith, lt))) (λ same lt. absurd (omega (arith, lt)))
+    (λ same lt. absurd (omega (arith, same))) (λ same lt. absurd (omega (arith, same))) in
+    let after_10 : First 1 0 =
+    events-cases (Second 1 0) (λ same lt. absurd (omega (arith, same))) (λ same lt. absurd (omega (arith, same)))
+    (λ same lt. absurd (omega (arith, lt))) (λ same lt. thread_1) in
+    let after_11 : First 1 1 =
+    events-cases (Second 1 1) (λ same lt. absurd (omega (arith, same))) (λ same lt. absurd (omega (arith, same)))
+    (λ same lt. absurd (omega (arith, lt))) (λ same lt. absurd (omega (arith, lt))) in
+    events-cases First after_00 after_01 after_10 after_11 a.thread a.position po.first_event b.thread b.position po.second_event
+    po.same_thread po.position_lt
 
 -- No program order is preserved: each thread has a store followed by a load.
 no_Ppo : (a b : MemoryEvent) → Ppo x86_language store_buffering_in_x86 early_execution a b → ⊥
@@ -188,7 +205,7 @@ initial_words zero lt = refl
 initial_words (suc zero) lt = refl
 initial_words (suc (suc l)) lt = absurd (omega (arith, lt))
 
--- The last word of each location is that of its only store.
+-- The last word of each location is that of the outcome: it is written by the location's only store.
 IsLast-of_outcome : (l : ℕ)
     → l < 2
     → IsLast x86_language store_buffering_in_x86 early_execution l (slice_index both_loads_early.words l)

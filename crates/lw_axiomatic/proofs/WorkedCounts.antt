@@ -9,7 +9,7 @@ use Rattle.lw_axiomatic.proofs.Common.{Execution, IsEvent, Po, reads, Reads, Wri
 use Rattle.lw_axiomatic.proofs.Common.{IsCandidate, IsReadFrom, SatisfiesAxioms, IsAllowed, IsOverBefore}
 use Rattle.lw_axiomatic.proofs.Common.{spin_lock, wrapping_sum}
 use Rattle.lw_axiomatic.proofs.Anchored.{Po-Rf_in_thread}
-use Rattle.lw_axiomatic.proofs.CoherenceLaws.{Co_total-of_writes}
+use Rattle.lw_axiomatic.proofs.CoherenceLaws.{Co-total}
 use Rattle.lw_axiomatic.proofs.EventLists.{event}
 use Rattle.lw_axiomatic.proofs.Locks.{IsOverBefore-total, IsOrderedBefore-sections}
 use Rattle.lw_axiomatic.proofs.WorkedLocks.{EntersSection, SpinLockRun-of_thread, IsEvent-of_inside}
@@ -46,7 +46,7 @@ module _ {x : Execution} {o : FinalState} (candidate : IsCandidate x86_language 
   }
 
   module _ (a b : ℕ) (both : BothInside a b) (over : IsOverBefore test x 1 (event a 4) (event b 4)) where
-    -- Both threads load and store the count.
+    -- Thread a does each instruction of its critical section.
     a_did : (j : ℕ) → Contains inside_path j → IsEvent x (event a j)
     a_did j among = IsEvent-of_inside 2 candidate a j both.a_inside among
 
@@ -87,8 +87,8 @@ module _ {x : Execution} {o : FinalState} (candidate : IsCandidate x86_language 
     }
 
     -- The count is stored by these two events only.
-    Writes-of_count : (w : MemoryEvent) → Writes x86_language test x w 0 → (w ≡ event a 10) ⊎ (w ≡ event b 10)
-    Writes-of_count w writing =
+    Writes-cases_of_count : (w : MemoryEvent) → Writes x86_language test x w 0 → (w ≡ event a 10) ⊎ (w ≡ event b 10)
+    Writes-cases_of_count w writing =
         let ten : w.position ≡ 10 =
         Contains-singleton 10 w.position
         (Contains-indices_of_event 2 candidate writes 0 w writing.is_event writing.is_write writing.location_is) in
@@ -111,7 +111,7 @@ module _ {x : Execution} {o : FinalState} (candidate : IsCandidate x86_language 
     no_Rf-to_earlier : (t : ℕ) → Rf x86_language test x (event t 10) (event t 8) → ⊥
     no_Rf-to_earlier t rf = let po = Po-Rf_in_thread axioms (event t 10) (event t 8) rf refl in omega (arith, po.position_lt)
 
-    -- a's load comes before its store, that before b's load, and that before b's store.
+    -- In global happens-before a's load comes before its store.
     a_load_before_store : ghb_rank (event a 8) < ghb_rank (event a 10)
     a_load_before_store = axioms.happens_before.increases (event a 8) (event a 10) (inl (record {
       po = record {
@@ -123,7 +123,7 @@ module _ {x : Execution} {o : FinalState} (candidate : IsCandidate x86_language 
       is_preserved = or_left (operation_is x86_language test reads (event a 8)) _ a_loads.is_read;
     }))
 
-    -- b's load comes before its store.
+    -- In global happens-before b's load comes before its store.
     b_load_before_store : ghb_rank (event b 8) < ghb_rank (event b 10)
     b_load_before_store = axioms.happens_before.increases (event b 8) (event b 10) (inl (record {
       po = record {
@@ -135,7 +135,7 @@ module _ {x : Execution} {o : FinalState} (candidate : IsCandidate x86_language 
       is_preserved = or_left (operation_is x86_language test reads (event b 8)) _ b_loads.is_read;
     }))
 
-    -- a's store comes before b's load, since a's section is over.
+    -- In global happens-before a's store comes before b's load, since a's section is over.
     a_store_before_b_load : ghb_rank (event a 10) < ghb_rank (event b 8)
     a_store_before_b_load =
         let u = over.0 in
@@ -166,7 +166,7 @@ module _ {x : Execution} {o : FinalState} (candidate : IsCandidate x86_language 
         → IsReadFrom x86_language test x (event a 8) 0 q
         → x.read (event a 8) ≡ 0
     a_reads_zero None from is = is
-    a_reads_zero (Some w) from is = absurd (elim (Writes-of_count w is.write) [
+    a_reads_zero (Some w) from is = absurd (elim (Writes-cases_of_count w is.write) [
       | inl own ↦ no_Rf-to_earlier a (subst (λ (z : MemoryEvent). Rf x86_language test x z (event a 8)) own
           (record { on_location = 0; write = is.write; read = a_loads; source_is = from }))
       | inr other ↦
@@ -193,7 +193,7 @@ module _ {x : Execution} {o : FinalState} (candidate : IsCandidate x86_language 
           source_before = λ w is_some. absurd (none-some w (sym from ∙ is_some));
         } in
         omega (arith, axioms.happens_before.increases (event b 8) (event a 10) (inr (inr (inr fr))), a_store_before_b_load))
-    b_reads_count_of_a (Some w) from is = elim (Writes-of_count w is.write) [
+    b_reads_count_of_a (Some w) from is = elim (Writes-cases_of_count w is.write) [
       | inl other ↦ is.word_is ∙ ap x.written other
       | inr own ↦ absurd (no_Rf-to_earlier b (subst (λ (z : MemoryEvent). Rf x86_language test x z (event b 8)) own
           (record { on_location = 0; write = is.write; read = b_loads; source_is = from })))
@@ -210,11 +210,11 @@ module _ {x : Execution} {o : FinalState} (candidate : IsCandidate x86_language 
     count_is_two : slice_index o.words 0 ≡ 2
     count_is_two = elim (candidate.words 0 (omega arith)) [
       | inl (none, word) ↦ absurd (none (event a 10) a_stores)
-      | inr (e, writing, most, word) ↦ elim (Writes-of_count e writing) [
+      | inr (e, writing, most, word) ↦ elim (Writes-cases_of_count e writing) [
         | inr is ↦ word ∙ ap x.written is ∙ b_written
         | inl is ↦
             absurd (let up = most (event b 10) b_stores in
-            elim (Co_total-of_writes candidate axioms.coherence (event a 10) (event b 10) 0 a_stores b_stores) [
+            elim (Co-total candidate axioms.coherence (event a 10) (event b 10) 0 a_stores b_stores) [
               | inl same ↦ both.threads_differ (ap (λ (z : MemoryEvent). z.thread) same)
               | inr (inl co) ↦ omega (arith, co.co_lt, up, ap x.co is)
               | inr (inr co) ↦ omega (

@@ -53,12 +53,12 @@ Advances-in_code x t code (j ∷ path) s end i found_at executes =
     }
 
 -- A thread at the end of its code stops there.
-ThreadExecutes-at_end : (x : Execution) (t : ℕ) (code : List Instr) (path : List ℕ) (s end : ThreadState)
+ThreadExecutes-at_end_inv : (x : Execution) (t : ℕ) (code : List Instr) (path : List ℕ) (s end : ThreadState)
     → slice_get code s.position ≡ None
     → ThreadExecutes x86_language x t code path s end
     → (path ≡ []) × (end ≡ s)
-ThreadExecutes-at_end x t code [] s end is_none executes = (refl, executes.1)
-ThreadExecutes-at_end x t code (j ∷ path) s end is_none executes =
+ThreadExecutes-at_end_inv x t code [] s end is_none executes = (refl, executes.1)
+ThreadExecutes-at_end_inv x t code (j ∷ path) s end is_none executes =
     absurd (none-some executes.statement
     (sym is_none ∙ subst (λ k. slice_get code k ≡ Some executes.statement) (sym executes.position_is) executes.statement_at))
 
@@ -117,8 +117,8 @@ Contains-indices_of_kind kind l j code has_kind location_is = Contains-of_instru
         (ap (λ q. option_map_or (λ k. k == l) q false) location_is ∙ eq-eqb l l refl)) (omega arith)
 
 -- A list of two items has no other.
-Contains-pair : (k m j : ℕ) → Contains (k ∷ m ∷ []) j → (j ≡ k) ⊎ (j ≡ m)
-Contains-pair k m j is_member = elim (Contains-cons k j (m ∷ []) is_member) [
+Contains-pair_inv : (k m j : ℕ) → Contains (k ∷ m ∷ []) j → (j ≡ k) ⊎ (j ≡ m)
+Contains-pair_inv k m j is_member = elim (Contains-cons k j (m ∷ []) is_member) [
   | inl is_head ↦ inl (sym is_head)
   | inr in_tail ↦ inr (Contains-singleton m j in_tail)
 ]
@@ -175,7 +175,7 @@ module _ (x : Execution) (t : ℕ) where
       → Advances x t spin_lock_code path s end i
   Advances-spin_lock = Advances-in_code x t spin_lock_code
 
-  -- After the lock that it has taken, the thread runs to its end.
+  -- A thread that has taken the lock, which was free, runs through its critical section.
   EntersSection-takes_lock : (path rest : List ℕ) (end : ThreadState)
       → path ≡ 0 ∷ 1 ∷ 2 ∷ 3 ∷ 4 ∷ 5 ∷ 6 ∷ rest
       → x.written (event t 4) ≡ 1
@@ -198,7 +198,8 @@ module _ (x : Execution) (t : ℕ) where
       Advances-spin_lock a10.rest (state_at 11 (word_read_at 4) sum 1 (sum == 0)) end (instr.Store 1 (Number 0)) refl
       a10.executes in
       let last =
-      ThreadExecutes-at_end x t spin_lock_code a11.rest (state_at 12 (word_read_at 4) sum 1 (sum == 0)) end refl a11.executes in
+      ThreadExecutes-at_end_inv x t spin_lock_code a11.rest (state_at 12 (word_read_at 4) sum 1 (sum == 0)) end refl
+      a11.executes in
       record {
         path_is =
             begun
@@ -213,7 +214,7 @@ module _ (x : Execution) (t : ℕ) where
         counts = a10.wrote refl;
       }
 
-  -- The thread tries to take the lock.
+  -- A thread that found the lock free fails to take it, or enters its critical section.
   Tried_or_Entered : (path rest : List ℕ) (end : ThreadState) (flag : Bool)
       → path ≡ 0 ∷ 1 ∷ 2 ∷ rest
       → ExecutesPath rest (state_at 3 (word_read_at 0) 0 0 flag) end
@@ -239,7 +240,7 @@ module _ (x : Execution) (t : ℕ) where
             inr (EntersSection-takes_lock path a6.rest end so_far takes (eqb-true (word_read_at 4) 0 free) (onward true free))
         | inr taken ↦
             (let last =
-            ThreadExecutes-at_end x t spin_lock_code a6.rest (state_at 12 (word_read_at 4) 0 0 (word_read_at 4 == 0)) end refl
+            ThreadExecutes-at_end_inv x t spin_lock_code a6.rest (state_at 12 (word_read_at 4) 0 0 (word_read_at 4 == 0)) end refl
             (onward false taken) in
             inl (record {
               path_is = so_far ∙ ap (λ p. 0 ∷ 1 ∷ 2 ∷ 3 ∷ 4 ∷ 5 ∷ 6 ∷ p) last.0;
@@ -248,7 +249,7 @@ module _ (x : Execution) (t : ℕ) where
             }))
       ]
 
-  -- The thread goes one of the three ways.
+  -- A thread that runs from the start of the code goes one of the three ways.
   SpinLockRun-of_run : (path : List ℕ) (end : ThreadState) → ExecutesPath path (state_at 0 0 0 0 false) end → SpinLockRun path end
   SpinLockRun-of_run path end goes =
       let a0 = Advances-spin_lock path (state_at 0 0 0 0 false) end (instr.Load 0 1) refl goes in
@@ -265,7 +266,7 @@ module _ (x : Execution) (t : ℕ) where
         | inl free ↦ inr (Tried_or_Entered path a2.rest end (word_read_at 0 == 0) begun (onward true free))
         | inr taken ↦
             (let last =
-            ThreadExecutes-at_end x t spin_lock_code a2.rest (state_at 12 (word_read_at 0) 0 0 (word_read_at 0 == 0)) end refl
+            ThreadExecutes-at_end_inv x t spin_lock_code a2.rest (state_at 12 (word_read_at 0) 0 0 (word_read_at 0 == 0)) end refl
             (onward false taken) in
             inl (record {
               path_is = begun ∙ ap (λ p. 0 ∷ 1 ∷ 2 ∷ p) last.0;
@@ -319,7 +320,7 @@ module _ (n : ℕ) {x : Execution} {o : FinalState} (candidate : IsCandidate x86
     | inr (inr entered) ↦ entered.takes
   ]
 
-  -- A thread that lets the lock go was inside.
+  -- A thread that does the instruction at 11, which lets the lock go, was inside.
   EntersSection-releases : (t : ℕ) → IsEvent x (event t 11) → EntersSection x t (thread_code x.paths t)
   EntersSection-releases t is_event = elim (SpinLockRun-of_thread t (thread_in_range-of_event (event t 11) is_event)).1 [
     | inl turned ↦
@@ -354,7 +355,7 @@ module _ (n : ℕ) {x : Execution} {o : FinalState} (candidate : IsCandidate x86
       (subst (λ (c : List Instr). option_and_then location_of (option_map x86_operation (slice_get c e.position)) ≡ Some l) code
       location_is)
 
-  -- The kind of an event, by its instruction.
+  -- An event of one of the n threads is of a kind exactly if the instruction at its position is.
   pub kind_at : (kind : Operation → Bool) (t j : ℕ) (b : Bool)
       → t < n
       → option_map_or kind (option_map x86_operation (slice_get spin_lock_code j)) false ≡ b
@@ -362,7 +363,7 @@ module _ (n : ℕ) {x : Execution} {o : FinalState} (candidate : IsCandidate x86
   kind_at kind t j b in_range is =
       ap (λ (c : List Instr). option_map_or kind (option_map x86_operation (slice_get c j)) false) (code_is t in_range) ∙ is
 
-  -- The location of an event, by its instruction.
+  -- An event of one of the n threads has the location of the instruction at its position.
   pub location_at : (t j : ℕ) (l : ℕ)
       → t < n
       → option_and_then location_of (option_map x86_operation (slice_get spin_lock_code j)) ≡ Some l
@@ -385,7 +386,8 @@ module _ (n : ℕ) {x : Execution} {o : FinalState} (candidate : IsCandidate x86
   -- A write of the lock is by XCHG or by the last store.
   pub lock_write_positions : (e : MemoryEvent) → Writes x86_language test x e 1 → (e.position ≡ 4) ⊎ (e.position ≡ 11)
   lock_write_positions e writing =
-      Contains-pair 4 11 e.position (Contains-indices_of_event writes 1 e writing.is_event writing.is_write writing.location_is)
+      Contains-pair_inv 4 11 e.position
+      (Contains-indices_of_event writes 1 e writing.is_event writing.is_write writing.location_is)
 
   -- The location is used as a lock.
   pub IsUsedAsLock-lock : IsUsedAsLock test x 1

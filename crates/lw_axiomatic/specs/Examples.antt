@@ -50,7 +50,7 @@ spin_lock threads = record {
     init_words = 0 ∷ 0 ∷ [];
     listed = [];
     quant = NotExists;
-    condition = one_is_lost;
+    proposition = one_is_lost;
   };
   threads = replicate threads spin_lock_code;
 }

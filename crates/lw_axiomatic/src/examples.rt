@@ -46,7 +46,7 @@ pub fn the_spin_lock_excludes()
         → SatisfiesAxioms (spin_lock threads) x → (r s : MemoryEvent)
         → Acquires (spin_lock threads) x 1 r → Acquires (spin_lock threads) x 1 s
         → (r ≡ s) ⊎ (IsOverBefore (spin_lock threads) x 1 r s ⊎ IsOverBefore (spin_lock threads) x 1 s r) }
-    ensures outcomes { (o : FinalState) → IsAllowed (spin_lock 2) o → is_true (spin_lock 2).head.condition o ≡ false }
+    ensures outcomes { (o : FinalState) → IsAllowed (spin_lock 2) o → is_true (spin_lock 2).head.proposition o ≡ false }
 {
     critical_sections_do_not_overlap();
 }

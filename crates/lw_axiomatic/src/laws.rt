@@ -30,7 +30,7 @@ use lw_tso_caches::outcomes_over_caches_are_flat;
 /// States the theorem: the outcomes of an x86 test on the machine, with store buffers over flat memory, are exactly
 /// those that the axioms allow, for any number of threads, locations and instructions. The same holds of a test that fits
 /// the caches over those of each protocol, empty at the start, with evictions at any time.
-pub fn the_machine_is_what_the_axioms_allow()
+pub fn machine_outcomes_are_those_allowed()
     ensures flat_memory { (test : X86Test) (o : FinalState) → IsWellScopedProgram test
         → IsMachineOutcome flat_memory test test.head.init_words o ↔ IsAllowed test o }
     ensures caches { (protocol : Protocol) (test : X86Test) (o : FinalState) → IsWellScopedProgram test → FitsCaches test
@@ -43,11 +43,11 @@ pub fn the_machine_is_what_the_axioms_allow()
 /// States that the outcomes of a source test, by interleaving on one memory, are exactly those that the axioms of
 /// x86-TSO allow its compiled program. In `starts`, each thread has a list: the indices at which its statements start
 /// among its instructions, and at the end the number of these.
-pub fn compiled_programs_are_what_the_axioms_allow()
+pub fn source_outcomes_are_those_allowed_to_compiled_programs()
     ensures { (test : SourceTest) (program : X86Test) (starts : List (List ℕ)) (o : FinalState) → IsWellScopedSource test
         → IsCompiled test program starts → SourceOutcome test o ↔ IsAllowed program o }
 {
-    the_machine_is_what_the_axioms_allow();
+    machine_outcomes_are_those_allowed();
 }
 
 /// States that the outcomes of a test by interleaving on one memory are exactly those of its sequentially consistent
@@ -74,8 +74,8 @@ pub fn states_prints_what_the_axioms_allow()
         → IsOutputOf IsStatesReport text made
         ↔ (IsWithinListLimits (Of_source test) × IsReport test.head (IsScOutcome source_language test) Exact made) }
 {
-    the_machine_is_what_the_axioms_allow();
-    compiled_programs_are_what_the_axioms_allow();
+    machine_outcomes_are_those_allowed();
+    source_outcomes_are_those_allowed_to_compiled_programs();
     interleaving_outcomes_are_sequential();
     a_text_has_one_test();
     tests_of_texts_are_well_formed();

@@ -26,8 +26,8 @@ pub use herd::{
     locked_instructions_can_be_two_events,
 };
 pub use laws::{
-    compiled_programs_are_what_the_axioms_allow, interleaving_outcomes_are_sequential,
-    states_prints_what_the_axioms_allow, the_machine_is_what_the_axioms_allow,
+    interleaving_outcomes_are_sequential, machine_outcomes_are_those_allowed,
+    source_outcomes_are_those_allowed_to_compiled_programs, states_prints_what_the_axioms_allow,
 };
 pub use programs::{
     accesses_of_one_location_are_coherent, critical_sections_do_not_overlap,

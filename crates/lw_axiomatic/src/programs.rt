@@ -23,7 +23,7 @@ ghost use Rattle.lw_tso.specs.Fencing.{HasInsertedFences};
 ghost use Rattle.lw_tso.specs.Runs.{IsMachineOutcome};
 ghost use Rattle.lw_tso_caches.specs.OverCaches.{FitsCaches, OutcomeOverCaches};
 
-use crate::laws::{interleaving_outcomes_are_sequential, the_machine_is_what_the_axioms_allow};
+use crate::laws::{interleaving_outcomes_are_sequential, machine_outcomes_are_those_allowed};
 use crate::times::executions_have_times;
 use lw_tso::{fences_only_remove_outcomes, tests_without_fences_are_well_formed};
 
@@ -98,9 +98,8 @@ pub fn well_fenced_executions_are_sequential()
 }
 
 /// States that an execution is sequentially consistent if a fence or a locked instruction is between each store and
-/// each later load of its thread, except loads of locations that no other thread writes in the execution. This is a
-/// law of all loads at once: if another load lacks its fence, the fence before such a load may be needed
-/// (`spare_fences_change_no_outcome`).
+/// each later load of its thread, except loads of locations that no other thread writes in the execution. It needs
+/// all these fences at once. Which fences can be removed from a test says `spare_fences_change_no_outcome`.
 pub fn executions_fenced_where_shared_are_sequential()
     ensures { (test : X86Test) (x : Execution) → SatisfiesAxioms test x → IsFencedWhereShared test x
         → IsSequentiallyConsistent x86_language test x }
@@ -118,13 +117,13 @@ pub fn fenced_tests_have_sequential_outcomes()
 {
     sequential_outcomes_are_allowed();
     executions_fenced_where_overwritten_are_sequential();
-    the_machine_is_what_the_axioms_allow();
+    machine_outcomes_are_those_allowed();
     interleaving_outcomes_are_sequential();
 }
 
 /// States that a test has on the machine exactly the outcomes of interleaving, if on each path a fence or a locked
 /// instruction is between each store and each later load, except loads of locations that no instruction of another
-/// thread writes. This is a law of all loads at once, as `executions_fenced_where_shared_are_sequential` is.
+/// thread writes. It needs all these fences at once, as `executions_fenced_where_shared_are_sequential` does.
 pub fn tests_fenced_where_others_write_have_interleaving_outcomes()
     ensures axioms { (test : X86Test) (o : FinalState) → IsFencedWhereOthersWrite test
         → IsAllowed test o ↔ IsScOutcome x86_language test o }
@@ -133,14 +132,15 @@ pub fn tests_fenced_where_others_write_have_interleaving_outcomes()
 {
     sequential_outcomes_are_allowed();
     executions_fenced_where_overwritten_are_sequential();
-    the_machine_is_what_the_axioms_allow();
+    machine_outcomes_are_those_allowed();
     interleaving_outcomes_are_sequential();
 }
 
 /// States that spare MFENCEs can be removed, one or several, without any change of the outcomes. They are spare if
 /// for each store and each later load that one of them separates on a path, either another fence or a locked
 /// instruction, which remains, separates them too, or no instruction of another thread writes what the load reads.
-/// The laws above speak of all loads at once, this one of each fence by itself.
+/// The laws above ask for a fence between each store and each later load, with the exceptions that each names; this one
+/// asks only about the pairs that a removed fence separates.
 pub fn spare_fences_change_no_outcome()
     ensures axioms { (test fenced : X86Test) (o : FinalState) (inserted : HasInsertedFences test fenced) → IsWellScopedProgram fenced
         → AreSpare test fenced inserted → IsAllowed test o ↔ IsAllowed fenced o }
@@ -153,7 +153,7 @@ pub fn spare_fences_change_no_outcome()
 {
     fences_only_remove_outcomes();
     tests_without_fences_are_well_formed();
-    the_machine_is_what_the_axioms_allow();
+    machine_outcomes_are_those_allowed();
 }
 
 /// States that a test without a triangular race in any of its runs by interleaving has exactly the outcomes of
@@ -167,7 +167,7 @@ pub fn tests_without_triangular_races_have_interleaving_outcomes()
     ensures caches { (protocol : Protocol) (test : X86Test) (o : FinalState) → IsWellScopedProgram test → FitsCaches test
         → (HasTriangularRace test → ⊥) → OutcomeOverCaches protocol test o ↔ InterleavingOutcome x86_language test o }
 {
-    the_machine_is_what_the_axioms_allow();
+    machine_outcomes_are_those_allowed();
     interleaving_outcomes_are_sequential();
     sequential_outcomes_are_allowed();
 }

@@ -7,6 +7,7 @@ use Rattle.lw_axiomatic.proofs.SourceOutcomes.{SourceOutcome-iff_InterleavingOut
 use Rattle.lw_axiomatic.proofs.ToInterleaving.{InterleavingOutcome-IsScOutcome}
 use Rattle.lw_axiomatic.proofs.laws.interleaving_outcomes_are_sequential.Goals as goal
 
+-- In each language one lemma goes from the run to the execution, and one back.
 pub returns : goal.returns
 returns c = record {
   source = λ test o well_scoped. (

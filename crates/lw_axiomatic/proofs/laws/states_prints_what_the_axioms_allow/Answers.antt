@@ -9,7 +9,7 @@ returns c =
     let one = c.a_text_has_one_test.ensures in
     let formed = c.tests_of_texts_are_well_formed.ensures in
     record {
-      x86 = IsOutputOf-iff_x86 one formed c.the_machine_is_what_the_axioms_allow.ensures.flat_memory;
-      compiled = IsOutputOf-iff_compiled one formed c.compiled_programs_are_what_the_axioms_allow.ensures;
+      x86 = IsOutputOf-iff_x86 one formed c.machine_outcomes_are_those_allowed.ensures.flat_memory;
+      compiled = IsOutputOf-iff_compiled one formed c.source_outcomes_are_those_allowed_to_compiled_programs.ensures;
       sequential = prints_sequential one formed c.interleaving_outcomes_are_sequential.ensures.source;
     }

@@ -5,11 +5,12 @@ use Rattle.lw_axiomatic.proofs.Common.{most_threads, subst, ◌≤◌, TestHead}
 use Rattle.lw_axiomatic.proofs.SpareFences.{IsAllowed-with_fences}
 use Rattle.lw_axiomatic.proofs.programs.spare_fences_change_no_outcome.Goals as goal
 
+-- In each clause one direction is `IsAllowed-with_fences`, and the other that fences only remove outcomes.
 pub returns : goal.returns
 returns c =
     let scoped = c.tests_without_fences_are_well_formed.ensures.well_scoped in
     let fewer = c.fences_only_remove_outcomes.ensures in
-    let machine = c.the_machine_is_what_the_axioms_allow.ensures in
+    let machine = c.machine_outcomes_are_those_allowed.ensures in
     record {
       axioms = λ test fenced o inserted well_scoped spare.
           let test_ok = scoped test fenced well_scoped inserted in (

@@ -4,6 +4,7 @@
 use Rattle.lw_axiomatic.proofs.DataRaces.{HasDataRace-HasTriangularRace}
 use Rattle.lw_axiomatic.proofs.programs.tests_without_data_races_have_interleaving_outcomes.Goals as goal
 
+-- Each clause is that of tests without triangular races.
 pub returns : goal.returns
 returns c =
     let law = c.tests_without_triangular_races_have_interleaving_outcomes.ensures in

@@ -4,12 +4,13 @@
 use Rattle.lw_axiomatic.proofs.RaceFree.{IsAllowed-iff_InterleavingOutcome}
 use Rattle.lw_axiomatic.proofs.programs.tests_without_triangular_races_have_interleaving_outcomes.Goals as goal
 
+-- On the machine and over caches the outcomes are those that the axioms allow.
 pub returns : goal.returns
 returns c =
     let same =
     IsAllowed-iff_InterleavingOutcome c.interleaving_outcomes_are_sequential.ensures.x86
     c.sequential_outcomes_are_allowed.ensures.outcomes in
-    let machine = c.the_machine_is_what_the_axioms_allow.ensures in
+    let machine = c.machine_outcomes_are_those_allowed.ensures in
     record {
       axioms = same;
       flat_memory = λ test o well_scoped raceless.

@@ -3,8 +3,9 @@
 -- and `OfAssignment-IsAllowed` are the two directions. Over caches the outcomes are those over flat memory.
 use Rattle.lw_axiomatic.proofs.Common.{HasOutcomeShape-flat_outcome}
 use Rattle.lw_axiomatic.proofs.Equivalence.{IsAllowed-OfAssignment, OfAssignment-IsAllowed}
-use Rattle.lw_axiomatic.proofs.laws.the_machine_is_what_the_axioms_allow.Goals as goal
+use Rattle.lw_axiomatic.proofs.laws.machine_outcomes_are_those_allowed.Goals as goal
 
+-- Both clauses go by the outcomes of path assignments; over caches the outcomes are those over flat memory.
 pub returns : goal.returns
 returns c = record {
   flat_memory = λ test o well_scoped.
