@@ -1,11 +1,11 @@
-//! Searches where memory is refused, each growth in turn.
+//! Searches where memory is refused, each request in turn.
 use lw_base::{Cpu, Reg, Seen};
 use lw_outcome_map::{Listing, OutcomeList};
 use lw_search::{
     SearchFault, Searched, SearchedOutcomes, reach_program, reach_program_states, reach_source,
     reach_source_states,
 };
-use lw_test_reader::{Made, MadeByAllocator, Refusing, program_of, refusals, source_of};
+use lw_test_reader::{Made, MadeByAllocator, Refusing, count_requests, program_of, source_of};
 use std::alloc::Allocator;
 
 /// Store buffering.
@@ -133,9 +133,9 @@ impl MadeByAllocator for ObservedX86Search {
 
 #[test]
 fn searches_for_reports_where_memory_is_refused(rt: HostRuntime) {
-    let source = refusals(rt.alloc(), &ObservedSourceSearch);
+    let source = count_requests(rt.alloc(), &ObservedSourceSearch);
     assert!(rt; matches!(source, Some(number) if number > 0), "{source:?}");
-    let program = refusals(rt.alloc(), &ObservedX86Search);
+    let program = count_requests(rt.alloc(), &ObservedX86Search);
     assert!(rt;
         matches!(program, Some(number) if number > 0),
         "{program:?}"
@@ -144,9 +144,9 @@ fn searches_for_reports_where_memory_is_refused(rt: HostRuntime) {
 
 #[test]
 fn searches_where_memory_is_refused(rt: HostRuntime) {
-    let source = refusals(rt.alloc(), &SourceSearch);
+    let source = count_requests(rt.alloc(), &SourceSearch);
     assert!(rt; matches!(source, Some(number) if number > 0), "{source:?}");
-    let program = refusals(rt.alloc(), &X86Search);
+    let program = count_requests(rt.alloc(), &X86Search);
     assert!(rt;
         matches!(program, Some(number) if number > 0),
         "{program:?}"

@@ -1,8 +1,8 @@
-//! Lists that are made while memory is refused, each growth in turn.
+//! Lists that are made while memory is refused, each request in turn.
 use lw_finals::{list_source, list_source_outcomes, list_x86, list_x86_outcomes};
 use lw_outcome_map::{Listing, OutcomeList};
 use lw_paths::ListFault;
-use lw_test_reader::{Made, MadeByAllocator, Refusing, program_of, refusals, source_of};
+use lw_test_reader::{Made, MadeByAllocator, Refusing, count_requests, program_of, source_of};
 use std::alloc::Allocator;
 
 /// Store buffering.
@@ -116,19 +116,19 @@ impl MadeByAllocator for X86Outcomes {
 
 #[test]
 fn lists_where_memory_is_refused(rt: HostRuntime) {
-    let lists = refusals(rt.alloc(), &SourceList);
+    let lists = count_requests(rt.alloc(), &SourceList);
     assert!(rt; matches!(lists, Some(number) if number > 0), "{lists:?}");
-    let x86_lists = refusals(rt.alloc(), &X86List);
+    let x86_lists = count_requests(rt.alloc(), &X86List);
     assert!(rt;
         matches!(x86_lists, Some(number) if number > 0),
         "{x86_lists:?}"
     );
-    let outcomes = refusals(rt.alloc(), &SourceOutcomes);
+    let outcomes = count_requests(rt.alloc(), &SourceOutcomes);
     assert!(rt;
         matches!(outcomes, Some(number) if number > 0),
         "{outcomes:?}"
     );
-    let x86_outcomes = refusals(rt.alloc(), &X86Outcomes);
+    let x86_outcomes = count_requests(rt.alloc(), &X86Outcomes);
     assert!(rt;
         matches!(x86_outcomes, Some(number) if number > 0),
         "{x86_outcomes:?}"

@@ -9,7 +9,7 @@ use lw_base::{Cpu, End, Event, read_schedule};
 use lw_fence::{Compiled, compile, schedule_of};
 use lw_interleaving::SourceRun;
 use lw_litmus::Source;
-use lw_test_reader::{Made, MadeByAllocator, Refusing, refusals, source_of};
+use lw_test_reader::{Made, MadeByAllocator, Refusing, count_requests, source_of};
 use std::alloc::{AllocError, Allocator, Global};
 
 /// Returns a step of each of these threads, in sequence.
@@ -205,12 +205,12 @@ impl MadeByAllocator for Schedule {
 
 #[test]
 fn compiling_where_memory_is_refused(rt: HostRuntime) {
-    let compiled = refusals(rt.alloc(), &Compilation);
+    let compiled = count_requests(rt.alloc(), &Compilation);
     assert!(rt;
         matches!(compiled, Some(number) if number > 0),
         "{compiled:?}"
     );
-    let schedules = refusals(rt.alloc(), &Schedule);
+    let schedules = count_requests(rt.alloc(), &Schedule);
     assert!(rt;
         matches!(schedules, Some(number) if number > 0),
         "{schedules:?}"

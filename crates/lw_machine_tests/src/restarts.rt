@@ -37,7 +37,7 @@ fn is_outcome(outcome: &Outcome, registers: [Word; 2], words: [Word; 2]) -> bool
 }
 
 /// Runs the events, and returns whether all are carried out and reach the expected state.
-fn goes<M: MemorySystem>(machine: &mut Machine<'_, M>) -> bool {
+fn runs_as_expected<M: MemorySystem>(machine: &mut Machine<'_, M>) -> bool {
     let replay = machine.run(&events());
     match machine.outcome() {
         Ok(outcome) => {
@@ -47,8 +47,9 @@ fn goes<M: MemorySystem>(machine: &mut Machine<'_, M>) -> bool {
     }
 }
 
-/// Returns whether the memory system of two processors is as it was created: a 5 and a 7, and no location is held.
-pub(crate) fn is_untouched<M: MemorySystem>(memory: &M) -> bool {
+/// Returns whether the memory system of two processors is as it was created: the words of x and y are 5 and 7, and no
+/// cache has a copy.
+pub(crate) fn is_as_created<M: MemorySystem>(memory: &M) -> bool {
     if memory.cpu_count() != 2 || memory.location_count() != 2 {
         return false;
     }
@@ -78,27 +79,28 @@ fn is_at_start<M: MemorySystem>(machine: &mut Machine<'_, M>) -> bool {
     match machine.outcome() {
         Ok(outcome) => {
             drained == (Err(Stop::BufferEmpty), Err(Stop::BufferEmpty))
-                && is_untouched(machine.memory())
+                && is_as_created(machine.memory())
                 && is_outcome(&outcome, [0, 3], [5, 7])
         }
         Err(_) => false,
     }
 }
 
-/// Returns whether a machine of a program over this memory system runs as expected, and again after a restart.
+/// Returns whether a machine of a program over this memory system runs as expected, and again after a restart; `None` if
+/// memory runs out.
 fn is_restarted<M: MemorySystem + Drop>(alloc: Global, program: &Program, memory: M) -> Option<bool>
     requires threads { length program.now.threads ≤ M.cpus memory }
     requires words { M.content memory ≡ program.now.head.init_words }
 {
     every_run_ends::<M>();
     let mut machine = Machine::new(alloc, program, memory).ok()?;
-    let goes_first = goes(&mut machine);
+    let first_runs = runs_as_expected(&mut machine);
     machine.restart();
     let is_at_start = is_at_start(&mut machine);
-    Some(goes_first && is_at_start && goes(&mut machine))
+    Some(first_runs && is_at_start && runs_as_expected(&mut machine))
 }
 
-/// Returns whether machines over each memory system run as expected.
+/// Returns whether machines over each memory system run as expected, and again after a restart; `None` if memory runs out.
 fn are_restarted(alloc: Global, program: &Program) -> Option<bool> {
     let flat = FlatMemory::new(program.head.threads, program.head.init_words.as_slice());
     let over_flat = is_restarted(alloc, program, flat)?;

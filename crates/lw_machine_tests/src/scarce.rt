@@ -1,10 +1,10 @@
-//! Creating caches and a machine while memory is refused, each growth in turn.
+//! Creating caches and a machine while memory is refused, each request in turn.
 use crate::machines::caches_of;
-use crate::restarts::is_untouched;
+use crate::restarts::is_as_created;
 use lw_base::{Cpu, End, Event, Outcome};
 use lw_litmus::Program;
 use lw_mesi::{Mesi, MesiProtocol, MoesiProtocol, ProtocolType, SnoopingCaches};
-use lw_test_reader::{Made, MadeByAllocator, Refusing, program_of, refusals};
+use lw_test_reader::{Made, MadeByAllocator, Refusing, count_requests, program_of};
 use lw_tso::Machine;
 use std::alloc::{AllocError, Global};
 use std::marker::PhantomData;
@@ -41,9 +41,9 @@ fn ends(machine: &mut Machine<'_, Mesi, &Refusing>) -> bool {
 }
 
 /// Makes the outcome, after a run that does not allocate.
-fn ended(machine: &mut Machine<'_, Mesi, &Refusing>, scarce: &Refusing) -> Option<Made> {
-    let asked = scarce.asked();
-    if !ends(machine) || scarce.asked() != asked {
+fn make_outcome(machine: &mut Machine<'_, Mesi, &Refusing>, scarce: &Refusing) -> Option<Made> {
+    let requests = scarce.count();
+    if !ends(machine) || scarce.count() != requests {
         return None;
     }
     match machine.outcome() {
@@ -57,8 +57,8 @@ impl MadeByAllocator for RunOf<'_> {
     fn make<'a>(&self, _ample: &'a Refusing, scarce: &'a Refusing) -> Option<Made> {
         let caches = caches_of(self.alloc, self.program)?;
         match Machine::new(scarce, self.program, caches) {
-            Ok(mut machine) => ended(&mut machine, scarce),
-            Err(caches) => is_untouched(&caches).then_some(Made::Refused),
+            Ok(mut machine) => make_outcome(&mut machine, scarce),
+            Err(caches) => is_as_created(&caches).then_some(Made::Refused),
         }
     }
 }
@@ -71,7 +71,7 @@ fn machines_where_memory_is_refused(rt: HostRuntime) {
                 alloc: rt.alloc(),
                 program: &program,
             };
-            refusals(rt.alloc(), &run)
+            count_requests(rt.alloc(), &run)
         }
         None => None,
     };
@@ -93,7 +93,7 @@ impl<P: ProtocolType> MadeByAllocator for CachesBy<P> {
             &[5, 7],
         );
         match caches {
-            Ok(caches) => is_untouched(&caches).then_some(Made::Whole),
+            Ok(caches) => is_as_created(&caches).then_some(Made::Whole),
             Err(AllocError) => Some(Made::Refused),
         }
     }
@@ -101,8 +101,8 @@ impl<P: ProtocolType> MadeByAllocator for CachesBy<P> {
 
 #[test]
 fn caches_where_memory_is_refused(rt: HostRuntime) {
-    let mesi = refusals(rt.alloc(), &CachesBy::<MesiProtocol>(PhantomData));
-    let moesi = refusals(rt.alloc(), &CachesBy::<MoesiProtocol>(PhantomData));
+    let mesi = count_requests(rt.alloc(), &CachesBy::<MesiProtocol>(PhantomData));
+    let moesi = count_requests(rt.alloc(), &CachesBy::<MoesiProtocol>(PhantomData));
     assert!(rt;
         matches!((mesi, moesi), (Some(first), Some(second)) if first > 0 && second > 0),
         "{mesi:?} {moesi:?}"

@@ -4,7 +4,7 @@ ghost use Rattle.lw_orders.specs.Order.{IsWellFormed};
 
 use crate::plain::plain_orders;
 use lw_orders::{Items, Orders, count};
-use lw_test_reader::{Made, MadeByAllocator, Refusing, refusals};
+use lw_test_reader::{Made, MadeByAllocator, Refusing, count_requests};
 use std::alloc::{AllocError, Global};
 use std::test::Fail;
 
@@ -351,11 +351,11 @@ impl MadeByAllocator for OrdersOf<'_> {
     }
 }
 
-/// Memory for the iterator is refused, each growth in turn. It allocates nothing to return its orders.
+/// Memory for the iterator is refused, each request in turn. It allocates nothing to return its orders.
 #[test]
 fn orders_where_memory_is_refused(rt: HostRuntime) -> Result<(), Fail> {
     let items = items_of(rt.alloc(), 4, &[(0, 1), (2, 3)], &[(0, 3), (1, 2)])?;
-    let refused = refusals(rt.alloc(), &OrdersOf { items: &items });
+    let refused = count_requests(rt.alloc(), &OrdersOf { items: &items });
     assert!(rt;
         matches!(refused, Some(number) if number > 0),
         "{refused:?}"

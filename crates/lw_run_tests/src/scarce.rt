@@ -1,8 +1,8 @@
-//! Runs while memory is refused, each growth in turn: the fault is `Memory`, and nothing is written.
+//! Runs while memory is refused, each request in turn: the fault is `Memory`, and nothing is written.
 use crate::devices::{Sheet, Tape};
 use crate::runs::{RUNS, run_by_name};
 use lw_bench::{BenchFault, FromRead, Task, ToWrite, answer, carry_out};
-use lw_test_reader::{Made, MadeByAllocator, Refusing, refusals};
+use lw_test_reader::{Made, MadeByAllocator, Refusing, count_requests};
 
 /// A task, its text, and its whole output.
 #[derive(Clone, Copy)]
@@ -85,9 +85,9 @@ fn runs_where_memory_is_refused(rt: HostRuntime) {
             text,
             written,
         };
-        let carried_out = refusals(rt.alloc(), &CarriedOut(run));
-        let by_name = refusals(rt.alloc(), &ByName(run));
-        let answered = refusals(rt.alloc(), &Answered(run));
+        let carried_out = count_requests(rt.alloc(), &CarriedOut(run));
+        let by_name = count_requests(rt.alloc(), &ByName(run));
+        let answered = count_requests(rt.alloc(), &Answered(run));
         assert!(rt;
             matches!((carried_out, by_name, answered), (Some(a), Some(b), Some(c)) if a > 0 && b > 0 && c > 0),
             "{carried_out:?} {by_name:?} {answered:?}"

@@ -18,13 +18,13 @@ use denote.Opens.{unhide}
 use denote.Builtin.{bool}
 use denote.Steps.{only}
 use Rattle.std.proofs.alloc.Calls.{α}
-use Rattle.lw_test_reader.specs.contracts.refusing.Growths as growths
-use Rattle.lw_test_reader.specs.contracts.refusing.Growths.refuse_next as callee
+use Rattle.lw_test_reader.specs.contracts.refusing.Requests as requests
+use Rattle.lw_test_reader.specs.contracts.refusing.Requests.refuse_next as callee
 use Rattle.lw_test_reader.specs.contracts.refusing.Refusing as refusing
 
 -- The row of the count's type.
 abbrev pub Counts : RattleType
-Counts = growths.the_row
+Counts = requests.the_row
 
 module _ (Z : Al) where
   -- The row of the refusing allocator's type, over the allocator inside.
@@ -42,7 +42,7 @@ module _ (Z : Al) where
   module _ {M : Type 1} {𝓤 : Ura M} (𝓛 : Logic 𝓤) (κ : Lft) (p : ℕ × ℕ) (h : Whole.Denot) where
     -- A `&` to the allocator inside and a `&` to the count.
     abbrev pub Fields : SProp 𝓤
-    Fields = sep 𝓤 (sem 𝓛 (seen Z κ (inner_at p) h.inner)) (sem 𝓛 (hidden_shr Counts κ h.growths (count_at p).0 (count_at p).1))
+    Fields = sep 𝓤 (sem 𝓛 (seen Z κ (inner_at p) h.inner)) (sem 𝓛 (hidden_shr Counts κ h.requests (count_at p).0 (count_at p).1))
 
     -- A `&` to the whole allocator is a `&` to each of its two fields.
     pub fields : ent 𝓤 (sem 𝓛 (hidden_shr Whole κ h p.0 p.1)) Fields

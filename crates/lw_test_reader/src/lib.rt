@@ -1,4 +1,4 @@
-//! What the crates of tests share: reading a text as a test, an allocator that refuses chosen growths, and making a value with it.
+//! What the crates of tests share: reading a text as a test, an allocator that refuses chosen requests, and making a value with it.
 //!
 //! It names the readers of both languages. No library and no program depends on it.
 #![tactic(auto)]
@@ -11,7 +11,7 @@ use lw_source::{Source, read_source};
 use lw_text::read_frame;
 use lw_x86::{Program, read_program};
 pub use refusing::{Refusal, Refusing};
-pub use scarce::{Made, MadeByAllocator, refusals};
+pub use scarce::{Made, MadeByAllocator, count_requests};
 use std::alloc::Allocator;
 
 /// Returns the source test that the text is, or `None` if the text is no source test or memory runs out.

@@ -1,70 +1,69 @@
-//! An allocator for tests that refuses growths: it counts the requests to another allocator, and refuses one growth,
-//! or that one and all later ones.
+//! An allocator for tests that refuses memory: it counts the requests to another allocator, and refuses one of them, or
+//! one and all later ones. A request is a call of `allocate`: for a new block, or for a larger one in place of a block.
 use std::alloc::{AllocError, Allocator, Global};
 use std::cell::Cell;
 
-/// The growths that are refused, by their number, which starts at 1.
+/// The requests that are refused, by their number, which starts at 1.
 #[derive(Clone, Copy)]
 pub enum Refusal {
-    /// No growth is refused.
+    /// No request is refused.
     Never,
-    /// Only this growth is refused.
+    /// Only this request is refused.
     Alone(u64),
-    /// This growth and all later ones are refused.
+    /// This request and all later ones are refused.
     Onwards(u64),
 }
 
-/// The number of requested growths, and which of them are refused.
+/// The number of requests, and which of them are refused.
 #[derive(Drop)]
-struct Growths {
+struct Requests {
     refusal: Refusal,
-    /// The number of growths that were requested, refused ones included.
-    asked: Cell<u64>,
+    /// The number of requests so far, refused ones included.
+    count: Cell<u64>,
 }
 
-impl Growths {
-    /// Counts a requested growth, and returns whether it is refused.
+impl Requests {
+    /// Counts a request, and returns whether it is refused.
     fn refuse_next(&self) -> bool {
-        let asked = self.asked.get().saturating_add(1);
-        self.asked.set(asked);
+        let count = self.count.get().saturating_add(1);
+        self.count.set(count);
         match self.refusal {
             Refusal::Never => false,
-            Refusal::Alone(growth) => asked == growth,
-            Refusal::Onwards(growth) => growth <= asked,
+            Refusal::Alone(request) => count == request,
+            Refusal::Onwards(request) => request <= count,
         }
     }
 }
 
-/// Wraps another allocator, some of whose growths are refused.
+/// Wraps another allocator, some of whose requests are refused.
 #[derive(Drop)]
 pub struct Refusing<B: Allocator = Global> {
     inner: B,
-    growths: Growths,
+    requests: Requests,
 }
 
 impl<B: Allocator> Refusing<B> {
-    /// Wraps an allocator. No growth has been requested yet.
+    /// Wraps an allocator. There has been no request yet.
     pub fn new(inner: B, refusal: Refusal) -> Refusing<B> {
-        let asked = Cell::new(0);
+        let count = Cell::new(0);
         Refusing {
             inner,
-            growths: Growths { refusal, asked },
+            requests: Requests { refusal, count },
         }
     }
 
-    /// Returns the number of requested growths, including refused ones.
-    pub fn asked(&self) -> u64 {
-        self.growths.asked.get()
+    /// Returns the number of requests so far, refused ones included.
+    pub fn count(&self) -> u64 {
+        self.requests.count.get()
     }
 }
 
-// If a block grows, the trait's default body requests a new block, copies, and frees the old one: this counts as one
-// growth.
+// If a block grows, the trait's default body requests a new block, copies, and frees the old one: this is one request.
 unsafe impl<B: Allocator> Allocator for Refusing<B> {
     ghost dealloc_token = { λ a ty ptr. B.dealloc_token a.inner ty ptr };
 
     fn allocate(&self, size: usize, align: usize) -> Result<*mut u8, AllocError> {
-        if self.growths.refuse_next() {
+        if self.requests.refuse_next() {
             return Err(AllocError);
         }
         self.inner.allocate(size, align)

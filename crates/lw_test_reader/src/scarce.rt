@@ -1,4 +1,4 @@
-//! Making a value while memory is refused: each growth in turn, only that one and with all later ones.
+//! Making a value while memory is refused: at each request in turn, once only there and once from there on.
 use crate::refusing::{Refusal, Refusing};
 use std::alloc::Global;
 
@@ -18,24 +18,26 @@ pub trait MadeByAllocator {
     fn make<'a>(&self, ample: &'a Refusing, scarce: &'a Refusing) -> Option<Made>;
 }
 
-/// Makes the value while these growths are refused. Returns the result and the number of requested growths.
+/// Makes the value while these requests are refused. Returns the result and the number of requests. Returns `None` if it
+/// fails for any other reason than refused memory.
 fn made_by<T: MadeByAllocator>(alloc: Global, made: &T, refusal: Refusal) -> Option<(Made, u64)> {
     let ample = Refusing::new(alloc, Refusal::Never);
     let scarce = Refusing::new(alloc, refusal);
     let made = made.make(&ample, &scarce)?;
-    Some((made, scarce.asked()))
+    Some((made, scarce.count()))
 }
 
-/// Returns the number of growths of the value, if it fails for each refused growth: the first, the second, and so on,
-/// only that one and with all later ones, up to the number.
-pub fn refusals<T: MadeByAllocator>(alloc: Global, made: &T) -> Option<u64> {
+/// Refuses each request for memory in turn: first only the n-th, then the n-th and all later ones. Returns the number of
+/// requests if each refusal made the value fail, and the value was whole once no request was refused. Returns `None`
+/// otherwise, and if there are more than 4,094 requests.
+pub fn count_requests<T: MadeByAllocator>(alloc: Global, made: &T) -> Option<u64> {
     let mut refused = 0u64;
-    for growth in 1..4096u64 {
-        let alone = made_by(alloc, made, Refusal::Alone(growth))?;
-        let onwards = made_by(alloc, made, Refusal::Onwards(growth))?;
+    for request in 1..4096u64 {
+        let alone = made_by(alloc, made, Refusal::Alone(request))?;
+        let onwards = made_by(alloc, made, Refusal::Onwards(request))?;
         match (alone, onwards) {
             ((Made::Refused, _), (Made::Refused, _)) => refused = refused.saturating_add(1),
-            ((Made::Whole, growths), (Made::Whole, _)) if growths == refused => {
+            ((Made::Whole, requests), (Made::Whole, _)) if requests == refused => {
                 return Some(refused);
             }
             _ => return None,

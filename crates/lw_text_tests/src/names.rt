@@ -1,7 +1,7 @@
 //! Names, registers and the table of locations.
 ghost use Rattle.std.specs.Prelude.{◌≡◌, []};
 
-use lw_base::{Arch, LocNames, Reg, is_location_name, is_name, reg_from_name, reg_name};
+use lw_base::{Arch, LocNames, Reg, is_name, is_unreserved_name, reg_from_name, reg_name};
 use std::alloc::{AllocError, Allocator};
 
 /// Names of locations. The last has 32 bytes, the most that a name may have.
@@ -15,11 +15,11 @@ const RESERVED: &str =
 /// Texts that are no names. One is empty, and the last has 33 bytes.
 const NO_NAMES: &str = "1x,,9,x-y,x y,x:,[x],\u{e9},a23456789012345678901234567890123";
 
-/// Returns the first of these words, separated by commas, for which `is_name` does not return `is_of_a_name`, or `is_location_name` does
+/// Returns the first of these words, separated by commas, for which `is_name` does not return `is_of_a_name`, or `is_unreserved_name` does
 /// not return `is_of_a_location`.
 fn first_other(words: &str, is_of_a_name: bool, is_of_a_location: bool) -> Option<&str> {
     words.split(',').find(|word| {
-        is_name(word) != is_of_a_name || is_location_name(word) != is_of_a_location
+        is_name(word) != is_of_a_name || is_unreserved_name(word) != is_of_a_location
     })
 }
 
@@ -36,7 +36,7 @@ fn names_of_locations(rt: HostRuntime) {
 /// Inserts those of the words that are names of locations into a table, and returns the number of names that it then has.
 fn grow<A: Allocator + Copy>(names: &mut LocNames<A>, words: &str) -> Result<usize, AllocError> {
     for word in words.split(' ') {
-        if is_location_name(word) {
+        if is_unreserved_name(word) {
             names.find_or_add(word)?;
         }
     }
@@ -57,7 +57,7 @@ fn are_named<A: Allocator>(names: &LocNames<A>, words: &str) -> bool {
 fn takes_first<A: Allocator + Copy>(names: &mut LocNames<A>) -> bool
     requires { names.old ≡ [] }
 {
-    if !is_location_name("x") {
+    if !is_unreserved_name("x") {
         return false;
     }
     match names.add("x") {

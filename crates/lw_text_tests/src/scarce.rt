@@ -1,7 +1,7 @@
-//! Frames and tests that are read while memory is refused, each growth in turn.
+//! Frames and tests that are read while memory is refused, each request in turn.
 use lw_base::{Arch, CellCause, CellFault};
 use lw_source::read_source;
-use lw_test_reader::{Made, MadeByAllocator, Refusing, refusals};
+use lw_test_reader::{Made, MadeByAllocator, Refusing, count_requests};
 use lw_text::{Frame, TextCause, TextFault, read_frame};
 use lw_x86::read_program;
 use std::alloc::Allocator;
@@ -116,14 +116,14 @@ impl MadeByAllocator for ReadProgram {
 
 #[test]
 fn readers_where_memory_is_refused(rt: HostRuntime) {
-    let frames = refusals(rt.alloc(), &ReadFrame);
+    let frames = count_requests(rt.alloc(), &ReadFrame);
     assert!(rt; matches!(frames, Some(number) if number > 0), "{frames:?}");
-    let sources = refusals(rt.alloc(), &ReadSource);
+    let sources = count_requests(rt.alloc(), &ReadSource);
     assert!(rt;
         matches!(sources, Some(number) if number > 0),
         "{sources:?}"
     );
-    let programs = refusals(rt.alloc(), &ReadProgram);
+    let programs = count_requests(rt.alloc(), &ReadProgram);
     assert!(rt;
         matches!(programs, Some(number) if number > 0),
         "{programs:?}"

@@ -8,4 +8,4 @@ use Rattle.lw_list_tests.proofs.judgements.is_judged.Goals as goal
 pub are_judged-requires-clause-locations : goal.are_judged-requires-clause-locations
 are_judged-requires-clause-locations c =
     let head : TestHead = head_of c.args.head.now in
-    MentionsLocationsBelow-if_mentions_only head.threads (length head.locs) head.condition c.requires.condition
+    MentionsLocationsBelow-if_mentions_only head.threads (length head.locs) head.proposition c.requires.condition

@@ -17,8 +17,8 @@ use Rattle.lw_test_reader.proofs.Steps.{Answer, answer_val, Answer-typed, Answer
 use Rattle.lw_test_reader.proofs.Steps.{takes_key, Takes, at_takes, Answered, Takes-goes, Takes-gives, answers}
 use contract.Running.{tables_of}
 use Rattle.lw_test_reader.proofs.Refused.{Whole, Counts, inner_at, count_at, fields, Refuses, at_refuses, Refuses-goes, Refuses-gives}
-use Rattle.lw_test_reader.proofs.refusing.Growths.refuse_next.Symbol as counting
-use Rattle.lw_test_reader.proofs.refusing.Growths.refuse_next.Met as counted
+use Rattle.lw_test_reader.proofs.refusing.Requests.refuse_next.Symbol as counting
+use Rattle.lw_test_reader.proofs.refusing.Requests.refuse_next.Met as counted
 use Rattle.lw_test_reader.specs.contracts.refusing.RefusingAllocator.allocate as f
 use Rattle.lw_test_reader.specs.contracts.refusing.RefusingAllocator.allocate.Key as key
 use Rattle.lw_test_reader.proofs.refusing.RefusingAllocator.allocate.Statement as stated
@@ -116,7 +116,7 @@ module _ (Z : Al) {M : Type 1} {𝓤 : Ura M} (𝓛 : Logic 𝓤) (at_mem : Memo
         let p : ℕ × ℕ = r.ref_ptr in
         let at : ℕ × ℕ = inner_at Z p in
         let count : ℕ × ℕ = count_at Z p in
-        let counts : Counts.Denot = r.now.growths in
+        let counts : Counts.Denot = r.now.requests in
         let at_call : (Takes Z 𝓛 at_mem run).Ghost = at_takes Z 𝓛 at_mem run κ q at h n a τ in
         let at_count : (Refuses 𝓛 at_mem run).Ghost = at_refuses 𝓛 at_mem run κ q count counts in
         qed 𝓛 ((tokens ⊛ ‵ (owns (types_at (ended Z).signature.params bound.0.0) bound.0.3 bound.0.4))
@@ -167,7 +167,7 @@ allocate_spec 𝓤 𝓛 𝓜 𝓡 wired Y L g d d' met _ =
     let gone = Goes-dropped 𝓛 2 (number Z) yes (λ κs x w. refl) in
     let counts =
     cited 𝓤 𝓛.H _ 𝓜 𝓡 𝓡.env counting.name (𝓡.env counting.name) refl
-    (counted.met 𝓤 𝓛 𝓜 𝓡 (code.calls-lw_test_reader::refusing::Growths::refuse_next 𝓡.env wired)) in
+    (counted.met 𝓤 𝓛 𝓜 𝓡 (code.calls-lw_test_reader::refusing::Requests::refuse_next 𝓡.env wired)) in
     entered 𝓤 𝓛.H (triple_of 𝓛 (f.signature Y) (f.spec Y g d d' 𝓛 𝓜.mem 𝓡.returns)) 𝓣.C 𝓣.Λ
     (key.name (bounded (a_type ∷ []) (Y, tt) (dcons d (dcons d' dnil)))) (here Z) (code.unfolded 𝓤 𝓛.H 𝓜 𝓡 wired (Y, tt) d d')
     (walk_Meets 𝓛 (ended Z) (stayed Z) (Goes-dropped 𝓛 2 (self Z) yes (λ κs x w. refl), (gone, (gone, tt))) c runs

@@ -118,7 +118,7 @@ module _ (Z : Al) {M : Type 1} {𝓤 : Ura M} (𝓛 : Logic 𝓤) (at_mem : Memo
         qed 𝓛 (entry x (fsep (froom τ b o) (token Z h τ x))) ∵
         move ! (1 ∷ []) $ split3 ! $ heard ! (ρ ⊑ Z.row.lives) (λ lives. heard ! Asked (λ asked. move ! (1 ∷ []) $
         split ! $ split ! $ move ! (2 ∷ []) $ fsplit ! $ fsplit ! $ keep ! (1 ∷ 3 ∷ 4 ∷ 5 ∷ []) $
-        use1 𝓛 (‵ (seen Z κ at h) ⊛ ‵ (hidden_shr Counts κ r.now.growths (count_at Z p).0 (count_at Z p).1)) (fields Z 𝓛 κ p r.now) $
+        use1 𝓛 (‵ (seen Z κ at h) ⊛ ‵ (hidden_shr Counts κ r.now.requests (count_at Z p).0 (count_at Z p).1)) (fields Z 𝓛 κ p r.now) $
         split ! $ keep ! (4 ∷ 0 ∷ 2 ∷ 3 ∷ []) $
         -- [the block; a `&` to the allocator inside; the token of κ; the token of ρ]
         enter ! 𝓣.C 𝓣.Λ (here Z) (passed x) (Post x) $ alloc_all ! (λ l.

@@ -1,6 +1,6 @@
 -- The proof by hand of `Refusing::shrink`, against the contract that the trait `Allocator` states for every
 -- allocator. `walk` goes through the body: it calls the inner allocator, whose result is returned as it is
--- (`leave`), for a shrink is no growth and is not counted.
+-- (`leave`), for a shrink is no request and is not counted.
 -- `Refused` says how such a proof is read.
 use Rattle.lw_test_reader.proofs.Steps.{◌≡◌, ℕ, ◌^◌, ◌<◌, Bool, List, [], ◌∷◌, refl, sym, subst, T, w64, Bor, Ura, Fn, a_type}
 use Rattle.lw_test_reader.proofs.Steps.{dnil, dcons, Val, vint, vptr, has_ty, WT, inst_fn, SProp, ent, never_e, Lft, Share, Fml}
@@ -140,7 +140,7 @@ module _ (Z : Al) (X : RattleType) {M : Type 1} {𝓤 : Ura M} (𝓛 : Logic �
         split ! $ split3 ! $ move ! (2 ∷ []) $ split ! $
         -- [the token of κT; nothing; the token of κ; the token of ρ; what the parameters own; the block]
         move ! (4 ∷ []) $ fsplit ! $ fsplit ! $ move ! (1 ∷ []) $
-        use1 𝓛 (‵ (seen Z κ at h) ⊛ ‵ (hidden_shr Counts κ r.now.growths (count_at Z p).0 (count_at Z p).1)) (fields Z 𝓛 κ p r.now) $
+        use1 𝓛 (‵ (seen Z κ at h) ⊛ ‵ (hidden_shr Counts κ r.now.requests (count_at Z p).0 (count_at Z p).1)) (fields Z 𝓛 κ p r.now) $
         split ! $ keep ! (8 ∷ 0 ∷ 6 ∷ 4 ∷ 7 ∷ []) $
         -- [the block; a `&` to the allocator inside; the tokens of κ, κT and ρ]
         enter ! 𝓣.C 𝓣.Λ (here Z X) (passed x) (Post x) $ alloc_all ! (λ l. pass_all ! refl
