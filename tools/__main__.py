@@ -69,7 +69,9 @@ class Reader(command.Reader):
 
 
 def parse_module_and_arguments(arguments: list[str]) -> list[str]:
-    """Returns the module that the words name, and its own words. Without a module prints the help, and returns nothing."""
+    """Returns the module that the words name, followed by its own words. Without a module prints the help, and returns an empty list. Exits if there
+    is no such command.
+    """
     reader = Reader(__doc__)
     reader.add_argument("module", nargs="?", metavar="MODULE")
     reader.add_argument("words", nargs=argparse.REMAINDER, metavar="WORD")
@@ -87,7 +89,7 @@ def main() -> int:
     named: list[str] = []
 
     def read() -> int:
-        """Reads the module and its arguments into `named`. Returns the exit status 0."""
+        """Fills `named` with the module and its arguments. Returns the exit status 0."""
         named.extend(parse_module_and_arguments(sys.argv[1:]))
         return 0
 

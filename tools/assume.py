@@ -41,7 +41,7 @@ def print_report(arguments: Namespace, name: str, text: str) -> int:
     has_run = bool(answers.filter_state_lines(report))
     tries = f"{arguments.tries} tr{'ies' if arguments.tries != 1 else 'y'}"
     no_run = f"no run goes through every loop within {tries}"
-    print(report if has_run else answers.format_no_verdict(conversion.conversions[0].question, no_run), end="")
+    print(report if has_run else answers.format_no_verdict(conversion.conversions[0].unmarked, no_run), end="")
     if arguments.schedules and has_run:
         shown = format_runs(Text(text, conversion))
         print("".join(f"{state}\n" + "".join(f"  {event}\n" for event in shown[state]) for state in answers.filter_state_lines(report)), end="")

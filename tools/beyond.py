@@ -34,7 +34,7 @@ Words = Tuple[int, ...]
 
 
 def parse_page_state(page: str, test: plain.Test) -> Words:
-    """Returns the words that are observed, on the page of a replay that is final."""
+    """Returns the words of the observed sites on the page of a replay that is final."""
     lines = page.splitlines()
     if lines[2:3] != ["End Final"]:
         return ()
@@ -48,7 +48,7 @@ def parse_page_state(page: str, test: plain.Test) -> Words:
 
 
 def replay_all(test: plain.Test, text: str, exploration: SearchResult) -> str:
-    """Replays all schedules, each of which must end in its state. Returns the name of what replays them. Exits if one does not."""
+    """Replays all schedules, each of which must end in its state. Returns the name of what replays them. Raises SystemExit if one ends otherwise."""
     schedules = list(exploration.schedules.values())
     pages, maker = batch.replay_all(text, schedules), answers.find_maker("lw").value
     if pages is None:

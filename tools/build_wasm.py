@@ -45,7 +45,9 @@ def list_needed_crates(lines: dict[str, tuple[str, list[str]]], crate: str) -> l
 
 
 def hash_sources() -> str:
-    """Returns a checksum of the library's code and contracts, and of the graph of crates; as hexadecimal digits, which `modules-of` has."""
+    """Returns a checksum, in hexadecimal digits, of the library's code and contracts and of the graph of crates. The file `modules-of` has that of
+    the sources of which the modules are.
+    """
     lines, checksum = read_crates(), hashlib.sha256()
     for name in list_needed_crates(lines, LIBRARY):
         checksum.update(repr((name, lines[name])).encode())
@@ -121,6 +123,7 @@ def main() -> int:
         made_of = hash_sources()
         copy_sources(folder)
         status = 0
+        # The static library, by what rt ci has proved.
         if arguments.after_rt_ci:
             write_crate_list(folder, " staticlib")
             if has_stamps(folder):
@@ -128,6 +131,7 @@ def main() -> int:
                 return 1
             stamp_libraries(folder)
             status = build(folder, " staticlib", f"lib{LIBRARY}.a", out)
+        # The module with a memory of 64 bits, from which wasm-opt makes the one with 32 bits.
         status = status or build(folder, f" wasm64 stack={STACK}", f"{LIBRARY}.wasm", f"{out}/lw.wasm")
         if status:
             return status

@@ -277,6 +277,7 @@ def list_fault_checks() -> Iterator[Check]:
         if mistake:
             yield check_mistake, *mistake.groups()
             continue
+        # A heading says of which kind the rows after it are.
         heading = re.match(r"\*\*(Text|Cell|Schedule) faults|\*\*(Limit)s", line)
         kind = (heading[1] or heading[2]).lower() if heading else kind
         end = re.fullmatch(r"\| (\d+) \| (\w+) \| .* \| `(.*)` of `(.*)` \|", line)
@@ -394,6 +395,7 @@ def check_compiled(name: str) -> Iterator[Comparison]:
     yield f"{name}, compiled, its report", (in_x86.encode(), b"", 0), capture_streams([PROGRAM, "states"], compiled)
     threads = len(parse_state_words(capture_streams([PROGRAM, "replay", ""], stdin)[0].decode())[0])
     sizes = [measure_statements(source, compiled.decode(), thread) for thread in range(threads)]
+    # Five random runs of the source: the compiled program does the same by the events of each statement's instructions.
     for _ in range(5):
         order: list[str] = []
         events: list[str] = []
@@ -412,7 +414,7 @@ def check_compiled(name: str) -> Iterator[Comparison]:
 
 
 def check_refused_memory(program: str, test: str, *arguments: str) -> Iterator[Comparison]:
-    """Refuses every call for memory of a run in turn, up to the first run that makes fewer calls."""
+    """Compares what a program reports if memory runs out: each request of a run is refused in turn, until a run makes fewer requests."""
     stdin = open(f"{HOME}/examples/{test}.litmus", "rb").read()
     name = f"{os.path.basename(program)} on {test}, {' '.join(arguments)}"
     refused, unlimited = (b"", b"lw: memory\n", 4), capture_streams([program, *arguments], stdin)
@@ -565,7 +567,7 @@ def count_fences(name: str) -> tuple[int, int]:
     """Returns how many fences a test has, compiled, and how many of them are enough for its question, with none to spare."""
     test = plain.compile_test(plain.read_test(read_file(f"examples/{name}.litmus")))
     places = fences.list_fences(test)
-    return len(places), len(places) - len(fences.find_spared_fences(test, places, fences.list_states(test)))
+    return len(places), len(places) - len(fences.find_removable_fences(test, places, fences.list_states(test)))
 
 
 def check_counts_of_fences(names: str, number: str, fence_count: str) -> Iterator[Comparison]:

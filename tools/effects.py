@@ -45,7 +45,9 @@ Cells = List[Cell]
 
 
 class Effect(TypedDict, total=False):
-    """The effect of an event: always the `thread` and the `words`, and the register, location, cache and entry that it involves."""
+    """The effect of an event: always the `words`, and the register, location, cache and entry that it involves. That of an event also has the `thread`;
+    that of a statement, of which it is made, does not.
+    """
 
     thread: int
     words: str
@@ -68,8 +70,8 @@ class Step:
         self.thread_before, self.thread_after = before["threads"][thread], after["threads"][thread]
         self.name = f"P{thread}"
 
-    def read_value(self, text: str) -> int:
-        """Returns the word of a number, with a `$` before it or without, or of a register."""
+    def parse_value(self, text: str) -> int:
+        """Returns the word of an operand: of a number, with or without a `$` before it, or of a register before the step."""
         registers = dict(self.thread_before["registers"])
         return registers[text] if text in registers else int(text.lstrip("$"), 0 if "x" in text else 10)
 
@@ -84,8 +86,8 @@ class Step:
         if not is_so:
             raise Unknown
 
-    def read_memory(self, location: str) -> int:
-        """Returns the word of memory at a location, as a load finds it."""
+    def find_word(self, location: str) -> int:
+        """Returns the word that a load of a location from memory finds before the step."""
         return dict(self.before["content"])[location]
 
     def describe_cache(self, location: str) -> Effect:
@@ -108,7 +110,7 @@ class Step:
 
 def describe_store(step: Step, location: str, value: str) -> Effect:
     """Returns the effect of a store of a value to a location."""
-    word = step.read_value(value)
+    word = step.parse_value(value)
     if "buffer" not in step.thread_before:
         step.require(dict(step.after["content"])[location] == word)
         return {"words": f"{step.name} writes `{location}={word}` to memory"}
@@ -124,7 +126,7 @@ def describe_load(step: Step, register: str, location: str) -> Effect:
         effect = step.describe_put(register, word, f"{step.name} reads `{location}={word}` from its own store buffer into `{register}`")
         effect["entry"] = entry
         return effect
-    word = step.read_memory(location)
+    word = step.find_word(location)
     effect = step.describe_put(
         register, word, f"{step.name} reads `{location}={word}` from memory into `{register}`{step.describe_waiting(location)}"
     )
@@ -135,7 +137,7 @@ def describe_load(step: Step, register: str, location: str) -> Effect:
 
 def describe_assignment(step: Step, register: str, value: str) -> Effect:
     """Returns the effect of an assignment of a value to a register."""
-    return describe_word_assignment(step, register, step.read_value(value))
+    return describe_word_assignment(step, register, step.parse_value(value))
 
 
 def describe_word_assignment(step: Step, register: str, word: int) -> Effect:
@@ -145,18 +147,18 @@ def describe_word_assignment(step: Step, register: str, word: int) -> Effect:
 
 def describe_sum_assignment(step: Step, register: str, left: str, value: str) -> Effect:
     """Returns the effect of an assignment of a sum to a register."""
-    return describe_word_assignment(step, register, (step.read_value(left) + step.read_value(value)) % WORD)
+    return describe_word_assignment(step, register, (step.parse_value(left) + step.parse_value(value)) % WORD)
 
 
 def describe_add(step: Step, register: str, value: str) -> Effect:
     """Returns the effect of ADD."""
-    word = (step.read_value(register) + step.read_value(value)) % WORD
-    return step.describe_put(register, word, f"{step.name} adds {step.read_value(value)}, which makes `{register}={word}`")
+    word = (step.parse_value(register) + step.parse_value(value)) % WORD
+    return step.describe_put(register, word, f"{step.name} adds {step.parse_value(value)}, which makes `{register}={word}`")
 
 
 def describe_compare(step: Step, register: str, value: str) -> Effect:
     """Returns the effect of CMP."""
-    word, other_word = step.read_value(register), step.read_value(value)
+    word, other_word = step.parse_value(register), step.parse_value(value)
     return {"words": f"{step.name} compares `{register}={word}` with {other_word}: they {'are equal' if word == other_word else 'differ'}"}
 
 
@@ -177,8 +179,8 @@ def describe_goto(step: Step, label: str) -> Effect:
 
 def describe_conditional_jump(step: Step, register: str, sign: str, number: str, label: str) -> Effect:
     """Returns the effect of `if r = n goto L`, or of one with `!=`."""
-    word = step.read_value(register)
-    jumps = (word == step.read_value(number)) == (sign == "=")
+    word = step.parse_value(register)
+    jumps = (word == step.parse_value(number)) == (sign == "=")
     step.require(jumps or step.thread_after["at"] == step.thread_before["at"] + 1)
     what_follows = f"goes to `{label}`" if jumps else "does not jump"
     return {"words": f"{step.name} {what_follows}, since `{register}={word}`"}
@@ -186,12 +188,12 @@ def describe_conditional_jump(step: Step, register: str, sign: str, number: str,
 
 def describe_exchange(step: Step, register: str, location: str, value: str) -> Effect:
     """Returns the effect of XCHG, or of `swap`."""
-    return describe_word_exchange(step, register, location, step.read_value(value))
+    return describe_word_exchange(step, register, location, step.parse_value(value))
 
 
 def describe_word_exchange(step: Step, register: str, location: str, word: int) -> Effect:
     """Returns the effect of reading a location and writing a word to it, with nothing between."""
-    old = step.read_memory(location)
+    old = step.find_word(location)
     step.require(dict(step.after["content"])[location] == word)
     read = f"{step.name} reads `{location}={old}` from memory into `{register}`"
     words = f"{read} and writes `{location}={word}` in one step{step.describe_waiting(location)}"
@@ -203,7 +205,7 @@ def describe_word_exchange(step: Step, register: str, location: str, word: int) 
 
 def describe_fetch_and_add(step: Step, register: str, location: str, value: str) -> Effect:
     """Returns the effect of LOCK XADD, or of `fetchadd`."""
-    return describe_word_exchange(step, register, location, (step.read_memory(location) + step.read_value(value)) % WORD)
+    return describe_word_exchange(step, register, location, (step.find_word(location) + step.parse_value(value)) % WORD)
 
 
 # The forms of instructions and statements, each with what it does.

@@ -6,7 +6,8 @@ Maranget and Tautschnig, TOPLAS 2014): a candidate execution says which instruct
 from. x86-TSO allows the execution if two relations have no cycle:
 
 - coherence: program order of one location, rf, co and fr;
-- global happens-before: program order except for a store and a later load without a fence between them, rf of two threads, co and fr.
+- global happens-before: program order except for a plain store and a later load without a fence or a locked instruction between them, rf of two
+  threads, co and fr.
 
 A locked instruction is one event, which reads and writes. The crate that proves this model equal to the machine states the same
 axioms; this file is their plain form, for pictures and answers, and is not proved. tools/gate/check_graph.py compares it with the machine.
@@ -61,7 +62,7 @@ class Execution:
     def __init__(
         self, test: plain.Test, paths: Sequence[Sequence[int]], rf: dict[Event, Event | None], co: dict[int, Sequence[Event]]
     ) -> None:
-        """Makes an execution, and computes the words of its events."""
+        """Makes an execution of the paths, reads-from (`rf`) and coherence (`co`), and computes the words of its events."""
         self.test, self.paths, self.rf, self.co = test, paths, rf, co
         self.read: dict[Event, int | None] = {}
         self.written: dict[Event, int | None] = {}
@@ -143,7 +144,7 @@ class Execution:
         return [Edge("co", first, second) for row in self.co.values() for index, first in enumerate(row) for second in row[index + 1 :]]
 
     def list_fr_edges(self) -> list[Edge]:
-        """Returns from-reads: from each read to the writes after the one that it reads from."""
+        """Returns from-reads: from each read to the other writes after the one that it reads from."""
         fr_edges = []
         for read, source in self.rf.items():
             row = self.co.get(self.find_instruction(read).location, ())
@@ -298,7 +299,7 @@ def trace_cycle(start: Event, last: Edge, came_by: dict[Event, Edge]) -> list[Ed
 
 
 def list_candidates(test: plain.Test, max_candidates: int) -> Iterator[Execution]:
-    """Yields all candidate executions of a test. Raises TooMany after `max_candidates` of them."""
+    """Yields all candidate executions of a test. Raises TooMany once more than `max_candidates` are tried."""
     number = 0
     for paths in product(*map(plain.list_paths, test.threads)):
         events = list_events_on_paths(test, paths)
@@ -307,6 +308,7 @@ def list_candidates(test: plain.Test, max_candidates: int) -> Iterator[Execution
         for event in events:
             if statement_of(event).kind in WRITES:
                 writes.setdefault(statement_of(event).location, []).append(event)
+        # For each read the writes that it may read from, of which `None` is the initial word.
         reads = [it for it in events if statement_of(it).kind in READS]
         sources = [[None, *(it for it in writes.get(statement_of(read).location, []) if it != read)] for read in reads]
         for chosen in product(*sources):
@@ -334,6 +336,7 @@ def make_execution(test: plain.Test, schedule: str) -> Execution:
     final, or an event is not enabled.
     """
     processors, memory = list(plain.make_x86_start(test)[0]), plain.OneMemory(test.words)
+    # The stores that wait in each buffer, the last write to each location so far, and what the execution consists of.
     buffers: list[list[Event]] = [[] for _ in processors]
     last: dict[int, Event | None] = dict.fromkeys(range(len(test.locations)))
     paths: list[list[int]] = [[] for _ in processors]
@@ -355,6 +358,7 @@ def make_execution(test: plain.Test, schedule: str) -> Execution:
             processors[cpu] = plain.execute_next(test, cpu, processors[cpu], memory)
             statement = test.threads[cpu][event.position]
             paths[cpu].append(event.position)
+            # A read finds the newest own store in the buffer, or the last write to memory.
             if statement.kind in READS:
                 own_stores = [each for each in buffers[cpu] if test.threads[cpu][each.position].location == statement.location]
                 rf[event] = own_stores[-1] if own_stores else last[statement.location]

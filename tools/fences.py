@@ -120,7 +120,8 @@ def list_states(test: plain.Test) -> list[str]:
 
 
 def count_unwanted_states(test: plain.Test) -> int:
-    """Returns in how many states what a question is against is present: its proposition, or of `forall` its contrary."""
+    """Returns the number of states of what a question is against: those in which its proposition is true, or of `forall` those in which it is false.
+    """
     numbers = require_match(re.search(r"^Positive: (\d+) Negative: (\d+)$", make_report(test), re.M))
     return int(numbers[2 if test.quantifier == "forall" else 1])
 
@@ -143,7 +144,7 @@ def format_fence(row: Row, is_spare: bool, question: str) -> list[str]:
     return [f"{row['place']}: needed, {len(row['added'])} more without it", *format_added_states(row["added"], "  ")]
 
 
-def find_spared_fences(test: plain.Test, fences: list[Place], states: list[str]) -> list[Place]:
+def find_removable_fences(test: plain.Test, fences: list[Place], states: list[str]) -> list[Place]:
     """Returns fences that can be left out together. Each fence in turn is left out, with those before it that were, if the states are still `states`."""
     left_out: list[Place] = []
     for fence in fences:
@@ -164,8 +165,8 @@ def make_fence_table(test: plain.Test) -> Table:
     for fence in fences:
         added = [] if is_spare(test, fence) else [line for line in list_states(remove_fences(test, [fence])) if line not in before]
         rows.append({"place": format_fence_place(test, fence), "added": added})
-    spared = find_spared_fences(test, fences, states)
-    enough = [f"P{thread} at {position}" for thread, position in fences if (thread, position) not in spared]
+    removable = find_removable_fences(test, fences, states)
+    enough = [f"P{thread} at {position}" for thread, position in fences if (thread, position) not in removable]
     answered_by = sorted(it.name.lower() for it in list_makers())
     return {"rows": rows, "enough": enough, "states": len(states), "positive": positive, "answered_by": answered_by}
 
@@ -238,8 +239,8 @@ def format_makers() -> list[str]:
 
 
 def convert_unread_text(text: str, fault: plain.NoTest, choices: Choices) -> ConversionResult:
-    """Returns what a text in herd's form is converted to, which lw does not read. If it is not converted either, raises the fault of the reader that
-    came further; `fault` is that of lw's.
+    """Returns the conversion from herd's form of a text that lw does not read. If it is not converted either, raises the fault of the reader that
+    read further; `fault` is that of lw's.
     """
     try:
         return convert(text, choices.tries, ORDERS[choices.order])
@@ -253,11 +254,11 @@ def print_converted(choices: Choices, text: str, name: str, result: ConversionRe
         print(command.format_note(name, text, offset, says), file=sys.stderr)
     parts = [Part(it, find_origins(it), it.begins) for it in result.conversions]
     rename_line = make_renamer(result)
-    condition = rename_line(plain.format_condition(result.conversions[0].question))
+    condition = rename_line(plain.format_condition(result.conversions[0].unmarked))
     tests, names = CombinedTest(parts, rename_line), Text(text, result)
     if not tests.list_states():
         tries = f"{result.tries} tr{'ies' if result.tries != 1 else 'y'}"
-        print(answers.format_no_verdict(tests.question, f"no run goes through every loop within {tries}"), end="")
+        print(answers.format_no_verdict(tests.unmarked, f"no run goes through every loop within {tries}"), end="")
         print(format_tests_and_makers(tests, tests.makers, result.tries))
         return answers.NO_VERDICT
     original = Original(result.frame.name, condition, names.describe_place, names.describe_place_briefly, {*result.sites}, result.tries)
@@ -278,12 +279,14 @@ def print_fences(choices: Choices, text: str, name: str = given.STANDARD_INPUT) 
     by_everything = choices.everything
     question = "all registers and locations" if by_everything else f"its question, {plain.format_condition(test)}"
     shown = show_everything(test) if by_everything else test
+    # What the fences that the test has are for.
     table = make_fence_table(shown)
     spare = [is_spare(shown, fence) for fence in list_fences(shown)]
     lines = [line for row in zip(table["rows"], spare) for line in format_fence(*row, question)]
     number = 0 if by_everything else count_unwanted_states(test)
     are_enough = not number and (read.language == "SRC" or not by_everything)
     lines += format_enough_sets(shown, list_states(shown), question, are_enough)
+    # What more fences would do, and exchanges without their lock.
     if number:
         lines += format_helping_places(test, number, table["states"])
     if choices.exchanges:

@@ -55,7 +55,7 @@ Asker = Callable[[List[str], bytes], str]
 
 
 def check_program() -> None:
-    """Checks that the program is that of the present sources."""
+    """Raises NoFilm unless the program is that of the present sources."""
     from program import build  # which, as the program does, needs Linux
 
     if build.ask_program_sh("is_current") is None:
@@ -78,7 +78,7 @@ def ask_program(arguments: list[str], text: bytes) -> str:
 
 
 def replay_schedule(text: bytes, schedule: str, protocol: str, ask: Asker | None = None) -> State:
-    """Returns the state that a schedule reaches, by the program, or by `ask` in its place."""
+    """Returns the state that a schedule reaches over a protocol, by the program, or by `ask` in its place. Raises what `ask_program` does."""
     return parse_replay_state((ask or ask_program)(["replay", schedule, "--protocol", protocol], text))
 
 
@@ -126,7 +126,7 @@ def format_cell(tokens: list[tuple[str, str]]) -> str:
 
 
 def list_cells(text: bytes, ask: Asker | None = None) -> list[Cells]:
-    """Returns, for each thread, the code to show: that of the canonical text for an x86 test."""
+    """Returns, for each thread, the cells that a film shows: those of the canonical text for an x86 test, which `ask` or the program prints."""
     if parse_language(text) == "X86":
         return list_x86_cells((ask or ask_program)(["compile"], text))
     return list_source_cells(plain.read_test(text.decode()))

@@ -43,7 +43,7 @@ import given
 import plain
 
 from c.compiler import choose_compiler, compile_to_assembly, count_lines_before, demangle_assembly
-from c.convert import Converter
+from c.convert import ProgramConverter
 from c.matrix import print_matrix
 from c.refused import NoRun, Refused
 from c.report import Answer, describe_answer, make_answer
@@ -56,13 +56,13 @@ LIMITS = "That is what this compiler's code does on x86-TSO; the language may al
 RECURSION = 10000
 
 
-def convert_source(source: Source, compiler: str, tries: int, weaker: int = 0, include: str | None = None) -> tuple[Answer, Converter]:
-    """Returns the answer on a source by a compiler, and what it was converted to. Raises Refused if the source or its code is not followed, and NoRun
-    if no run comes to an end.
+def convert_source(source: Source, compiler: str, tries: int, weaker: int = 0, include: str | None = None) -> tuple[Answer, ProgramConverter]:
+    """Returns the answer on a source by a compiler, and the converter that made its tests. `weaker` is a number of tools/c/weaker.py, `include` the
+    folder of the file. Raises Refused if the source or its code is not followed, and NoRun if no run comes to an end.
     """
     assembly = demangle_assembly(compile_to_assembly(source, compiler, weaker, include))
     try:
-        converter = Converter(assembly, source.condition, source.name, source.threads, tries, source.added)
+        converter = ProgramConverter(assembly, source.condition, source.name, source.threads, tries, source.added)
         return make_answer(converter), converter
     except Refused as why:
         raise type(why)(why.cause, why.line and why.line - count_lines_before(source), why.instruction) from None
@@ -82,6 +82,7 @@ def print_answer(arguments: Namespace, name: str, text: str) -> int:
     answer_by = lambda compiler, weaker=0: convert_source(source, compiler, arguments.tries, weaker, include)
     if arguments.matrix:
         return print_matrix(name, source, arguments.cc, lambda compiler, weaker=0: answer_by(compiler, weaker)[0])
+    # All that may be refused comes before anything is printed.
     compiler = arguments.cc[0] if arguments.cc else choose_compiler(source.ending)
     try:
         answer, converter = answer_by(compiler)

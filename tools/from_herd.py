@@ -35,7 +35,7 @@ from herd.text import parse_heading
 from shared import command, start
 
 
-def write_converted_text(original: ConversionResult, conversion: ConvertedTest) -> str:
+def format_converted_text(original: ConversionResult, conversion: ConvertedTest) -> str:
     """Returns the text of a converted test, with a comment on its origin."""
     heading, _, rest = plain.format_canonical_text(conversion.test).partition("\n")
     return f"{heading}\n{make_comment(original, conversion)}{rest}"
@@ -45,11 +45,14 @@ class Folder:
     """The folder into which tests are written, overwriting nothing. `origins` has the input from which each file of this run comes."""
 
     def __init__(self, path: str) -> None:
+        """Makes an object of the folder at a path, into which nothing is written yet."""
         self.path = path
         self.origins: dict[str, str] = {}
 
     def check_file(self, path: str, text: str, conversion: ConversionResult, name: str, offset: int) -> None:
-        """Checks that a file may be written: no other input of this run has its name, and no other text is there. Raises Fault if not."""
+        """Raises Fault if a file must not be written: another input of this run has its name, or another text is there. `offset` is that of the
+        test's name.
+        """
         if path in self.origins:
             fault = f"'{conversion.frame.name}' of {name} and a test of {self.origins[path]} have one file name, {path}"
             raise given.Fault(f"{fault}: nothing is written for the second, name one of them otherwise", offset)
@@ -62,9 +65,9 @@ class Folder:
             raise given.Fault(f"{path} has another text already, and is not overwritten: take it away, or name another folder", offset)
 
     def write_tests(self, conversion: ConversionResult, name: str, text: str) -> None:
-        """Writes the tests of one input, all or none."""
+        """Writes the tests of one input, all or none. Raises Fault if one must not be written."""
         offset = parse_heading(text)[2] - len(conversion.frame.name)
-        files = [(os.path.join(self.path, make_file_name(it.test.name)), write_converted_text(conversion, it)) for it in conversion.conversions]
+        files = [(os.path.join(self.path, make_file_name(it.test.name)), format_converted_text(conversion, it)) for it in conversion.conversions]
         for path, test in files:
             self.check_file(path, test, conversion, name, offset)
         for path, test in files:
@@ -92,7 +95,7 @@ def convert_text(arguments: Namespace, folder: Folder | None, name: str, text: s
         raise given.Fault(f"LOCK CMPXCHG makes {count} tests: name a folder by --into, or use tools/assume.py", 0)
     print_notes(name, text, conversion)
     if folder is None:
-        print(write_converted_text(conversion, conversion.conversions[0]), end="")
+        print(format_converted_text(conversion, conversion.conversions[0]), end="")
     else:
         folder.write_tests(conversion, name, text)
     return 0

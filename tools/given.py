@@ -7,22 +7,28 @@ input. Lines and columns are counted from 1, columns in characters. What a tool 
 from __future__ import annotations
 
 import io
+import os
 import sys
 
 STANDARD_INPUT = "-"
+# What ends standard input on a terminal.
+END_KEY = "Ctrl-Z and Enter" if os.name == "nt" else "Ctrl-D"
 
 
 class Fault(Exception):
     """A fault of a text: the cause in words, and the place, counted in characters from 0."""
 
     def __init__(self, cause: str, offset: int) -> None:
+        """Makes a fault of its cause and its place."""
         super().__init__(cause, offset)
         self.cause, self.offset = cause, offset
 
 
 def read_bytes(name: str) -> bytes:
-    """Returns the bytes of a file, or of standard input."""
+    """Returns the bytes of a file, or of standard input. If that is a terminal, prints on standard error that it is read, and what ends it."""
     if name == STANDARD_INPUT:
+        if sys.stdin and sys.stdin.isatty():
+            print(f"reading from the terminal, up to {END_KEY}; a file is given by its name or after <", file=sys.stderr, flush=True)
         return sys.stdin.buffer.read() if sys.stdin else b""
     with open(name, "rb") as file:
         return file.read()

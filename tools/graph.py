@@ -56,6 +56,7 @@ NAMES = {"po": "program order", "rf": "reads-from", "co": "coherence order", "fr
 STYLE = """
 path { fill: none; stroke: #1b1b1b; stroke-width: 1.4 } path.po { stroke: #8a8a8a } path.co { stroke-dasharray: 8 4 } path.fr { stroke-dasharray: 3 3 }
 path.marked { stroke: #1b1b1b; stroke-width: 3.2 } path.co.marked { stroke-dasharray: 11 6 } path.fr.marked { stroke-dasharray: 4 5 }
+path.pale { stroke-opacity: 0.4 }
 marker path[class] { stroke-dasharray: none }
 text.relation { font-weight: bold; paint-order: stroke; stroke: #fff; stroke-width: 4 }
 @media (prefers-color-scheme: dark) {
@@ -126,9 +127,13 @@ def format_word(word: int | None) -> str:
 
 def list_direct_edges(edges: list[executions.Edge]) -> list[executions.Edge]:
     """Returns the edges that the others do not follow from: those without an event between."""
-    ways = {(it.source, it.target) for it in edges}
-    between = lambda it: any((it.source, mid) in ways and (mid, it.target) in ways for _, mid in ways)
-    return [it for it in edges if not between(it)]
+    pairs = {(it.source, it.target) for it in edges}
+
+    def has_event_between(edge: executions.Edge) -> bool:
+        """Returns whether two edges lead from an edge's source to its target."""
+        return any((edge.source, event) in pairs and (event, edge.target) in pairs for _, event in pairs)
+
+    return [it for it in edges if not has_event_between(it)]
 
 
 def list_direct_fr_edges(execution: executions.Execution) -> list[executions.Edge]:
@@ -154,7 +159,7 @@ def list_unpreserved_pairs(execution: executions.Execution, cycle: list[executio
 
 
 def find_missing_fences(execution: executions.Execution, cycle: list[executions.Edge]) -> list[executions.Edge]:
-    """Returns the pairs of program order in a cycle that x86-TSO may turn round: nothing that waits is between the store and the load."""
+    """Returns the pairs of program order in a cycle that x86-TSO may reverse: a plain store and a later load with nothing between that waits."""
     return [it for it in list_unpreserved_pairs(execution, cycle) if not execution.has_fence_between(it)]
 
 
@@ -208,21 +213,25 @@ def format_event_place(event: executions.Event) -> str:
     return f"{event.thread}:{event.position}"
 
 
-def draw_edge(drawing: Drawing, layout: GraphLayout, route: Route, is_marked: bool) -> None:
-    """Draws an arrow along the curves of a route."""
+def draw_edge(drawing: Drawing, layout: GraphLayout, route: Route, look: str) -> None:
+    """Draws an arrow along the curves of a route. `look` is how, as a further class, or empty."""
     kind = route.edge.kind if route.edge else "rf"
     curves = layout.make_picture_curves(route)
     path = f"M{format_point(curves[0][0])} " + " ".join(f"C{' '.join(map(format_point, points))}" for _, *points in curves)
     start = "" if route.way == "start" else f'data-from="{format_event_place(route.source)}" '
     ends = f'{start}data-to="{format_event_place(route.target)}"'
-    marked = " marked" if is_marked else ""
-    drawing.elements.append(f'<path class="{kind}{marked}" {ends} marker-end="url(#to-{kind})" d="{path}"/>')
+    drawing.elements.append(f'<path class="{kind}{look and " " + look}" {ends} marker-end="url(#to-{kind})" d="{path}"/>')
 
 
 def draw_label(drawing: Drawing, layout: GraphLayout, route: Route, name: str) -> None:
     """Writes the name of a relation at its arrow."""
     x, y = layout.place_label(route, len(name))
     drawing.draw_text(round_to_tenth(x - (len(name) * LETTER) / 2), round_to_tenth(y + 4), name, "relation")
+
+
+def can_be_reversed(execution: executions.Execution, edge: executions.Edge) -> bool:
+    """Returns whether x86-TSO may reverse an arrow: a thread that reads its own store, and program order that is not preserved."""
+    return format_label(edge) == "rfi" or bool(list_unpreserved_pairs(execution, [edge]))
 
 
 def format_label(edge: executions.Edge) -> str:
@@ -263,17 +272,20 @@ def format_caption(
 
 
 def draw_execution(execution: executions.Execution, title: str, broken: tuple[str, list[executions.Edge]] | None = None) -> str:
-    """Returns the picture of an execution; if x86-TSO forbids it, with the cycle of the axiom that it breaks, and otherwise with one of
-    interleaving."""
+    """Returns the picture of an execution. Marked is a cycle: if x86-TSO forbids it, that of the axiom that it breaks (`broken`), and otherwise one
+    of program order and communication, if there is one. In a forbidden one the arrows that x86-TSO may reverse are pale, unless they are in the cycle.
+    """
     names, cycle = Names(execution), broken[1] if broken else execution.find_cycle() or []
     missing = [] if broken else find_missing_fences(execution, cycle)
     texts = {it: f"{names.letters[it]}: {names.describe_event(it)}" for it in execution.list_events()}
     initial = [read for read, source in execution.rf.items() if source is None]
+    # The arrows are drawn below the events, and the labels above both.
     layout = GraphLayout(execution, texts, list_drawn_edges(execution, cycle if broken else list_unpreserved_pairs(execution, cycle)), initial)
     drawing = Drawing()
     drawing.elements += [f"<style>{STYLE}</style>", make_markers()]
     for route in [*layout.routes, *layout.starts]:
-        draw_edge(drawing, layout, route, route.edge in cycle)
+        is_pale = broken is not None and route.edge is not None and can_be_reversed(execution, route.edge)
+        draw_edge(drawing, layout, route, "marked" if route.edge in cycle else "pale" if is_pale else "")
     draw_events(drawing, layout, execution, texts, {edge.source for edge in cycle} if broken else ())
     for route in layout.starts if len(initial) <= MAX_NAMED_READS else ():
         draw_label(drawing, layout, route, "init")
@@ -320,17 +332,19 @@ class Way:
         return sum(WEIGHTS[it] for it in self.drawbacks)
 
     def make_key(self) -> WayKey:
-        """Returns the key of this way, which executions have in common if they break the same axiom by the same cycle with the same words."""
+        """Returns what distinguishes this way: two executions have the same if they break the same axiom by the same cycle with the same words."""
         return self.axiom, self.cycle, self.events
 
     def add(self, other: Way) -> None:
-        """Counts the execution of another object of the same way, and takes it in place of this one's if it is clearer."""
+        """Counts an execution of the same way, and takes it in place of this one's if it is clearer."""
         self.times += 1
         if other.weight < self.weight:
             self.execution, self.broken, self.drawbacks = other.execution, other.broken, other.drawbacks
 
     def make_rank(self) -> tuple[int, bool, int, int]:
-        """Returns what orders the ways of a state: the clearest are first, then those of several threads, the shortest, and the most frequent."""
+        """Returns the key by which the ways of a state are sorted: the clearest are first, then those of several threads, the shortest, and the most
+        frequent.
+        """
         return self.weight, len({it.source.thread for it in self.broken[1]}) == 1, len(self.events), -self.times
 
 
@@ -363,6 +377,7 @@ def list_forbidden_states(
     broken: dict[Words, dict[WayKey, Way]] = {}
     sites = plain.list_observed_sites(test)
     for execution in executions.list_candidates(test, max_candidates):
+        # Executions of states that are known to be allowed, and of others than the one that is asked about, are passed over.
         outcome = execution.make_outcome()
         words = tuple(plain.read_word(site, outcome) for site in sites)
         if words in allowed or state is not None and any(None is not a != state[site] for a, site in zip(words, sites)):
@@ -449,8 +464,12 @@ def rename_to_source(words: str) -> str:
 
 def rename_registers(words: str, before: Sequence[str], after: Sequence[str]) -> str:
     """Returns words in which registers have their names of another language, by their numbers."""
-    new = lambda it: f"{it[1]}:{after[before.index(it[2])]}" if it[2] in before else it[0]
-    return re.sub(r"\b([0-3]):([A-Za-z][A-Za-z0-9_]*)\b", new, words)
+
+    def rename(match: re.Match[str]) -> str:
+        """Returns a site with its register's other name; another site as it is."""
+        return f"{match[1]}:{after[before.index(match[2])]}" if match[2] in before else match[0]
+
+    return re.sub(r"\b([0-3]):([A-Za-z][A-Za-z0-9_]*)\b", rename, words)
 
 
 # The command line.
@@ -509,6 +528,8 @@ def main() -> int:
     is_run = arguments.why_not is None and not arguments.documents
     if is_run and not arguments.others:
         reader.error("a SCHEDULE is missing")
+    if is_run and "." in arguments.others[0]:
+        reader.error(f"a SCHEDULE, such as 'P0 P0 P1 P1 D0 D1', is missing before {arguments.others[0]}")
     files = arguments.others[int(is_run) :]
     if arguments.documents or len(files) > 1:
         reader.error(f"unrecognized arguments: {' '.join(files)}")

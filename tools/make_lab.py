@@ -25,6 +25,7 @@ import make_slides
 from lab import sheets
 from lab.tests import NoLab, make_tests, read_file
 from page import web_files
+from page.origin import describe_site
 from shared import command, start
 
 NO_SITE = "make_lab: the site is left out: there are no modules of these sources (tools/build_wasm.py makes them)"
@@ -43,7 +44,7 @@ def make_student_files(lab: str, modules: list[bytes]) -> dict[str, bytes]:
     }
     texts.update((f"tests/{name}.litmus", text) for name, text in tests.items())
     if modules:
-        texts.update((f"site/{name}", text) for name, text in make_site.make_folder(modules, make_site.WEB, has_documents=False).items())
+        texts.update((f"site/{name}", text) for name, text in make_site.make_folder(modules, make_site.WEB, describe_site(), has_documents=False).items())
     return {name: text.encode() for name, text in texts.items()}
 
 

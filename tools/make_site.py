@@ -1,16 +1,18 @@
 #!/usr/bin/env python3
 """Makes the workbench for any browser: a folder of files, or one file, that works from a disk, from any web server and without a network.
 
-    python3 tools/make_site.py FOLDER [--module FILE]...
-    python3 tools/make_site.py FILE.html --one-file [--module FILE]...
+    python3 tools/make_site.py FOLDER [--module FILE]... [--archive FILE] [--address URL]
+    python3 tools/make_site.py FILE.html --one-file [--module FILE]... [--address URL]
 
 The page is that of web/, over the proved workbench as a WebAssembly module: those that tools/build_wasm.py has made, or each FILE. Of several a
 browser uses the first that it takes. There is no server: the module runs in a worker of the page. All examples are in it. A folder also has the
 documents of tools/page/documents.py, whose links open on the page what they show, the lab's quiz, and its slides if the program is built. Nothing is
-loaded from elsewhere.
+loaded from elsewhere. With --archive a folder also has an archive of tools/pack.py, so that readers get the programs and the tools where they read of
+them. With --address the site says where the repository is published.
 
 A page that was opened as a file may load neither JSON nor modules of JavaScript. So those of web/ are joined to one classic script each for
-the page and its worker, which are packed together, since they share modules; tables and modules come in scripts too, all packed as gzip in letters.
+the page and its worker, which are packed together, since they share modules, with the style sheet that nothing needs before them; tables and modules
+come in scripts too, all packed as gzip in letters.
 In a folder the page
 asks for a module as soon as it has the tables, and for the second only if the browser does not take the first.
 """
@@ -18,14 +20,15 @@ from __future__ import annotations
 
 import base64
 import collections
-import gzip
 import hashlib
 import itertools
 import json
 import os
 import re
+import shutil
 import string
 import sys
+import zlib
 from typing import Dict
 
 sys.dont_write_bytecode = True
@@ -51,19 +54,25 @@ STYLE_STRING = re.compile(r'("[^"]*")')
 STYLE_NAME = re.compile(r'="([A-Za-z][\w-]*)"\]')
 # A property of the style sheet's own.
 STYLE_PROPERTY = re.compile(r"(?<![\w-])--[a-z][\w-]*")
-STYLE_SPARE = re.compile(r"(?<=[:,]) +| *(>) *|(?<![\w.])0(?=\.\d)|;(?=\})| +(?=!important)")
+STYLE_SPARE = re.compile(r"(?<=[:,]) +| *([>/]) *|(?<=\)) (\*) (?=[\d.])|(?<![\w.])0(?=\.\d)|;(?=\})| +(?=!important)")
+STYLE_ELEMENT = re.compile(r"::(?=(?:before|after)\b)")
 EXPORT = re.compile(r"^export ((?:async )?(?:function\*?|class|const) (\w+))", re.M)
 # The colours of the page, by light and by dark: the first rules of its style sheet.
 COLOURS = re.compile(r":root \{.*?\n\}\n:root\[data-theme=\"light\"\].*?\n:root\[data-theme=\"dark\"\].*?\n", re.S)
+# The style sheets of the page: that which browsers wait for, and that which is packed with the page's code.
+STYLES = ("style.css", "views.css")
 # What is between the parts of the page's code, when they are packed.
 BETWEEN_PARTS = "\0"
-# Unpacks the parts of the page's code in the browser, keeps the worker's script, and runs the page's.
+# Unpacks the parts of the page's code in the browser, keeps the worker's script, adds the second style sheet, and runs the page's script.
 UNPACKING = """"use strict";
 (async () => {
 const bytes = globalThis.site.bytesOf(PACKED);
 const text = await new Response(new Blob([bytes]).stream().pipeThrough(new DecompressionStream("gzip"))).text();
-const [shared, page, worker] = text.split("\\0");
+const [shared, page, worker, styles] = text.split("\\0");
 globalThis.site.worker = shared + worker;
+const style = document.createElement("style");
+style.textContent = styles;
+document.head.append(style);
 const script = document.createElement("script");
 script.text = shared + page;
 document.body.append(script);
@@ -93,6 +102,16 @@ POLICY = "connect-src 'none'; object-src 'none'; frame-src 'none'; base-uri 'non
 class NoSite(Exception):
     """The site can't be made, and why."""
 
+
+# What of a script is as it is: quoted texts, and regular expressions, which follow no operand; a template begins with its quote.
+SCRIPT_LITERAL = re.compile(
+    r""""(?:\\.|[^"\\\n])*"|'(?:\\.|[^'\\\n])*'|`|(?:(?<=return )|(?<![\w)\]}"'`] )(?<![\w)\]}"'`]))"""
+    r"/(?:\\.|\[(?:\\.|[^\]\\\n])*\]|[^/\\\n\[])+/[a-z]*"
+)
+# Blanks beside what parts words by itself.
+SCRIPT_SPARE = re.compile(r" ?([=,:;(){}\[\]?<>|&*]+) ?")
+# The ends of lines at which no statement can end, or one has ended.
+SCRIPT_LINE_END = re.compile(r"(?<=[;{},(\[=?:&|>])\n")
 
 # The site's files: for each name its text.
 Files = Dict[str, str]
@@ -126,8 +145,15 @@ def bundle_page(web: str) -> tuple[str, str, str]:
 def collect_modules(entry: str, web: str) -> dict[str, str]:
     """Returns a module and all its imports, each after those that it imports. Raises NoSite if a module imports itself."""
     done: dict[str, str] = {}
-    add_module(entry, web, done, ())
+    add_module(entry, web, done, (), find_repeated_names(web))
     return done
+
+
+def find_repeated_names(web: str) -> set[str]:
+    """Returns the names that more than one module exports."""
+    files = sorted(it for it in os.listdir(web) if it.endswith(".js"))
+    counts = collections.Counter(name for file in files for _, name in EXPORT.findall(read_source(file, web)))
+    return {name for name, count in counts.items() if count > 1}
 
 
 def join_modules(modules: dict[str, str], entry: str) -> str:
@@ -138,9 +164,9 @@ def join_modules(modules: dict[str, str], entry: str) -> str:
     return text
 
 
-def add_module(name: str, web: str, done: dict[str, str], importers: tuple[str, ...]) -> None:
-    """Adds a module after those that it imports. Each is the body of a function that returns what it exports. `importers` are the modules that led to
-    it. Raises NoSite if a module imports itself.
+def add_module(name: str, web: str, done: dict[str, str], importers: tuple[str, ...], repeated: set[str]) -> None:
+    """Adds a module after those that it imports. Each is the body of a function that returns what it exports; a name that is not among the `repeated` is
+    then one of the whole script, so that no module has to take it. `importers` are the modules that led to it. Raises NoSite if a module imports itself.
     """
     if name in importers:
         raise NoSite(f"web/{name}.js imports itself")
@@ -148,16 +174,51 @@ def add_module(name: str, web: str, done: dict[str, str], importers: tuple[str, 
         return
     text = read_source(f"{name}.js", web)
     for _, _, other in IMPORT.findall(text):
-        add_module(other, web, done, (*importers, name))
-    exported = ", ".join(it for _, it in EXPORT.findall(text))
-    body = EXPORT.sub(r"\1", IMPORT.sub(rewrite_import, text))
-    done[name] = f"const from_{name} = (() => {{\n{body}return {{ {exported} }};\n}})();\n"
+        add_module(other, web, done, (*importers, name), repeated)
+    exported = [it for _, it in EXPORT.findall(text)]
+    body = EXPORT.sub(r"\1", IMPORT.sub(lambda it: rewrite_import(it, repeated), text))
+    made = f"const from_{name} = (() => {{\n{body}return {{ {', '.join(exported)} }};\n}})();\n"
+    done[name] = made + make_taking_statement([it for it in exported if it not in repeated], name)
 
 
-def rewrite_import(statement: re.Match[str]) -> str:
-    """Returns the statement in place of an import: it takes the names from what the module's function returned."""
-    namespace, names, name = statement.groups()
-    return f"const {namespace} = from_{name};\n" if namespace else f"const {{{names}}} = from_{name};\n"
+def make_taking_statement(names: list[str], module: str) -> str:
+    """Returns the statement that takes names from what a module's function returned; "" if there is no name."""
+    return f"const {{ {', '.join(names)} }} = from_{module};\n" if names else ""
+
+
+def rewrite_import(statement: re.Match[str], repeated: set[str]) -> str:
+    """Returns the statement in place of an import: of names only those that are `repeated` are taken, since the whole script has the others."""
+    namespace, names, module = statement.groups()
+    if namespace:
+        return f"const {namespace} = from_{module};\n"
+    return make_taking_statement([it for it in re.findall(r"\w+", names) if it in repeated], module)
+
+
+def find_template_end(text: str, begin: int) -> int:
+    """Returns the place after the template of a script that begins at a place. Code within it may have templates, too."""
+    at, depth = begin + 1, 0
+    while depth or text[at] != "`":
+        if text[at] == "\\":
+            at += 2
+        elif depth == 0:
+            depth += text.startswith("${", at)
+            at += 2 if depth else 1
+        else:
+            literal = SCRIPT_LITERAL.match(text, at)
+            depth += (text[at] == "{") - (text[at] == "}")
+            at = (find_template_end(text, at) if literal[0] == "`" else literal.end()) if literal else at + 1
+    return at + 1
+
+
+def shorten_script(text: str) -> str:
+    """Returns a script that says the same with fewer bytes: without blanks beside punctuation and ends of lines after it, except in literals."""
+    shorten = lambda code: SCRIPT_LINE_END.sub("", SCRIPT_SPARE.sub(r"\1", code))
+    parts, at = [], 0
+    while literal := SCRIPT_LITERAL.search(text, at):
+        end = find_template_end(text, literal.start()) if literal[0] == "`" else literal.end()
+        parts += [shorten(text[at : literal.start()]), text[literal.start() : end]]
+        at = end
+    return "".join([*parts, shorten(text[at:])])
 
 
 # The files.
@@ -165,7 +226,9 @@ def rewrite_import(statement: re.Match[str]) -> str:
 
 def pack_bytes(content: bytes) -> str:
     """Returns bytes as a text: gzip in letters, which is the same for the same bytes."""
-    return letters.encode(gzip.compress(content, mtime=0))
+    # The tenth of a percent that the larger memory of zlib saves is worth a sentence of the page.
+    compressor = zlib.compressobj(9, zlib.DEFLATED, 31, 9)
+    return letters.encode(compressor.compress(content) + compressor.flush())
 
 
 def remove_names(module: bytes) -> bytes:
@@ -174,17 +237,17 @@ def remove_names(module: bytes) -> bytes:
     """
     kept, at = [module[:WASM_HEAD]], WASM_HEAD
     while module.startswith(b"\0asm") and at < len(module):
-        size, content = read_leb128(module, at + 1)
+        size, content = parse_leb128(module, at + 1)
         end = content + size
-        length, name = read_leb128(module, content)
+        length, name = parse_leb128(module, content)
         is_names = module[at] == CUSTOM_SECTION and module[name : name + length] == b"name"
         kept.append(b"" if is_names else module[at:end])
         at = end
     return b"".join(kept) if at == len(module) else module
 
 
-def read_leb128(module: bytes, at: int) -> tuple[int, int]:
-    """Returns the number that begins at a place of a module, in the format LEB128, and the place after it."""
+def parse_leb128(module: bytes, at: int) -> tuple[int, int]:
+    """Returns the number in the format LEB128 that begins at the index `at` of a module, and the index after it."""
     number, shift = 0, 0
     while at < len(module):
         number |= (module[at] & 0x7F) << shift
@@ -194,20 +257,23 @@ def read_leb128(module: bytes, at: int) -> tuple[int, int]:
     return number, at
 
 
-def make_unpacking_script(parts: tuple[str, str, str]) -> str:
-    """Returns a script that unpacks the parts of the page's code and runs it: packed it is a third as long."""
-    return UNPACKING.replace("PACKED", format_literal(pack_bytes(BETWEEN_PARTS.join(parts).encode())))
+def make_unpacking_script(parts: tuple[str, str, str], style: str) -> str:
+    """Returns a script that unpacks the parts of the page's code and its second style sheet and runs it: packed they are a third as long."""
+    return UNPACKING.replace("PACKED", format_literal(pack_bytes(BETWEEN_PARTS.join([*map(shorten_script, parts), style]).encode())))
 
 
-def make_scripts(modules: list[bytes], is_kept: bool, web: str, has_documents: bool = False) -> Files:
-    """Returns the scripts of the page, in their order: what `site` is, which web/supplies.js takes, the page's own code, and the modules."""
+def make_scripts(modules: list[bytes], is_kept: bool, web: str, about: origin.About, listed: list[list[str]]) -> Files:
+    """Returns the scripts of the page, in their order: what `site` is, which web/supplies.js takes, the page's own code, and the modules. `listed` has
+    the documents that the page names.
+    """
     tables = {"examples": web_files.list_families(), "sentences": web_files.list_sentences()}
     names = [f"workbench{number}.js" for number, _ in enumerate(modules, 1)]
     site = {
         "tables": pack_bytes(json.dumps(tables).encode()),
         "isKept": is_kept,
-        "origin": origin.describe_origin(origin.read_origin()),
-        "documents": documents.list_documents() if has_documents else [],
+        "origin": about.origin,
+        "archive": about.archive and about.archive._asdict(),
+        "documents": listed,
         "modules": [],
         "numberOfModules": len(modules),
         # In a folder the page asks itself for each module after the first; in one file they are after the page.
@@ -215,7 +281,7 @@ def make_scripts(modules: list[bytes], is_kept: bool, web: str, has_documents: b
     }
     first = FETCHING.replace("FILE", format_literal(names[0])) if is_kept and names else ""
     begin = f"globalThis.site = {format_literal(site)};\nglobalThis.site.bytesOf = {letters.DECODER};\n"
-    scripts_by_name = {"tables.js": begin + first, "page.js": make_unpacking_script(bundle_page(web))}
+    scripts_by_name = {"tables.js": begin + first, "page.js": make_unpacking_script(bundle_page(web), read_styles(web)[1])}
     for name, module in zip(names, modules):
         scripts_by_name[name] = f"globalThis.site.modules.push({format_literal(pack_bytes(remove_names(module)))});\nglobalThis.site.came?.();\n"
     return scripts_by_name
@@ -225,17 +291,19 @@ def split_page(web: str) -> tuple[str, str]:
     """Returns the page, without its scripts and styles: a front part and a back part. Raises NoSite if web/index.html has another form."""
     html = read_source("index.html", web)
     policy = f'<meta http-equiv="Content-Security-Policy" content="{POLICY}">\n'
-    front, separator, back = html.partition('<link rel="icon" href="icon.svg">\n<link rel="stylesheet" href="style.css">\n')
+    links = "".join(f'<link rel="stylesheet" href="{name}">\n' for name in STYLES)
+    front, separator, back = html.partition('<link rel="icon" href="icon.svg">\n' + links)
     script = '<script type="module" src="main.js"></script>\n'
     if not separator or script not in back:
         raise NoSite("web/index.html does not have its icon, its styles and its script where they are looked for")
     return front + policy, back.replace(script, "", 1)
 
 
-def read_styles(web: str) -> str:
-    """Returns the style sheet, without what only its writers need."""
+def read_styles(web: str) -> list[str]:
+    """Returns the two style sheets, without what only their writers need."""
     scripts = "".join(read_source(name, web) for name in sorted(os.listdir(web)) if name.endswith(".js"))
-    return rename_properties(shorten_style(read_source("style.css", web)), set(STYLE_PROPERTY.findall(scripts)))
+    styles = BETWEEN_PARTS.join(shorten_style(read_source(name, web)) for name in STYLES)
+    return rename_properties(styles, set(STYLE_PROPERTY.findall(scripts))).split(BETWEEN_PARTS)
 
 
 def rename_properties(style: str, kept: set[str]) -> str:
@@ -252,23 +320,24 @@ def shorten_style(text: str) -> str:
     """Returns a style sheet that says the same with fewer bytes: browsers wait for all of it before they show anything."""
     shorter = STYLE_BLANK.sub(r"\1\2", INDENT.sub("", STYLE_COMMENT.sub("", text)))
     parts = STYLE_STRING.split(STYLE_NAME.sub(r"=\1]", shorter))
-    return "".join(STYLE_SPARE.sub(lambda it: it[1] or "", part).replace("; ", ";") if index % 2 == 0 else part for index, part in enumerate(parts))
+    shorten = lambda it: STYLE_ELEMENT.sub(":", STYLE_SPARE.sub(lambda match: match[1] or match[2] or "", it).replace("; ", ";").replace("transparent", "#0000"))
+    return "".join(shorten(part) if index % 2 == 0 else part for index, part in enumerate(parts))
 
 
-def make_one_file(modules: list[bytes], web: str) -> str:
+def make_one_file(modules: list[bytes], web: str, about: origin.About) -> str:
     """Returns the site as one file. Raises NoSite if the style has what none inside the page may have."""
     front, back = split_page(web)
     icon = base64.b64encode(read_source("icon.svg", web).encode()).decode()
-    style = read_styles(web)
+    style = read_styles(web)[0]
     if "</style" in style:
         raise NoSite("web/style.css has what no style inside the page may have")
     head = f'<link rel="icon" href="data:image/svg+xml;base64,{icon}">\n<style>\n{style}</style>\n'
-    inner = "".join(f"<script>\n{it}</script>\n" for it in make_scripts(modules, False, web).values())
+    inner = "".join(f"<script>\n{it}</script>\n" for it in make_scripts(modules, False, web, about, []).values())
     body, end, rest = back.rpartition("</body>")
     return front + head + body + inner + end + rest
 
 
-def make_documents(web: str, slides: str | None) -> Files:
+def make_documents(web: str, about: origin.About, slides: str | None) -> Files:
     """Returns the documents of a site, with their style and their script, the quiz, and the slides if there are some: for each file its text. Raises
     NoSite if web/style.css has another form.
     """
@@ -277,16 +346,17 @@ def make_documents(web: str, slides: str | None) -> Files:
         raise NoSite("web/style.css does not begin with the colours by light and by dark")
     style = shorten_style(match[0] + read_source(documents.STYLE, web))
     questions = make_quiz.make_page(*QUIZ, quiz.make_report_by_plain, PAGE)
-    return {**documents.make_pages(POLICY, questions, slides), documents.STYLE: style, documents.SCRIPT: read_source(documents.SCRIPT, web)}
+    return {**documents.make_pages(POLICY, about, questions, slides), documents.STYLE: style, documents.SCRIPT: read_source(documents.SCRIPT, web)}
 
 
-def make_folder(modules: list[bytes], web: str, has_documents: bool = True, slides: str | None = None) -> Files:
+def make_folder(modules: list[bytes], web: str, about: origin.About, has_documents: bool = True, slides: str | None = None) -> Files:
     """Returns the site as files: for each name its text; with the documents, or without them for a class that is to find the answers."""
     front, back = split_page(web)
-    files = {"icon.svg": read_source("icon.svg", web), "style.css": read_styles(web)}
-    files.update(make_scripts(modules, True, web, has_documents))
+    files = {"icon.svg": read_source("icon.svg", web), "style.css": read_styles(web)[0]}
+    listed = documents.list_documents(slides is not None) if has_documents else []
+    files.update(make_scripts(modules, True, web, about, listed))
     if has_documents:
-        files.update(make_documents(web, slides))
+        files.update(make_documents(web, about, slides))
     head = '<link rel="icon" href="icon.svg">\n<link rel="stylesheet" href="style.css">\n'
     head += "".join(f'<script defer src="{name}"></script>\n' for name in ("tables.js", "page.js"))
     files["index.html"] = front + head + back
@@ -302,15 +372,20 @@ def write_file(path: str, text: str) -> None:
         file.write(text)
 
 
-def make_site(out: str, modules: list[bytes], is_one_file: bool = False, web: str = WEB) -> None:
-    """Makes a site of modules, each by its bytes."""
+def make_site(
+    out: str, modules: list[bytes], is_one_file: bool = False, web: str = WEB, address: str | None = None, archive: str | None = None
+) -> None:
+    """Makes a site of modules, each by its bytes; one of files carries the archive, if one is given. Raises NoArchive if that is none of these sources."""
+    about = origin.describe_site(address, archive)
     if is_one_file:
-        write_file(out, make_one_file(modules, web))
+        write_file(out, make_one_file(modules, web, about))
         return
-    files = make_folder(modules, web, slides=make_slides.make_page_if_built(PAGE))
+    files = make_folder(modules, web, about, slides=make_slides.make_page_if_built(PAGE))
     os.makedirs(out, exist_ok=True)
     for name, text in files.items():
         write_file(f"{out}/{name}", text)
+    if archive and about.archive:
+        shutil.copyfile(archive, f"{out}/{about.archive.file}")
 
 
 # The command line.
@@ -338,10 +413,14 @@ def main() -> int:
     reader.add_argument("out", metavar="FOLDER")
     reader.add_argument("--one-file", action="store_true")
     reader.add_argument("--module", action="append", default=[], metavar="FILE")
+    reader.add_argument("--archive", metavar="FILE")
+    reader.add_argument("--address", metavar="URL")
     arguments = reader.read()
+    if arguments.one_file and arguments.archive:
+        reader.error("a site of one file carries no archive")
     try:
-        make_site(arguments.out, read_modules(arguments.module), arguments.one_file)
-    except (NoSite, OSError) as why:
+        make_site(arguments.out, read_modules(arguments.module), arguments.one_file, address=arguments.address, archive=arguments.archive)
+    except (NoSite, origin.NoArchive, OSError) as why:
         print(f"make_site: {why}", file=sys.stderr)
         return 1
     return 0

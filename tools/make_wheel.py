@@ -125,7 +125,7 @@ def build_wheel(wheel_directory: str, config_settings: object = None, metadata_d
 
 
 def build_sdist(sdist_directory: str, config_settings: object = None) -> NoReturn:
-    """Refuses to make an archive of sources: PEP 517 has this call, and the sources can't be built without their toolchain."""
+    """Raises NotImplementedError: PEP 517 has this call, but the sources can't be built without their toolchain."""
     raise NotImplementedError("there is no sdist: the sources are the repository's")
 
 

@@ -51,7 +51,9 @@ SECONDS = 10.0
 
 
 def parse_knob(word: str) -> tuple[str, Any]:
-    """Reads a word that sets a knob. Raises ArgumentTypeError if it sets none."""
+    """Returns the knob that a word `NAME=VALUE` sets, and the number that the harness is passed for its value. Raises ArgumentTypeError if the word
+    sets none.
+    """
     try:
         return knobs.parse_knob(word)
     except knobs.NoKnob as why:
@@ -59,7 +61,7 @@ def parse_knob(word: str) -> tuple[str, Any]:
 
 
 def parse_seconds(text: str) -> float:
-    """Reads a number of seconds. Raises ArgumentTypeError if the text says none."""
+    """Returns the number of seconds that a text says. Raises ArgumentTypeError if it says none."""
     seconds = command.parse_seconds(text)
     if seconds is None:
         raise argparse.ArgumentTypeError(f"'{text}' is no number of seconds from 0.001 to 10000000")
@@ -67,7 +69,7 @@ def parse_seconds(text: str) -> float:
 
 
 def parse_compiler(text: str) -> list[str]:
-    """Reads the words of a compiler. Raises ArgumentTypeError if they are no command."""
+    """Returns the words of a compiler's command. Raises ArgumentTypeError if the text is none."""
     try:
         words = shlex.split(text)
     except ValueError as why:
@@ -97,7 +99,7 @@ def run_and_print(laboratory: Laboratory, arguments: argparse.Namespace, setting
 
 
 def run_all(arguments: argparse.Namespace, settings: Settings) -> int:
-    """Runs all tests. Returns the exit status; a state that was seen and not listed determines it first."""
+    """Runs all tests. Returns the exit status: SEEN_AND_NOT_LISTED if some state was, otherwise the greatest status of a test."""
     try:
         with tempfile.TemporaryDirectory(prefix="lw-machine-") as folder:
             laboratory = Laboratory(arguments.cc, folder)
@@ -112,14 +114,14 @@ def run_all(arguments: argparse.Namespace, settings: Settings) -> int:
 
 
 def run_against(arguments: argparse.Namespace) -> int:
-    """Reads the test of `--against`, if there is one, and runs all tests. Returns the exit status."""
+    """Runs all tests; with `--against`, compares them with the list of that test or program. Returns the exit status."""
     if arguments.against is None:
         return run_all(arguments, make_settings(arguments, None))
     return command.for_one("on_machine", arguments.against, lambda file, text: run_held_against(arguments, file, text))
 
 
 def run_held_against(arguments: argparse.Namespace, file: str, text: str) -> int:
-    """Runs all tests against the list of a test or a program. Returns the exit status."""
+    """Runs all tests, and compares them with the list of the test or program in `text`. Returns the exit status."""
     try:
         is_converted = programs.is_converted(file, text)
         subject = programs.compile_program(

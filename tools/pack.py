@@ -79,8 +79,8 @@ def capture_lines(*arguments: str) -> list[str]:
 # The sources of a pack.
 
 
-def read_commit() -> str:
-    """Returns the commit of the sources. Fails if files differ from it."""
+def find_commit() -> str:
+    """Returns the commit of the sources. Raises NoPack if this is no checkout, or files differ from the commit."""
     commit = capture_lines("git", "rev-parse", "HEAD")
     if not commit:
         raise NoPack("this is no checkout of the repository")
@@ -90,7 +90,7 @@ def read_commit() -> str:
 
 
 def describe_gate() -> str:
-    """Returns how the gate ended that proved the program: the last line of ./test.sh for these sources, or that it has not passed here."""
+    """Returns how the gate ended that proved the program, by the last line of ./test.sh for these sources, or that it has not passed here."""
     made_of, lines_of_gate = read_lines(f"{OUT}/made-of"), read_lines(f"{OUT}/gate")
     if len(made_of) < 4 or len(lines_of_gate) != 2 or lines_of_gate[0] != made_of[3]:
         return NO_GATE
@@ -163,7 +163,9 @@ def make_files() -> dict[str, bytes]:
 
 
 def make_contents(made_by: str, gate: str) -> dict[str, bytes]:
-    """Returns of each name in the pack its bytes, by the commit and by how the gate ended. Raises NoPack if a program is not built."""
+    """Returns the bytes of each file of a pack, by its name; `made_by` is the commit, and `gate` says how the gate ended. Raises NoPack if a program
+    is not built.
+    """
     for program in (build.LW, build.BEYOND):
         if not is_built(program):
             raise NoPack(f"there is no program {program.name} of these sources: run ./{program.name}")
@@ -197,7 +199,7 @@ def main() -> int:
     reader.add_argument("folder", metavar="FOLDER")
     folder = reader.read().folder
     try:
-        made_by = read_commit()
+        made_by = find_commit()
         gate = describe_gate()
         files = make_contents(made_by, gate)
         top = f"lw-{made_by[:8]}-linux-x86_64"

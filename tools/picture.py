@@ -60,6 +60,7 @@ class Drawing:
     """The elements of a picture."""
 
     def __init__(self) -> None:
+        """Starts without an element."""
         self.elements: list[str] = []
 
     def draw_text(self, x: float, y: float, text: str, kind: str = "") -> None:
@@ -179,11 +180,13 @@ def draw_thread(drawing: Drawing, film: Film, step: int, thread: int, x: float, 
     drawing.draw_box(x, y, measures.width, measures.height)
     x, top = x + EDGE, y + LINE
     drawing.draw_text(x, top, f"P{thread}", "title")
+    # The code, from the title down.
     for row, cell in enumerate(film["cells"][thread]):
         is_next = cell["at"] == thread_state["at"]
         kind = "next" if is_next else "faint" if cell["at"] < thread_state["at"] else ""
         drawing.draw_text(x, top + LINE * (row + 1), ("▸ " if is_next else "  ") + cell["text"], kind)
     top += LINE * (measures.code + 1) + 4
+    # The registers, and below them the cache lines and the store buffer.
     words, old_words = dict(thread_state["registers"]), dict(thread_before["registers"])
     for row, name in enumerate(measures.used[thread]):
         is_lit = words[name] != old_words[name] or name == effect.get("register")

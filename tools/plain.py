@@ -78,7 +78,7 @@ def answer_command(arguments: list[str], text: str) -> tuple[str, int]:
 
 
 def parse_arguments() -> tuple[list[str], str]:
-    """Reads the command line. Returns the words of the command, as `answer` takes them, and the name of its file."""
+    """Returns the words of the command, as `answer_command` takes them, and the name of its file. Exits if the command line is wrong."""
     parser = command.Reader(__doc__)
     parser.add_argument("command", choices=COMMANDS)
     parser.add_argument("others", nargs="*")
@@ -107,7 +107,7 @@ def print_answer(arguments: list[str], text: str) -> int:
 
 
 def main() -> int:
-    """Reads the command line and prints the answer. Returns the exit status."""
+    """Prints the answer to the command line. Returns the exit status."""
     given.set_output_encoding()
     words, file = parse_arguments()
     return command.for_one("plain", file, lambda _name, text: print_answer(words, text))

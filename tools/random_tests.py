@@ -162,7 +162,7 @@ class Writer:
         return text + f"{self.random.choice(('exists', '~exists', 'forall'))} ({self.draw_proposition(3)})\n"
 
     def insert_mistakes(self, text: str) -> str:
-        """Returns a text with one or two tokens omitted, replaced or inserted, or with its end cut off."""
+        """Returns a text with one or two random mistakes: tokens omitted, replaced or inserted, or the end cut off."""
         for _ in range(self.random.choice((1, 1, 2))):
             tokens = re.findall(r"\s+|\w+|:=|/\\|\\/|!=|.", text) or [""]
             index = self.random.randrange(len(tokens))

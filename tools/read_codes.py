@@ -37,7 +37,9 @@ class Quizzes:
     """The quizzes that codes may be of: the one of a page, or those of a seed."""
 
     def __init__(self, word: str) -> None:
-        """Reads the quiz of a page, or remembers a seed."""
+        """Reads the quiz of the page at a path, or takes the word for a seed if it is small letters and digits. Raises NoQuiz if the file has no
+        quiz.
+        """
         self.quizzes: dict[int, quiz.Data] = {}  # by the number of tests
         self.page: quiz.Data | None = None
         self.seed = word
@@ -49,7 +51,7 @@ class Quizzes:
             self.seed = self.page["seed"]
 
     def find_quiz(self, count: int) -> quiz.Data:
-        """Returns the quiz of the page, whatever the number; of a seed, the quiz with this number of tests."""
+        """Returns the quiz of the page, whatever `count` is; of a seed, its quiz of `count` tests."""
         if self.page:
             return self.page
         if count not in self.quizzes:
@@ -57,8 +59,8 @@ class Quizzes:
         return self.quizzes[count]
 
     def make_row(self, line: str) -> Row:
-        """Returns the contents of a line's code: the student, the numbers of answers and of right ones, and the wrong ones. Raises BadCode if
-        it is of another quiz.
+        """Returns the row of a line's code: the student; the points with the number of all points; and the tests with wrong answers, or `-`. Raises
+        BadCode if the line is no code, or one of another quiz.
         """
         handed_in = codes.parse_code(line)
         begin = len(line) - len(line.lstrip(codes.BETWEEN))
@@ -69,7 +71,7 @@ class Quizzes:
             raise codes.BadCode(f"the code is of a quiz with {len(handed_in.answers)} tests, not {len(data['tests'])}", begin)
         if handed_in.mark != data["mark"]:
             raise codes.BadCode("the code is of other tests with this seed", begin)
-        wrong = [answer ^ right for answer, right in zip(handed_in.answers, quiz.read_answers(data))]
+        wrong = [answer ^ right for answer, right in zip(handed_in.answers, quiz.parse_answers(data))]
         points = sum(2 - (wrong_answers & 1) - (wrong_answers >> 1) for wrong_answers in wrong)
         mistakes = ", ".join(f"{number} {WRONG[wrong_answers]}" for number, wrong_answers in enumerate(wrong, 1) if wrong_answers)
         return handed_in.student, f"{points}/{2 * len(wrong)}", mistakes or "-"
@@ -82,7 +84,7 @@ def format_table(rows: list[Row]) -> str:
 
 
 def print_table(quizzes: Quizzes, name: str, text: str) -> int:
-    """Prints the table of a text's codes, and reports bad ones. Returns the exit status."""
+    """Prints the table of a text's codes, and on standard error which lines are bad codes. Returns the exit status."""
     rows: list[tuple[str, ...]] = [("Line", "Student", "Right", "Wrong")]
     seen: dict[str, int] = {}
     faults = offset = 0

@@ -85,14 +85,17 @@ class State(TypedDict):
 
 
 class Page:
-    """The lines of a text, which are read one after another."""
+    """The lines of a replay's page, which are read one after another."""
 
     def __init__(self, text: str) -> None:
+        """Starts at the first line of a text."""
         *self.lines, self.rest = text.split("\n")
         self.offset = self.last_offset = 0  # of the next line, and of the line that was read last
 
     def take_line(self, pattern: str) -> tuple[str, ...]:
-        """Reads the next line. Returns the groups that a pattern matches in it, and refuses a line that it does not match."""
+        """Reads the next line. Returns the groups that a pattern matches in it. Raises NoReplay if there is no line, or the pattern does not match
+        all of it.
+        """
         if not self.lines:
             raise NoReplay("the last line has no end" if self.rest else "the text ends, and a replay prints more", self.offset)
         line = self.lines.pop(0)
@@ -102,24 +105,24 @@ class Page:
         return require_match(match).groups()
 
     def parse_words(self, text: str) -> Words:
-        """Returns the pairs of a name and a word in the line that was read last."""
+        """Returns the pairs of a name and a word in a text of the line that was read last. Raises NoReplay if a number is no word."""
         words = [(name, int(word)) for name, word in parse_pairs(text)]
         self.require(all(word < 2**32 for _, word in words))
         return words
 
     def require(self, condition: object) -> None:
-        """Refuses the line that was read last unless a condition holds."""
+        """Raises NoReplay, at the line that was read last, unless a condition holds."""
         if not condition:
             raise NoReplay("a replay prints no such line here", self.last_offset)
 
     def close(self) -> None:
-        """Refuses whatever follows the last line of a replay."""
+        """Raises NoReplay if something follows the last line of a replay."""
         if self.lines or self.rest:
             raise NoReplay("a replay prints no line here", self.offset)
 
 
 def parse_pairs(text: str) -> Letters:
-    """Returns the pairs of a name and what follows its `=`."""
+    """Returns the pairs of a name and what follows its `=`, in a text of such, between blanks."""
     return [(name, value) for name, value in (it.split("=") for it in text.split())]
 
 
@@ -134,7 +137,9 @@ def make_end(kind: str | None, stopped_at: str, number: str, cause: str) -> End:
 
 
 def read_thread(page: Page, number: int, languages: tuple[tuple[str, ...], ...]) -> ThreadState:
-    """Reads the state of the thread at an index, whose registers are those of one of some languages."""
+    """Reads the state of the thread `number`. `languages` has the names of the registers that it may have. Raises NoReplay if the lines are no such
+    state.
+    """
     position, text = page.take_line(f"P{number} at {NUMBER}{WORDS}")
     thread: ThreadState = {"at": int(position), "registers": page.parse_words(text)}
     page.require(list_names(thread["registers"]) in languages)
@@ -145,7 +150,7 @@ def read_thread(page: Page, number: int, languages: tuple[tuple[str, ...], ...])
 
 
 def read_threads(page: Page) -> list[ThreadState]:
-    """Reads the states of all threads, which are of one language."""
+    """Reads the states of all threads, which have the registers of one language. Raises NoReplay if the lines are no such states."""
     threads = [read_thread(page, 0, (X86, SOURCE))]
     language = list_names(threads[0]["registers"])
     while len(threads) < MAX_THREADS and page.lines[:1] and page.lines[0].startswith("P"):
@@ -154,7 +159,7 @@ def read_threads(page: Page) -> list[ThreadState]:
 
 
 def parse_replay_state(text: str) -> State:
-    """Returns the state that a replay's text describes."""
+    """Returns the state that a replay's text describes. Raises NoReplay if the text is not what a replay prints."""
     page = Page(text)
     name, steps = page.take_line("Test ([!-~]{1,128})")[0], int(page.take_line(f"Steps {NUMBER}")[0])
     end, threads = make_end(*page.take_line(END)), read_threads(page)
@@ -179,7 +184,7 @@ def parse_report_line(line: str) -> list[tuple[str, int]]:
 
 
 def is_final_in(state: State, line: str) -> bool:
-    """Returns whether a run is final, in the state of a line of a report. A register may have its name in either language."""
+    """Returns whether a run is final, and its state is that of a line of a report. A register may have its name in either language."""
     content = dict(state["content"])
     for name, word in parse_report_line(line):
         thread, is_register, register = name.rpartition(":")

@@ -75,6 +75,7 @@ class Progress:
     """A line on a terminal that says how far the runs are."""
 
     def __init__(self, total: int) -> None:
+        """Starts with no run of `total` done."""
         self.total, self.done_count, self.shown_at = total, 0, 0.0  # `shown_at` is the time of the monotonic clock
         self.is_terminal = sys.stderr.isatty()
 
@@ -92,7 +93,7 @@ class Progress:
 
 
 def parse_seconds(text: str) -> float:
-    """Reads a number of seconds. Raises ArgumentTypeError if the text says none."""
+    """Returns the number of seconds that a text says. Raises ArgumentTypeError if it says none."""
     seconds = command.parse_seconds(text)
     if seconds is None:
         raise argparse.ArgumentTypeError(f"'{text}' is no number of seconds from 0.001 to 10000000")
@@ -100,7 +101,7 @@ def parse_seconds(text: str) -> float:
 
 
 def parse_shard(text: str) -> files.Shard:
-    """Reads a shard. Raises ArgumentTypeError if the text is none."""
+    """Returns the shard that a text says. Raises ArgumentTypeError if it says none."""
     shard = files.parse_shard(text)
     if shard is None:
         raise argparse.ArgumentTypeError(f"'{text}' is no I/N, in which I is from 1 to N")
@@ -108,14 +109,14 @@ def parse_shard(text: str) -> files.Shard:
 
 
 def parse_name(text: str) -> str:
-    """Reads the name of a file or of a command, which is not empty. Raises ArgumentTypeError if it is."""
+    """Returns the name of a file or of a command. Raises ArgumentTypeError if it is empty."""
     if not text.strip():
         raise argparse.ArgumentTypeError("the name is empty")
     return text
 
 
 def parse_arguments() -> argparse.Namespace:
-    """Reads the arguments of the command."""
+    """Returns the arguments of the command. Exits if they are wrong."""
     reader = command.Reader(__doc__)
     reader.add_argument("names", nargs="*", metavar="FOLDER|FILE")
     reader.add_argument("--as", dest="form", choices=FORMS, default="text")
@@ -200,7 +201,7 @@ def compare_with_logs(answers: list[rows.FileAnswer], arguments: argparse.Namesp
 
 
 def make_rows(answers: list[rows.FileAnswer], arguments: argparse.Namespace) -> tuple[list[rows.Row], int]:
-    """Returns the rows, with what was seen on this machine if that is requested, and the exit status."""
+    """Returns the rows, with a column of what was seen on this machine if that is requested, and the exit status of these runs."""
     if arguments.seconds is None:
         return [it.row for it in answers], 0
     from many import compare

@@ -22,7 +22,7 @@ from argparse import Namespace
 sys.dont_write_bytecode = True
 import given
 import plain
-from herd.write import FORMS, write_herd_report, write_herd_text
+from herd.write import FORMS, format_herd_report, format_herd_text
 from shared import answers, command, start
 
 
@@ -37,10 +37,10 @@ def make_x86_test(text: str) -> plain.Test:
 def print_herd_form(arguments: Namespace, text: str) -> int:
     """Prints one test, or one report. Returns the exit status. Raises Fault if the input of --report is no report."""
     if not arguments.report:
-        print(write_herd_text(make_x86_test(text), arguments.form), end="")
+        print(format_herd_text(make_x86_test(text), arguments.form), end="")
         return 0
     try:
-        print(write_herd_report(text, arguments.form), end="")
+        print(format_herd_report(text, arguments.form), end="")
     except ValueError as why:
         raise given.Fault(str(why), 0) from None
     return 0

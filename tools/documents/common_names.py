@@ -29,7 +29,7 @@ WIDTH = 110
 HEAD = "-- What proofs cite of std, of lower crates and of this crate's definitions, passed on from one place. Declares nothing.\n"
 STD = "Rattle.std.proofs.Common"
 PASSES = re.compile(r"^pub use ([\w.+'-]+)\.\{([^}]*)\}", re.M)
-# Crates whose proofs name too little for a file of their own, or on which no other proofs depend.
+# Crates whose proofs import each name from its own place: they share few names.
 WITHOUT = ("lw", "lw_test_reader", "lw_tso_caches", "lw_source", "lw_outcome_map", "lw_arena", "lw_library")
 
 
@@ -95,14 +95,16 @@ def find_unfolded_names(text: str) -> set[str]:
     return {word for line in re.findall(r"^\s*unfolding (.*)$", text, re.M) for word in line.split()}
 
 
-def find_passing_crate(module: str) -> str | None:
-    """Returns the crate whose Common exports a definition to other crates. `None` if no Common does."""
+def find_defining_crate(module: str) -> str | None:
+    """Returns the crate in whose definitions a module is, whether or not it has a Common. `None` for proofs, for what the toolchain generates, and
+    for std.
+    """
     match = re.match(r"Rattle\.(\w+)\.specs\b", module)
     return match[1] if match and ".declared." not in module and ".contracts." not in module else None
 
 
 def pack_names(head: str, names: list[str]) -> list[str]:
-    """Returns lines of at most WIDTH columns."""
+    """Returns lines `HEAD.{NAME, ..}` that have all names, as many in each as fit into WIDTH columns."""
     lines: list[str] = []
     line: list[str] = []
     for name in names:
@@ -114,11 +116,11 @@ def pack_names(head: str, names: list[str]) -> list[str]:
 
 
 class Names:
-    """Which names each Common exports, and from where."""
+    """Which names the Common of each crate exports, each with its module (`exported`)."""
 
     def __init__(self, crates: Crates, in_std: set[str]) -> None:
-        """Finds what each crate's proofs import, and takes for each name the module that most of them import it from. Goes from the highest
-        crate down, since what a Common takes from a lower crate's, that one must export. `in_std` has the names of std's Common.
+        """Finds what each crate's proofs import, and takes for each name the module that most of them import it from. The crates come from the
+        highest down: what a Common takes from a lower one, that one must export. `in_std` has the names of std's Common.
         """
         self.crates, self.in_std = crates, in_std
         imports = {it: self.count_imports(it) for it in crates.order}
@@ -130,7 +132,7 @@ class Names:
                 best.setdefault(name, module)
             self.exported[crate] = best
             for name, module in best.items():
-                below = find_passing_crate(module)
+                below = find_defining_crate(module)
                 if below != crate and crates.has_common(below):
                     imports[below].setdefault((module, name), 1)
 
@@ -147,7 +149,7 @@ class Names:
                 yield from ((use[1], name) for name in split_names(use[2]))
 
     def count_imports(self, crate: str) -> dict[tuple[str, str], int]:
-        """Counts the imports of each module and name in a crate's proofs."""
+        """Counts how many proofs of a crate import each name, by module and name; only names that its Common would export."""
         counts: dict[tuple[str, str], int] = Counter()
         for path in self.crates.list_proofs(crate) if self.crates.has_common(crate) else ():
             text = self.crates.read_proof(path)
@@ -163,7 +165,7 @@ class Names:
         """Returns the text of a crate's Common."""
         by_module: dict[str, list[str]] = {}
         for name, module in self.exported[crate].items():
-            below = find_passing_crate(module)
+            below = find_defining_crate(module)
             if below != crate and below in self.exported and self.exported[below].get(name) == module:
                 module = f"Rattle.{below}.proofs.Common"
             by_module.setdefault(module, []).append(name)
@@ -178,7 +180,7 @@ class Names:
         return HEAD + "\n".join(lines) + "\n"
 
     def rewrite_proof(self, crate: str, text: str) -> str:
-        """Returns a proof's text with its imports gathered."""
+        """Returns a proof's text in which the imports are replaced: what its crate's Common exports comes from there."""
         unfolded = find_unfolded_names(text)
         common: list[str] = []
         others: dict[str, list[str]] = {}
@@ -198,7 +200,7 @@ class Names:
 
 
 def list_wanted_texts(crates: Crates, names: Names) -> Iterator[tuple[str, str]]:
-    """Yields the files as they should be, by path."""
+    """Yields, for each file of proofs, its path and the text that it should have."""
     for crate in crates.order:
         if not names.exported[crate]:
             yield from ((path, crates.read_proof(path)) for path in crates.list_proofs(crate))

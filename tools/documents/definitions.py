@@ -22,6 +22,7 @@ class Definition:
     """A definition: its name, its file, and the numbers of its first and last line, counted from 1."""
 
     def __init__(self, name: str, path: str, first: int, last: int, text: str) -> None:
+        """Makes a definition; `first` and `last` are line numbers, counted from 1."""
         self.name, self.path, self.first, self.last, self.text = name, path, first, last, text
 
     def count_lines(self) -> int:
@@ -57,7 +58,9 @@ def remove_comments(block: list[str]) -> list[str]:
 
 
 class SpecFile:
-    """A file of definitions: what it imports, and what it defines, by name."""
+    """A file of definitions: for each name that it imports the crate, the module and the name there (`imports`); for each module that it renames the
+    crate and the module (`aliases`); and what it defines, by name (`defined`).
+    """
 
     def __init__(self, path: str) -> None:
         """Reads a file of the repository."""
@@ -67,12 +70,12 @@ class SpecFile:
         self.defined: dict[str, Definition] = {}
         for start, block in split_paragraphs(read_lines(path)):
             if any(IMPORT.match(line) or line.startswith("use ") for line in block):
-                self.read_imports(block)
+                self.record_imports(block)
             else:
-                self.read_definition(start, block)
+                self.record_definition(start, block)
 
-    def read_imports(self, block: list[str]) -> None:
-        """Reads a block of `use` lines."""
+    def record_imports(self, block: list[str]) -> None:
+        """Records the names and modules that a block of `use` lines imports."""
         for line in block:
             named = IMPORT.match(line)
             if named and named[3]:
@@ -82,8 +85,10 @@ class SpecFile:
             elif named and named[4]:
                 self.aliases[named[4]] = (named[1], named[2])
 
-    def read_definition(self, start: int, block: list[str]) -> None:
-        """Reads a block that defines something; a comment by itself is none. A line that opens a module belongs to what follows it."""
+    def record_definition(self, start: int, block: list[str]) -> None:
+        """Records the definition in a block of lines, the first of which has the number `start`, by each name that it declares; a block of comments
+        has none. A line that opens a module belongs to the definition after it.
+        """
         code = remove_comments(block)
         opens = [number for number, line in enumerate(code) if re.match(r"^\s*module\b", line)]
         body = [line for line in code[opens[-1] + 1 if opens else 0 :] if line.strip()]
@@ -107,12 +112,14 @@ def find_declaration(crate: str, names: list[str]) -> Definition | None:
     for start, block in split_paragraphs(read_lines(path)):
         for number, line in enumerate(block):
             if re.match(rf"^pub(\(crate\))? (enum|struct) {names[-1]}\b", line):
-                return read_item(path, names[-1], start, block, number)
+                return parse_item(path, names[-1], start, block, number)
     return None
 
 
-def read_item(path: str, name: str, start: int, block: list[str], number: int) -> Definition:
-    """Returns the item that starts at a line of a block of code, with the comments and attributes above it."""
+def parse_item(path: str, name: str, start: int, block: list[str], number: int) -> Definition:
+    """Returns the item called `name` that begins at the index `number` of a block of code, with the comments and attributes above it. The block
+    begins at the line `start`.
+    """
     first = number
     while first and re.match(r"^\s*(///|#\[)", block[first - 1]):
         first -= 1
@@ -127,10 +134,11 @@ class Definitions:
     """All definitions that were read, by file."""
 
     def __init__(self) -> None:
+        """Starts without a file."""
         self.files: dict[str, SpecFile] = {}
 
     def read_file(self, path: str) -> SpecFile:
-        """Returns a file, which is read once."""
+        """Returns the SpecFile of a path, which is read at the first call."""
         if path not in self.files:
             self.files[path] = SpecFile(path)
         return self.files[path]

@@ -14,7 +14,7 @@ import sys
 from typing import List, Tuple
 
 import from_c
-from c.compiler import read_version
+from c.compiler import find_version
 from c.report import Answer
 from c.source import read_source
 from c.weaker import WEAKER
@@ -74,12 +74,12 @@ def format_row(path: str, program_answers: list[Answer]) -> str:
 def format_head(compilers: tuple[str, ...]) -> str:
     """Returns the head of a table: who made the lists."""
     names = [it.split()[0] for it in compilers]
-    by, level = " and ".join(f"{name} {read_version(name)}" for name in names), compilers[0].split()[-1]
+    by, level = " and ".join(f"{name} {find_version(name)}" for name in names), compilers[0].split()[-1]
     return f"| Program | The list by {by}, {level} | More without seq_cst | More with relaxed |"
 
 
 def make_table(folder: str) -> str:
-    """Returns the table of a folder. Fails if its compilers make different lists."""
+    """Returns the table of a folder. Raises SystemExit if its compilers make different lists."""
     compilers = FOLDERS[folder][1]
     lines = [format_head(compilers), "|---|---|---|---|"]
     for path in list_programs(folder):
@@ -108,7 +108,7 @@ def read_lists(folder: str) -> dict[str, Lists]:
 
 
 def main() -> None:
-    """Writes both tables. The programs are to be those of the sources, since a table says which lists are not proved. Exits if they are not."""
+    """Writes both tables. Raises SystemExit unless the programs are those of the sources, since a table says which lists are not proved."""
     if not (spawn.is_current() and spawn.is_current("beyond")):
         raise SystemExit("the programs are not those of the sources: run ./lw and ./beyond")
     sys.setrecursionlimit(from_c.RECURSION)

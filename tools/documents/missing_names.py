@@ -19,7 +19,7 @@ from collections.abc import Iterator
 from typing import Any
 
 from shared.antt_free import list_free_names, split_head
-from shared.antt_names import MARKS, File, Files, read_words
+from shared.antt_names import MARKS, File, Files, parse_words
 from shared.home import HOME, read_crates as lines_of_crates
 
 USE = re.compile(r"use ([\w.+'-]+)\.\{([^}]*)\}$")
@@ -38,8 +38,8 @@ def list_offered_names(file: File) -> set[str]:
         if declaration.owner is None and not declaration.scope:
             if declaration.is_public:
                 offered_names.add(declaration.name)
-            if "data" in read_words(declaration.head)[:3]:
-                offered_names.update(word for part in declaration.parts for word in split_head(read_words(part))[0] if word not in MARKS)
+            if "data" in parse_words(declaration.head)[:3]:
+                offered_names.update(word for part in declaration.parts for word in split_head(parse_words(part))[0] if word not in MARKS)
     return offered_names
 
 
@@ -49,10 +49,14 @@ def list_search_words(name: str) -> list[str]:
 
 
 class Missing:
-    """The names that proofs lack, and where they are defined. `crates` is that of common_names.py, `std` the module of std's Common."""
+    """The names that proofs lack, and where they are defined; `reports` has, for each name that was missing, whether it has one origin, and the line
+    on it.
+    """
 
     def __init__(self, crates: Any, std: str, in_std: set[str]) -> None:
-        """Finds where each name is defined. `in_std` are the names that std's Common exports."""
+        """Finds where each name is defined. `crates` is a `Crates` of common_names.py, `std` the module of std's Common, and `in_std` are the names
+        that this exports.
+        """
         self.crates, self.std = crates, std
         self.reports: list[tuple[bool, str]] = []  # for each missing name whether it has one origin, and a line
         self.files = Files()
@@ -100,7 +104,7 @@ class Missing:
 
     def find_modules(self, file: File, word: str) -> set[tuple[str, str]]:
         """Returns the modules that define a word, each with the name that it has there."""
-        passed = {key: name for name in self.crates.passed[file.crate] for key in list_search_words(name)}
+        passed = {key: name for name in self.crates.exported[file.crate] for key in list_search_words(name)}
         if word in passed:
             return {(f"Rattle.{file.crate}.proofs.Common", passed[word])}
         modules = {(module, name) for name, crate, module in self.places[word] if self.is_open_to(file, crate, module)}
@@ -110,7 +114,7 @@ class Missing:
 
     @staticmethod
     def find_by_rt(crate: str, word: str) -> set[tuple[str, str]]:
-        """Returns the results of `rt lemma` for a word."""
+        """Returns the modules in which `rt lemma` finds a word, each with the name there."""
         printed = subprocess.run(["rt", "lemma", word], cwd=f"{HOME}/crates/{crate}", capture_output=True, text=True, check=False).stdout
         return {(module, name) for module, group in FOUND.findall(printed) for name in split_names(group) if word in list_search_words(name)}
 
@@ -121,7 +125,7 @@ class Missing:
         return file is None or "." in name or name in file.own_names or name in file.imports or name in list_offered_names(file)
 
     def remove_false_imports(self, file: File) -> Iterator[str]:
-        """Yields the lines of a file without imports of names that their module lacks."""
+        """Yields the lines of a file, without imports of names that their module lacks; removes these from `file.imports`."""
         for line in file.text.split("\n"):
             use = USE.match(line)
             lacking = [it for it in split_names(use[2]) if it and not self.module_has(use[1], it)] if use else []
@@ -135,8 +139,8 @@ class Missing:
                 yield f"use {use[1]}.{{{', '.join(names)}}}"
 
     def complete_imports(self, path: str) -> str:
-        """Returns a proof's text with missing imports added. Prints for each name from where it is imported, or that it has no unique
-        origin.
+        """Returns a proof's text with missing imports added, and without those of names that their module lacks. Adds to `reports`, for each missing
+        name, from where it is imported, or that it has no unique origin.
         """
         file = self.by_path[path]
         lines, added = list(self.remove_false_imports(file)), []

@@ -66,6 +66,7 @@ class Edit:
     """A change of one line of a file: the file, the old text and the new one."""
 
     def __init__(self, file: str, old: str, new: str) -> None:
+        """Makes an edit: `old` is replaced by `new` in a file."""
         self.file, self.old, self.new = file, old, new
 
     def read_file(self, home: str) -> str:
@@ -159,7 +160,9 @@ class Copy:
         return f"{self.tree}/crates/{crate}/out"
 
     def run_rt(self, crate: str, arguments: list[str], seconds: float | None) -> tuple[int | None, str]:
-        """Runs `rt` in a crate of the copy. Returns its status and what it printed; the status is `None` if the seconds were too few."""
+        """Runs `rt` in a crate of the copy, with all that it starts ended after `seconds`. Returns its status and what it printed; the status is
+        `None` if the time was too short. Raises again what interrupts it.
+        """
         arguments = ["nice", "rt", *arguments, "--jobs", self.jobs]
         home = f"{self.tree}/crates/{crate}"
         with subprocess.Popen(arguments, cwd=home, stdout=subprocess.PIPE, stderr=subprocess.STDOUT, text=True, start_new_session=True) as ran:
@@ -237,18 +240,20 @@ def describe_outcome(status: int | None, notices: dict[str, list[Any]]) -> str:
 
 
 def try_mutation(mutation: Mutation, copy: Copy, minutes: float) -> Result:
-    """Makes a mutation in the copy, checks upwards, and undoes the mutation. Returns the result. Raises Unusable if the old text is not exactly once
-    in its file.
+    """Makes a mutation in the copy, checks its crate and those above until one fails or `minutes` are over, and undoes the mutation. Returns the
+    result. Raises Unusable if the old text is not exactly once in its file, or if a crate is not proved without the mutation.
     """
     copy.prove_unmutated(mutation.crate)
     begun, proved = time.monotonic(), []
     result: Result = {"key": mutation.list_texts(), "place": mutation.format_place(), "outcome": "nothing", "crate": ""}
+    # The edits.
     texts = [it.read_file(copy.tree) for it in mutation.edits]
     for edit in mutation.edits:
         now = edit.read_file(copy.tree)
         if now.count(edit.old) != 1:
             raise Unusable(f"{mutation.title}: `old` is {now.count(edit.old)} times in {edit.file} of the last commit")
         edit.write_file(copy.tree, now.replace(edit.old, edit.new))
+    # The crates from the mutated one upwards, to the first that is not proved.
     for crate in check_up.list_dependents([mutation.crate], copy.below):
         if crate.endswith("_tests"):
             continue
@@ -260,11 +265,13 @@ def try_mutation(mutation: Mutation, copy: Copy, minutes: float) -> Result:
             break
         proved.append(crate)
     result.update(proved=proved, seconds=round(time.monotonic() - begun))
+    # What was changed and built is put back.
     for edit, text in zip(mutation.edits, texts):
         edit.write_file(copy.tree, text)
     for crate in copy.touched:
         copy.restore_built(crate)
     copy.touched = set()
+    # A crate that fails without the mutation too would notice nothing.
     if result["outcome"] == "noticed":
         copy.prove_unmutated(result["crate"])
     return result

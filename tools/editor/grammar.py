@@ -72,7 +72,7 @@ def make_test_rules(language: str) -> list[Rule]:
     return [*(address if language == "X86" else []), *include_rules("common"), *make_statement_rules(language), *include_rules("rest")]
 
 
-def test_of(language: str) -> Rule:
+def make_test_rule(language: str) -> Rule:
     """Returns the rule for a whole test of a language: its heading with its notes, up to the initial block, and the rest."""
     heading = {1: "storage.type", 2: "entity.name.type"}
     notes = include_rules("comment", "quoted", "note")
@@ -104,7 +104,7 @@ def make_shared_rules() -> dict[str, Rule]:
 def make_grammar() -> dict[str, Any]:
     """Returns the grammar, as a value of JSON."""
     comment = "Written by tools/documents/make_grammar.py, from the table of tools/editor/words.py."
-    patterns = [*include_rules("comment"), *map(test_of, words.LANGUAGES)]
+    patterns = [*include_rules("comment"), *map(make_test_rule, words.LANGUAGES)]
     return {"name": "lw", "scopeName": SCOPE, "fileTypes": ["litmus"], "comment": comment, "patterns": patterns, "repository": make_shared_rules()}
 
 

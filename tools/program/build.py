@@ -83,7 +83,7 @@ def ask_program_sh(command: str, program: Program = LW) -> bytes | None:
 
 
 class Crate:
-    """A crate of the program: those on which it depends, and its minutes of proof by tools/program/minutes.txt."""
+    """A crate of the program: the crates on which it depends directly (`below`), and its minutes of proof by tools/program/minutes.txt."""
 
     def __init__(self, name: str, below: list[Crate], minutes: float) -> None:
         """Makes a crate of its name, of those on which it depends, and of its minutes."""
@@ -126,14 +126,14 @@ class Crate:
 def list_crates(program: Program = LW) -> list[Crate]:
     """Returns the crates of a program, lowest first."""
     with open(f"{HOME}/crates.txt", encoding="utf-8") as file:
-        named = dict(re.findall(r"^(\w+):(.*)$", file.read(), re.M))
+        libraries_by_crate = dict(re.findall(r"^(\w+):(.*)$", file.read(), re.M))
     minutes = read_proof_minutes()
     crates = {}
 
     def find_crate(name: str) -> Crate:
-        """Returns a crate, after those on which it depends are found."""
+        """Returns the crate of a name, which is made at the first call, with those on which it depends."""
         if name not in crates:
-            below = [find_crate(file) for file in named[name].split() if file in named]
+            below = [find_crate(lower) for lower in libraries_by_crate[name].split() if lower in libraries_by_crate]
             crates[name] = Crate(name, below, minutes.get(name, 0))
         return crates[name]
 
@@ -282,8 +282,8 @@ class FirstAnswer:
         self.reader.start()
 
     def read_input(self) -> None:
-        """Stores what the program reads: all of standard input, but no more than it takes. If it cannot be read, there is no first answer,
-        and the proved program reports that.
+        """Writes what the program reads into a file: all of standard input, but no more than it takes. If it cannot be read, there is no first
+        answer, and the proved program reports that.
         """
         data, part = b"", b" "
         with contextlib.suppress(OSError):
@@ -347,8 +347,8 @@ def build_program(program: Program, at_each_turn: Callable[[], None] = lambda: N
 
 
 def build_once(program: Program, at_each_turn: Callable[[], None]) -> None:
-    """Builds the program of the present sources once, unless they change meanwhile. Raises Failed if a crate is not proved, or the sources can't be
-    listed.
+    """Builds the program of the present sources. If they change meanwhile, it stays marked as not built. Raises Failed if a crate is not proved, or
+    the sources can't be listed.
     """
     for path in (program.path, program.made_of):
         with contextlib.suppress(FileNotFoundError):
@@ -356,6 +356,7 @@ def build_once(program: Program, at_each_turn: Callable[[], None]) -> None:
     sources = ask_program_sh("look_at_sources && list_sources", program)
     if sources is None:
         raise Failed("the build failed: the sources can't be listed")
+    # What an earlier build left is put back.
     crates = list_crates(program)
     for crate in crates:
         finish_crate(crate)
@@ -363,6 +364,7 @@ def build_once(program: Program, at_each_turn: Callable[[], None]) -> None:
     number = len([it for it in crates if not it.seems_built()])
     program.report(f"crates to prove: {number}; on {work.processors} processors that takes {work.estimate_minutes()}, by docs/TIMES.md")
     work.build_all(at_each_turn)
+    # The program is one of these sources, unless they changed.
     if ask_program_sh("look_at_sources && list_sources", program) != sources:
         program.report("the sources have changed meanwhile")
     else:
@@ -390,7 +392,7 @@ def build_and_answer(program: Program, arguments: list[str]) -> int:
 
 
 def end_build(*_signal: object) -> NoReturn:
-    """Ends the build on a signal; further signals are ignored. Raises Failed."""
+    """Raises Failed on a signal, which ends the build; further signals are ignored."""
     for signal_number in SIGNALS:
         signal.signal(signal_number, signal.SIG_IGN)
     raise Failed("the build was ended; what is proved stays proved")

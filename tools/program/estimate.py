@@ -31,6 +31,7 @@ class Bounds(NamedTuple):
     maximum: float
 
     def __str__(self) -> str:
+        """Returns the bounds in words."""
         minimum, maximum = max(1, round(self.minimum)), max(1, round(self.maximum))
         return f"about {maximum} minute{'s' * (maximum > 1)}" if minimum == maximum else f"{minimum} to {maximum} minutes"
 
@@ -51,6 +52,7 @@ class Plan:
     """The order in which crates are proved, each after those below it, on this number of processors; `minutes` has those of each crate."""
 
     def __init__(self, below: dict[Crate, Sequence[Crate]], minutes: dict[Crate, float], processors: int) -> None:
+        """Makes a plan."""
         self.below, self.minutes, self.processors = below, minutes, processors
         self.chains: dict[Crate, float] = {}
 

@@ -9,7 +9,7 @@ import re
 from collections.abc import Container
 
 from shared import antt
-from shared.antt_names import File, read_words
+from shared.antt_names import File, parse_words
 
 # The language's own words and signs.
 BUILT_IN = set(
@@ -101,7 +101,7 @@ def list_bound(sentence: antt.Sentence) -> set[str]:
     opened = OPENED.match(sentence.text)
     if opened:
         return {it.strip() for it in opened[1].split(",")}
-    tokens = read_words(sentence)
+    tokens = parse_words(sentence)
     head, sign = split_head(tokens)
     bound = list_bound_by_words(tokens)
     if sign == "=":
@@ -115,7 +115,7 @@ def group_lemmas(sentences: list[antt.Sentence]) -> list[list[antt.Sentence]]:
     """Returns the sentences in groups: a signature or a block's head at the margin, its clauses, and what is indented below it."""
     groups: list[list[antt.Sentence]] = []
     for sentence in sentences:
-        tokens = read_words(sentence)
+        tokens = parse_words(sentence)
         if not groups or sentence.indent == 0 and (split_head(tokens)[1] == ":" or {"module", "record", "data"} & set(tokens[:3])):
             groups.append([])
         groups[-1].append(sentence)
@@ -129,11 +129,11 @@ def list_file_names(file: File) -> set[str]:
     known = {*BUILT_IN, *BRACKETS, *file.imports, *file.modules, *(declaration.name for declaration in file.declarations)}
     for declaration in file.declarations:
         for part in declaration.parts:
-            head, sign = split_head(read_words(part))
+            head, sign = split_head(parse_words(part))
             known |= set(head) if sign == ":" else set()
     for sentence in file.sentences:
-        if {"module", "record", "data"} & set(read_words(sentence)[:3]) or OPENED.match(sentence.text):
-            known |= list_bound(sentence) | set(read_words(sentence)[:3])
+        if {"module", "record", "data"} & set(parse_words(sentence)[:3]) or OPENED.match(sentence.text):
+            known |= list_bound(sentence) | set(parse_words(sentence)[:3])
     return known | {part for name in known for part in name.split("◌") if part}
 
 
@@ -142,7 +142,7 @@ def list_free_names(file: File) -> list[str]:
     known, free = list_file_names(file), []
     for lemma in group_lemmas(file.sentences):
         bound = set().union(*map(list_bound, lemma))
-        for word in (it for sentence in lemma if not SKIPPED.match(sentence.text) for it in read_words(sentence)):
+        for word in (it for sentence in lemma if not SKIPPED.match(sentence.text) for it in parse_words(sentence)):
             name = word.partition(".")[0]
             if not (name in known or name in bound or word in BUILT_IN or word[0] in ".,;" or NUMERAL_OR_TEXT.match(word)):
                 free.append(name)

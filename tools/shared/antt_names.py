@@ -34,7 +34,7 @@ class Declaration:
         self.file, self.name, self.scope, self.owner = file, name, scope, owner
         self.number, self.head = sentence.number, sentence
         self.parts: list[antt.Sentence] = []
-        marks = set(read_words(sentence)[:3]) & MARKS
+        marks = set(parse_words(sentence)[:3]) & MARKS
         self.is_public, self.is_definition = "pub" in marks, bool(marks & {"abbrev", "unfoldable", "pattern"})
 
     @property
@@ -43,7 +43,7 @@ class Declaration:
         return f"{os.path.relpath(self.file.path, HOME)}:{self.number}"
 
 
-def read_words(sentence: antt.Sentence) -> list[str]:
+def parse_words(sentence: antt.Sentence) -> list[str]:
     """Returns the tokens of a sentence, without comments."""
     return antt.parse_tokens(sentence.text)
 
@@ -64,13 +64,14 @@ class File:
         self.imports: dict[str, tuple[str, str]] = {}  # for each name that is imported, its module and its name there
         self.modules: dict[str, str] = {}  # for each name of a module that is imported, the whole name
         self.reexports: set[str] = set()  # the names that are exported again
-        self.read_imports()
+        self.record_imports()
         self.declarations: list[Declaration] = []
-        self.read_declarations()
+        self.record_declarations()
         self.own_names = {it.name for it in self.declarations if it.owner is None}
 
-    def read_imports(self) -> None:
-        """Reads the `use` lines: names with the module and the name that each has there, and modules; and which names are exported again.
+    def record_imports(self) -> None:
+        """Records what the `use` lines import: names with the module and the name that each has there (`imports`), modules (`modules`), and which
+        names are exported again (`reexports`).
         """
         for public, module, group, short in IMPORT.findall(self.text):
             module = module.replace("package.", "")
@@ -83,25 +84,26 @@ class File:
                 if public:
                     self.reexports.add(renamed or last)
 
-    def read_declarations(self) -> None:
-        """Reads the sentences, with the blocks that contain each: their indents, heads and kinds."""
+    def record_declarations(self) -> None:
+        """Records the declarations of all sentences, each with the blocks that contain it."""
         blocks: list[Block] = []
         before: antt.Sentence | None = None
         for sentence in self.sentences:
             while blocks and blocks[-1].indent >= sentence.indent:
                 blocks.pop()
-            words = read_words(sentence)
-            self.read_sentence(sentence, words, blocks)
+            words = parse_words(sentence)
+            self.record_sentence(sentence, words, blocks)
             if words == ["where"] and before:
-                blocks.append(Block(sentence.indent, before, "module" if read_words(before)[0] == "module" else "where"))
+                blocks.append(Block(sentence.indent, before, "module" if parse_words(before)[0] == "module" else "where"))
             elif words[-1] == "where":
                 kind = next(it for it in words if it not in MARKS)
                 blocks.append(Block(sentence.indent, sentence, kind))
             before = sentence
 
-    def read_sentence(self, sentence: antt.Sentence, words: list[str], blocks: list[Block]) -> None:
-        """Reads a sentence inside these blocks: it declares something, or is a part of the last declaration."""
+    def record_sentence(self, sentence: antt.Sentence, words: list[str], blocks: list[Block]) -> None:
+        """Records what a sentence inside some blocks is: one or several declarations, or a part of the last one. `words` are its tokens."""
         rest = [it for it in words[:3] if it not in MARKS]
+        # A record or a type, and what is inside one.
         is_block = rest[0] in ("record", "data") and words[-1] == "where"
         if is_block or blocks and blocks[-1].kind in ("record", "data"):
             if is_block:
@@ -113,6 +115,7 @@ class File:
             if words[0] == "unfolding" and self.declarations:
                 self.declarations[-1].parts.append(sentence)
             return
+        # A signature, which may be of several names, or a clause.
         nodes = group_tokens(words)
         index = find_index(nodes, ":", "=")
         if index is not None and nodes[index] == ":":

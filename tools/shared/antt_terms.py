@@ -79,6 +79,7 @@ class Word(Term):
     is_chained = False
 
     def __init__(self, flat: str) -> None:
+        """Makes a word."""
         self.flat = flat
 
 
@@ -132,6 +133,7 @@ class Lambda(Term):
     """A function: its `λ` with what it binds, and its body."""
 
     def __init__(self, head: str, body: Term) -> None:
+        """Makes a function; `head` is its `λ` with what it binds."""
         self.head, self.body = head, body
         self.flat, self.is_chained = f"{head} {body.flat}", body.is_chained
 
@@ -185,61 +187,64 @@ def is_sign(word: str) -> bool:
     return not any(it.isalnum() or it in "◌\"'_" for it in word) and word not in ATOMS
 
 
-def read_let(nodes: Sequence[Node]) -> Let:
-    """Reads a `let`, which ends at its own `in`, after those of the lets inside its value."""
+def parse_let(nodes: Sequence[Node]) -> Let:
+    """Returns the `let` of some nodes. It ends at its own `in`, after those of the lets inside its value. Raises Unread if it has another form."""
     equals = require_index(nodes, "a let", "=")
     colon = find_index(nodes[:equals], ":")
-    kind = None if colon is None else read_term(nodes[colon + 1 : equals])
+    kind = None if colon is None else parse_term(nodes[colon + 1 : equals])
     open_lets, index = 1, equals
     while open_lets:
         index += 1
         raise_if(index == len(nodes), "a let with no in")
         open_lets += (nodes[index] == "let") - (nodes[index] == "in")
     name = format_pattern(nodes[1 : equals if colon is None else colon])
-    return Let(name, kind, read_term(nodes[equals + 1 : index]), read_term(nodes[index + 1 :]))
+    return Let(name, kind, parse_term(nodes[equals + 1 : index]), parse_term(nodes[index + 1 :]))
 
 
 def format_pattern(nodes: Sequence[Node]) -> str:
     """Returns a pattern or binders on one line."""
-    return " ".join(it.flat for it in join_terms(nodes, read_word))
+    return " ".join(it.flat for it in join_terms(nodes, parse_word))
 
 
-def read_lambda(nodes: Sequence[Node]) -> Lambda:
-    """Reads a `λ` with what it binds, a dot and a body."""
+def parse_lambda(nodes: Sequence[Node]) -> Lambda:
+    """Returns the `λ` of some nodes: what it binds, a dot and a body. Raises Unread if it has another form."""
     dot = require_index(nodes, "a λ", ".")
-    return Lambda(f"λ {format_pattern(nodes[1:dot])}.", read_term(nodes[dot + 1 :]))
+    return Lambda(f"λ {format_pattern(nodes[1:dot])}.", parse_term(nodes[dot + 1 :]))
 
 
-def read_items(group: Group, *marks: str) -> list[Item]:
-    """Reads the items of a record or of cases: what precedes the mark, and the term after it."""
+def parse_items(group: Group, *marks: str) -> list[Item]:
+    """Returns the items of a record or of cases: for each the words up to and with a mark, and the term after it. Raises Unread if one lacks the
+    mark.
+    """
     items = []
     for part in split_nodes(group.inner, "|" if group.opening == "[" else ";"):
         index = require_index(part, "an item", *marks)
-        items.append((f"{format_pattern(part[:index])} {part[index]}", read_term(part[index + 1 :])))
+        items.append((f"{format_pattern(part[:index])} {part[index]}", parse_term(part[index + 1 :])))
     return items
 
 
-def read_group(group: Group) -> Term:
-    """Reads a group that is used as a word: a tuple, a bracketed term, a binder, an implicit argument."""
+def parse_group(group: Group) -> Term:
+    """Returns the term of a group that is used as a word: a tuple, a bracketed term, a binder, an implicit argument. Raises Unread for another group.
+    """
     nodes = group.inner
     raise_if(group.opening == "[" or not nodes or ";" in nodes, "a group")
     if "," in nodes:
         raise_if(group.opening == "{" and any(not isinstance(it, str) for it in nodes), "levels")
         if group.opening == "{":
             return Word("{" + ", ".join(" ".join(map(str, it)) for it in split_nodes(nodes, ",")) + "}" + group.suffix)
-        return Rows(None, "(", [("", read_term(it)) for it in split_nodes(nodes, ",")], ")" + group.suffix)
+        return Rows(None, "(", [("", parse_term(it)) for it in split_nodes(nodes, ",")], ")" + group.suffix)
     before: list[Node] = []
     mark = find_index(nodes, ":", "=")
     if nodes[0] not in ("let", "λ") and mark is not None:
         before, nodes = nodes[: mark + 1], nodes[mark + 1 :]
         raise_if(any(not isinstance(it, str) for it in before), "a binder")
-    return Bracket(group.opening, "".join(f"{it} " for it in before), read_term(nodes), group.suffix)
+    return Bracket(group.opening, "".join(f"{it} " for it in before), parse_term(nodes), group.suffix)
 
 
-def read_word(node: Node) -> Term:
-    """Reads a word or a group."""
+def parse_word(node: Node) -> Term:
+    """Returns the term of a word or a group. Raises Unread for a sign or a word of the language."""
     if isinstance(node, Group):
-        return read_group(node)
+        return parse_group(node)
     raise_if(node in UNREAD or node in CLOSED_BY or node in ".,;@" or is_sign(node), node)
     return Word(node)
 
@@ -252,65 +257,65 @@ def find_group(nodes: Sequence[Node], begin: int, end: int, opening: str) -> tup
     raise Unread("an elim" if opening == "[" else "a record")
 
 
-def read_elim(nodes: Sequence[Node], index: int) -> tuple[Term, int]:
-    """Reads the `elim` at an index. Returns it and the index after it."""
+def parse_elim(nodes: Sequence[Node], index: int) -> tuple[Term, int]:
+    """Returns the `elim` at an index, and the index after it. Raises Unread if it has no bracket."""
     end, group = find_group(nodes, index, len(nodes), "[")
-    head = apply_terms([Word("elim"), *join_terms(nodes[index + 1 : end], read_word)])
-    return Rows(head, "[", read_items(group, "↦"), "]" + group.suffix), end + 1
+    head = apply_terms([Word("elim"), *join_terms(nodes[index + 1 : end], parse_word)])
+    return Rows(head, "[", parse_items(group, "↦"), "]" + group.suffix), end + 1
 
 
-def read_record(nodes: Sequence[Node], index: int) -> tuple[Term, int]:
-    """Reads the record at an index, or a record with other fields. Returns it and the index after it."""
+def parse_record(nodes: Sequence[Node], index: int) -> tuple[Term, int]:
+    """Returns the record at an index, or a record with other fields, and the index after it. Raises Unread if it has no bracket."""
     end, group = find_group(nodes, index + 1, index + 3, "{")
-    head = apply_terms([Word("record"), *join_terms(nodes[index + 1 : end], read_word)])
+    head = apply_terms([Word("record"), *join_terms(nodes[index + 1 : end], parse_word)])
     if not group.inner:
         return Word(f"{head.flat} {{}}{group.suffix}"), end + 1
-    return Rows(head, "{", read_items(group, "=", ":"), "}" + group.suffix), end + 1
+    return Rows(head, "{", parse_items(group, "=", ":"), "}" + group.suffix), end + 1
 
 
-def join_terms(nodes: Sequence[Node], read: Callable[[Node], Any]) -> list[Any]:
-    """Returns what `read` makes of each word and group, but one term for each `elim` or `record` with its bracket."""
+def join_terms(nodes: Sequence[Node], parse: Callable[[Node], Any]) -> list[Any]:
+    """Returns what `parse` makes of each word and group, but one term for each `elim` or `record` with its bracket."""
     terms, index = [], 0
     while index < len(nodes):
         if nodes[index] in ("elim", "record"):
-            term, index = (read_elim if nodes[index] == "elim" else read_record)(nodes, index)
+            term, index = (parse_elim if nodes[index] == "elim" else parse_record)(nodes, index)
             terms.append(term)
         else:
-            terms.append(read(nodes[index]))
+            terms.append(parse(nodes[index]))
             index += 1
     return terms
 
 
-def read_term(nodes: Sequence[Node]) -> Term:
-    """Returns the term of a list of words and groups."""
+def parse_term(nodes: Sequence[Node]) -> Term:
+    """Returns the term of some words and groups. Raises Unread if they are none."""
     raise_if(not nodes, "nothing")
     if nodes[0] == "let":
-        return read_let(nodes)
+        return parse_let(nodes)
     if nodes[0] == "λ":
-        return read_lambda(nodes)
+        return parse_lambda(nodes)
     if nodes[0] == "if":
-        return read_if(nodes)
+        return parse_if(nodes)
     tail = find_index(nodes, "let", "λ", "if")
-    last = [] if tail is None else [read_term(nodes[tail:])]
-    return read_operators(join_terms(nodes[:tail], lambda it: it if it in LEVELS else read_word(it)) + last)
+    last = [] if tail is None else [parse_term(nodes[tail:])]
+    return parse_operators(join_terms(nodes[:tail], lambda it: it if it in LEVELS else parse_word(it)) + last)
 
 
-def read_if(nodes: Sequence[Node]) -> Chain:
-    """Reads an `if` with a `then` and an `else`."""
+def parse_if(nodes: Sequence[Node]) -> Chain:
+    """Returns the `if` of some nodes, with its `then` and `else`. Raises Unread if it has another form."""
     then, other = require_index(nodes, "an if", "then"), require_index(nodes, "an if", "else")
     raise_if("if" in nodes[1:other], "an if")
-    first = Application([Word("if"), read_term(nodes[1:then])])
-    return Chain(first, [("then", read_term(nodes[then + 1 : other])), ("else", read_term(nodes[other + 1 :]))])
+    first = Application([Word("if"), parse_term(nodes[1:then])])
+    return Chain(first, [("then", parse_term(nodes[then + 1 : other])), ("else", parse_term(nodes[other + 1 :]))])
 
 
 def apply_terms(terms: Sequence[Term]) -> Term:
-    """Returns the first of some terms applied to the others."""
+    """Returns the first of some terms applied to the others. Raises Unread if there is none."""
     raise_if(not terms, "nothing")
     return terms[0] if len(terms) == 1 else Application(terms)
 
 
-def read_operators(terms: Sequence[Any]) -> Term:
-    """Returns the term of a list of terms with operators, which are texts, between them."""
+def parse_operators(terms: Sequence[Any]) -> Term:
+    """Returns the term of a list of terms and operators, which are texts: the operators of the lowest level split it first."""
     operators = [part for part in terms if isinstance(part, str)]
     if not operators:
         return apply_terms(terms)
@@ -323,5 +328,5 @@ def read_operators(terms: Sequence[Any]) -> Term:
             parts.append([])
         else:
             parts[-1].append(part)
-    first, *others = map(read_operators, parts)
+    first, *others = map(parse_operators, parts)
     return Chain(first, list(zip(marks, others)))

@@ -28,7 +28,8 @@ class Reader(argparse.ArgumentParser):
     """
 
     def __init__(self, docstring: str | None) -> None:
-        super().__init__(prog=start.command_name(), allow_abbrev=False, formatter_class=make_formatter)
+        """Makes a parser of a command whose module has a docstring."""
+        super().__init__(prog=start.find_command_name(), allow_abbrev=False, formatter_class=make_formatter)
         self.docstring = (docstring or "").strip()
 
     def add_file(self) -> None:
@@ -49,7 +50,7 @@ class Reader(argparse.ArgumentParser):
         return "".join(f"{'usage: ' if at == 0 else '       '}{line[4:]}\n" for at, line in enumerate(lines))
 
     def error(self, message: str) -> NoReturn:
-        """Prints the lines of use and what is wrong, and exits with status 2."""
+        """Prints the lines of use and what is wrong. Exits with status 2."""
         self.exit(2, f"{self.format_usage()}{self.prog}: {message}\n")
 
 
@@ -65,21 +66,21 @@ def run_command(main: Callable[[], int | None], docstring: str | None) -> int:
 
 
 def make_number_parser(least: int) -> Callable[[str], int]:
-    """Returns the parser of an argument that is a number, and at least another. It raises ArgumentTypeError for a smaller one."""
+    """Returns the parser of an argument that is a number and at least `least`."""
 
-    def read(text: str) -> int:
+    def parse(text: str) -> int:
         """Returns the number of a text. Raises ArgumentTypeError if it is smaller than `least`, and ValueError if it is none."""
         number = int(text)
         if number < least:
             raise argparse.ArgumentTypeError(f"{text} is below {least}")
         return number
 
-    read.__name__ = "number"  # as argparse has it in what it says of a word that is none
-    return read
+    parse.__name__ = "number"  # as argparse has it in what it says of a word that is none
+    return parse
 
 
 def parse_seconds(text: str) -> float | None:
-    """Reads a number of seconds, from a thousandth to some months. Returns `None` if the text says none."""
+    """Returns the number of seconds that a text says, from a thousandth to some months. `None` if it says none."""
     try:
         seconds = float(text)
     except ValueError:

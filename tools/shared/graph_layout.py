@@ -155,7 +155,7 @@ class GraphLayout:
         return self.record_ends(route, 1, 0) if start < end else self.record_ends(route, 0, 1)
 
     def count_routes_of_pair(self, *events: Event) -> int:
-        """Counts one more edge that goes around a side between two events. Returns how many such edges there were before it."""
+        """Counts one more route around a side between two events. Returns how many there were before it."""
         key = tuple(sorted(events))
         self.pairs[key] = self.pairs.get(key, -1) + 1
         return self.pairs[key]
@@ -176,7 +176,7 @@ class GraphLayout:
     # The places of the threads.
 
     def place_threads_closely(self, upright: float) -> None:
-        """Places threads close together, or turned; a picture with the most room is `upright` pixels wide."""
+        """Places the threads close together, or turned, if a picture with the most room, which is `upright` pixels wide, is too wide."""
         max_lanes = max([0, *map(len, self.lanes.values())])
         gutter = WIDE_GUTTER if len(self.threads) < 3 else NARROW.gutter
         self.place_threads(NARROW._replace(gutter=gutter, gap=max(NARROW.gap, 16 + LANE * max_lanes)))
@@ -186,7 +186,7 @@ class GraphLayout:
                 self.place_threads(UPRIGHT)
 
     def place_threads(self, room: Room) -> None:
-        """Places the threads with some room, and finds the size of the picture."""
+        """Places the threads with some room between and around their events, and sets the size of the picture."""
         self.room, self.is_turned = room, room is TURNED
         self.box = self.letters * LETTER + 2 * room.beside, BOX
         self.wide, self.deep = (self.box[1], self.box[0]) if self.is_turned else self.box
@@ -237,11 +237,11 @@ class GraphLayout:
     # Where on the side of its box an edge ends.
 
     def sort_ends(self) -> None:
-        """Sets the ports of all routes: at each side of a box its ends are evenly apart, in the order of the places from which they come."""
+        """Sets the ports of all routes: at each side of a box the ends are evenly apart, in the order of the routes' other ends."""
         middle = lambda event: self.find_spot(event)[1] + self.deep / 2
 
         def sort_key(item: tuple[Route, int]) -> tuple[float, int]:
-            """Returns the place from which an end comes, along program order, and the number of its route."""
+            """Returns where the route's other end is along program order (its lane, if it has one), and its number, for ties."""
             route, end = item
             position = self.find_lane(route) if route.way == "lane" else middle(route.source if end else route.target)
             return position, route.number
@@ -284,8 +284,8 @@ class GraphLayout:
     # The labels.
 
     def place_label(self, route: Route, letters: int) -> Point:
-        """Returns the middle of a label of `letters` letters, near an edge: inside the picture, over no box and no other label, and over
-        no arrow of another edge, if there is such a place. Later labels stay off this one.
+        """Returns the middle of a label of `letters` letters, near its edge: inside the picture, over no box and no other label, and over no arrow of
+        another edge, if there is such a place. Records its box, so that later labels stay off it.
         """
         width = letters * LETTER + APART
         spots = self.list_label_spots(route, width)
@@ -329,7 +329,7 @@ class GraphLayout:
         """Returns the possible places of the label of an arrow from an initial word: first on that side of it on which no other arrow ends."""
         is_last = route.ports[1] > self.find_spot(route.source)[1] + self.deep / 2
         sideways, downwards = width / 2 + 4, 11
-        spots = [(x + 4, y - downwards), (x + 4, y + downwards), (x - width / 2, y), (x - 8, y - downwards), (x - 8, y + downwards)]
+        spots = [(x + 4, y - downwards), (x + 4, y + downwards), (x - 8, y - downwards), (x - 8, y + downwards), (x - width / 2, y)]
         if self.is_turned:
             spots = [(x - sideways, y + 6), (x + sideways, y + 6), (x, y - 8)]
         return [spots[1], spots[0], *spots[2:]] if is_last else spots

@@ -31,7 +31,9 @@ def read_lines(path: str) -> list[str]:
 
 
 def format_difference(comparison: tuple[str, object, object]) -> str | None:
-    """Returns the lines on a difference: the name of the comparison, the expected value, and the value that was found. `None` if they agree."""
+    """Returns the lines on a difference: the name of the comparison, the expected value, and the value that was found, cut to 2000 characters. `None` if
+    they agree.
+    """
     subject, expected, actual = comparison
     return None if expected == actual else f"{subject}\n  wanted: {expected!r}\n  found:  {actual!r}"[:2000]
 

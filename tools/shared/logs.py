@@ -49,9 +49,9 @@ def format_state(state: State) -> str:
     return " ".join(f"{atom};" for atom in sorted(state))
 
 
-def read_states(lines: Iterable[str]) -> dict[str, set[State]]:
-    """Returns the states of each test in a log. A test that appears twice has the states of both. A list that is cut off has those before
-    the cut.
+def parse_states(lines: Iterable[str]) -> dict[str, set[State]]:
+    """Returns the states of each test in a log, by its lines. A test that appears twice has the states of both. A list that is cut off has those
+    before the cut.
     """
     logs: dict[str, set[State]] = {}
     name, total, remaining_states = "", 0, 0
@@ -120,7 +120,7 @@ def collect_lists(reports: Iterable[tuple[str, str]]) -> ListedTests:
     tests = ListedTests({}, {}, {})
     translations: dict[str, TranslatedStates] = {}
     for text, report in reports:
-        for name, states in read_states(report.splitlines()).items():
+        for name, states in parse_states(report.splitlines()).items():
             is_other = name in tests.own and tests.own[name].states != states
             tests.own[name] = ListedTest(states, why=TWO_FILES if is_other else "")
         origin = parse_origin(text)
@@ -144,7 +144,7 @@ def add_converted(tests: ListedTests, report: str, converted: Iterable[tuple[str
     """Adds the report of a file that was converted for this run: by its own report, and by its tests of lw with theirs, if it has any. A
     limit of tries is 0 if there is none.
     """
-    for name, states in read_states(report.splitlines()).items():
+    for name, states in parse_states(report.splitlines()).items():
         is_other = name in tests.own and tests.own[name].states != states
         tests.own[name] = ListedTest(states, why=TWO_FILES if is_other else "", tries=tries)
         originals = collect_lists(converted).originals
@@ -160,7 +160,7 @@ def split_site(site: str) -> tuple[str, str]:
 
 
 def restrict_states(states: Iterable[State], names: set[str]) -> set[State]:
-    """Returns the parts of states on some names."""
+    """Returns what some states say of some names: a state for each, without the other names."""
     return {frozenset(atom for atom in state if atom.rpartition("=")[0] in names) for state in states}
 
 

@@ -23,7 +23,9 @@ def can_spawn() -> bool:
 
 
 def spawn_command(file: str, arguments: list[str]) -> tuple[int, int]:
-    """Starts a command on a file. Returns the process, and the end from which the pipe is read that both its streams are written to."""
+    """Starts a command with a file as its input. Returns the process, and the end from which the pipe is read that both its streams are written to.
+    Raises OSError if it does not start.
+    """
     read_end, write_end = os.pipe()
     nothing: dict[str, str] = {}
     streams = [(os.POSIX_SPAWN_OPEN, 0, file, os.O_RDONLY, 0), (os.POSIX_SPAWN_DUP2, write_end, 1), (os.POSIX_SPAWN_DUP2, write_end, 2)]
@@ -51,13 +53,14 @@ def run_all(
     """
     import select
 
+    # The runs that are done; and those that run, by the end of their pipe: the index of the job, the process, and what it has printed.
     indices = iter(range(len(jobs)))
     done = [Run(file, "", None, 0.0) for file, _ in jobs]
     poll = select.poll()
     running: dict[int, tuple[int, int, list[bytes]]] = {}
 
     def start_next() -> None:
-        """Starts the next job that starts."""
+        """Starts the next job. One that does not start is done, and the job after it is next."""
         for index in indices:
             file, words = jobs[index]
             try:
@@ -69,6 +72,7 @@ def run_all(
             poll.register(end, select.POLLIN)
             return
 
+    # A run for each processor, and the next one when a pipe ends.
     for _ in range(os.cpu_count() or 1):
         start_next()
     while running:

@@ -31,11 +31,11 @@ class Output(io.TextIOWrapper):
     """A stream of output whose faults are `Unread` and `Unwritten`."""
 
     def write(self, text: str) -> int:
-        """Writes a text."""
+        """Writes a text. Raises Unread or Unwritten if it can't."""
         return self.call_guarded(super().write, text)
 
     def flush(self) -> None:
-        """Writes what is buffered."""
+        """Writes what is buffered. Raises Unread or Unwritten if it can't."""
         return self.call_guarded(super().flush)
 
     @staticmethod
@@ -67,7 +67,7 @@ def drop_output() -> None:
     os.close(nowhere)
 
 
-def command_name() -> str:
+def find_command_name() -> str:
     """Returns the name of the command that runs, for its messages: that of its file, or of its package."""
     folder, file = os.path.split(sys.argv[0])
     return os.path.basename(folder) if file == "__main__.py" else os.path.splitext(file)[0]
@@ -88,7 +88,7 @@ def run(main: Callable[[], int | None]) -> int:
         return CLOSED
     except Unwritten as why:
         try:
-            print(f"{command_name()}: standard output: {why}", file=sys.stderr, flush=True)
+            print(f"{find_command_name()}: standard output: {why}", file=sys.stderr, flush=True)
         except (Unread, Unwritten):
             pass
         drop_output()
