@@ -10,7 +10,7 @@ from c.operands import Memory, Number, Operand, WHOLE_REGISTERS
 from c.own_memory import load_own, store_own
 from c.program import Program
 from c.refused import Refused
-from c.values import MASK, Clock, Question, Symbol, Value, later_clock, record_earlier, symbols_in
+from c.values import MASK, Clock, Question, Symbol, Value, compute_later_clock, record_earlier, list_symbols
 from c.execution_path import ExecutionPath
 from c.path_graph import Effect, Load, Store
 
@@ -93,7 +93,7 @@ class Access:
 
     def read_own_last_store(self, address: int, size: int) -> Value:
         """Returns the value that this thread, the only one that stores to the location, stored last."""
-        return self.path.last_stored.get(address, self.program.layout.read_initial_word(address, size))
+        return self.path.last_stored.get(address, self.program.layout.find_initial_word(address, size))
 
     def load(self, address: int, size: int) -> Value:
         """Returns the value that a load finds. If another thread may have stored it, the load is an effect, and what it finds is a symbol."""
@@ -101,7 +101,7 @@ class Access:
         if not self.is_shared(address, size):
             return load_own(self.path, self.program.layout, address, size)
         if not locations.find_writers(address, size):
-            return self.program.layout.read_initial_word(address, size)
+            return self.program.layout.find_initial_word(address, size)
         begin, length = locations.find_location(address, size)
         if self.path.pending_value:
             value, = self.path.pending_value
@@ -138,7 +138,7 @@ class Access:
         self.effects.append(Store(address, value))
 
     def check_whole_location(self, address: int, size: int) -> None:
-        """Refuses a store to a part of a location."""
+        """Raises Refused if a store is to a part of a location."""
         begin, length = self.program.locations.find_location(address, size)
         if (begin, length) != (address, size):
             name = self.program.layout.name_address(begin)
@@ -149,7 +149,7 @@ class Access:
         self.path.stores += 1
         clocks = self.stored_words.setdefault(address, {})
         for word, clock in words.items():
-            clock = later_clock(clock, self.path.past)
+            clock = compute_later_clock(clock, self.path.past)
             record_earlier(clocks, word, (*clock[: self.thread], self.path.stores, *clock[self.thread + 1 :]))
 
     # Symbols.
@@ -170,17 +170,17 @@ class Access:
         return symbol_id
 
     def find_free_symbol_id(self) -> int:
-        """Returns the first id of a symbol that nothing refers to any more, so that paths that continue in the same way are equal."""
+        """Returns the least id that no value refers to any more, so that paths that continue in the same way are equal."""
         self.forget_dead()
         path = self.path
         values = [*(value for value, _ in path.registers.values()), *(value for _, value in path.memory.values())]
         values += [*path.shown_values.values(), *path.last_stored.values()]
         values += [path.flags.left, path.flags.right] if path.flags else []
-        taken_ids = frozenset().union(*map(symbols_in, values))
+        taken_ids = frozenset().union(*map(list_symbols, values))
         return next(it for it in range(len(taken_ids) + 1) if it not in taken_ids)
 
     def forget_dead(self) -> None:
-        """Forgets registers, flags and places of the stack that cannot be read any more."""
+        """Forgets registers, flags and places of the stack that the thread cannot read any more."""
         path, (used, writes) = self.path, list_reads_and_writes(self.instruction)
         if self.instruction.mnemonic.startswith("jmp"):  # what comes next is not known yet
             return

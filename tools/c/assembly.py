@@ -59,7 +59,7 @@ WITHOUT_BYTES = (
     ".globl", ".global", ".type", ".size", ".ident", ".weak", ".hidden", ".internal", ".protected", ".local", ".addrsig", ".addrsig_sym",
     ".att_syntax", ".code64", ".end", ".line", ".version", ".symver", ".gnu_attribute", ".cg_profile",
 )
-# Sections of code that runs before `main`.
+# Sections by which code runs before `main`: lists of its addresses, and `.init`.
 BEFORE_MAIN = (".init_array", ".preinit_array", ".ctors", ".init")
 # Sections that are read only when a stack is unwound.
 UNWINDING = (".gcc_except_table", ".eh_frame")
@@ -155,7 +155,7 @@ class Reader:
         self.assembly = assembly
         self.section, self.section_name = Section.CODE, ".text"
         self.stack: list[tuple[Section, str]] = []
-        # The object that is read, whether it has only labels so far, and its alignment.
+        # The object that is read, whether it has only labels so far, and the alignment that the next object gets.
         self.object, self.is_new, self.alignment = DataObject(), False, 1
         self.label: str | None = None
         self.main_files: set[str] = set()
@@ -163,7 +163,7 @@ class Reader:
         self.prefixes: list[str] = []
 
     def read(self, text: str) -> None:
-        """Reads all lines. A fault has the line number in the assembly."""
+        """Reads all lines. Raises Refused if one is not read, with its number in the assembly."""
         text = re.sub(r"/\*.*?\*/", lambda it: re.sub(r"[^\n]", " ", it[0]), text, flags=re.S)
         for number, line in enumerate(text.splitlines(), 1):
             try:
@@ -216,7 +216,7 @@ class Reader:
     # Directives.
 
     def read_directive(self, word: str, rest: str) -> None:
-        """Reads a directive. An unknown one that may emit bytes is refused."""
+        """Reads a directive. Raises Refused for an unknown one that may emit bytes."""
         if word in (".section", ".pushsection", ".popsection", ".previous", ".text", ".data", ".bss", ".rodata"):
             self.change_section(word, rest)
         elif word in (".comm", ".lcomm"):
@@ -248,7 +248,7 @@ class Reader:
             self.stack.append(before)
             self.section_name = parts[0].strip('"') if word in (".section", ".pushsection") else word
             self.section = classify_section(self.section_name, parts[1].strip('"') if len(parts) > 1 and word != ".text" else None)
-        # The object that is read, whether it has only labels so far, and its alignment.
+        # The object that is read, whether it has only labels so far, and the alignment that the next object gets.
         self.object, self.is_new, self.alignment = DataObject(), False, 1
 
     def read_debug_directive(self, word: str, rest: str) -> None:
@@ -272,7 +272,10 @@ class Reader:
             self.object.length = (self.object.length + alignment - 1) // alignment * alignment
 
     def read_data(self, directive: str, operands: str) -> None:
-        """Reads a directive that gives the object bytes, as `.long 5`. Raises Refused if the bytes are not constants, or for another directive."""
+        """Reads the operands of a directive that gives the object bytes, such as `.long 5` or `.quad x+4` (a symbol stands for its address). Raises
+        Refused in a section by which code runs before `main`, such as `.init_array`, for a filler other than 0, for a sum or an escape that is not read, and for any other
+        directive.
+        """
         if self.section_name.startswith(BEFORE_MAIN):
             raise Refused("a global begins with what code before main makes of it: give it a constant")
         if directive in SIZES:

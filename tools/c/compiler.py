@@ -47,7 +47,7 @@ def list_compilers(ending: str) -> list[str]:
 
 
 @functools.lru_cache(maxsize=None)
-def read_version(name: str) -> str:
+def find_version(name: str) -> str:
     """Returns the version that a compiler says it has, as 12.2.0; empty if it says none or does not start."""
     try:
         ran = subprocess.run([name, "--version"], stdout=subprocess.PIPE, stderr=subprocess.DEVNULL, check=False, timeout=SECONDS)

@@ -23,10 +23,13 @@ class Control(Locked):
     # Flags.
 
     def evaluate_condition(self, letters: str) -> bool:
-        """Returns whether the condition that the letters of a mnemonic name holds. The path forks if that is not known: Ask is raised then."""
+        """Returns whether the condition that the letters of a mnemonic name holds. Raises Ask if that is not known, at which the path forks, and
+        Refused if the flags are not known.
+        """
         name, expected = parse_condition(letters)
         path = self.path
         flags = require_readable(path.flags, name)
+        # Conditions that need only one comparison, so that few words have to be distinguished.
         if flags.source in (Source.EXCHANGE, Source.BIT):
             return path.require_number(flags.left) == expected
         if name == "e" and flags.source is Source.DIFFERENCE:

@@ -35,11 +35,13 @@ class ProgramTest:
     begins: list[list[int]]
 
 
-class Converter:
+class ProgramConverter:
     """Converts a program that is compiled."""
 
     def __init__(self, assembly_text: str, condition: Condition, name: str, threads: int, tries: int, added: Iterable[str] = ()) -> None:
-        """Reads the assembly of a program, and follows all its threads. `added` are local variables for which the source got an lw_see."""
+        """Parses the assembly of a program, and follows all its threads. `added` are local variables for which the source got an lw_see. Raises
+        Refused if the program is not converted.
+        """
         self.condition, self.name = condition, name
         assembly = Assembly(assembly_text, NAME)
         names = [f"P{number}" for number in range(MAX_THREADS) if f"P{number}" in assembly.labels]
@@ -58,10 +60,10 @@ class Converter:
         self.names = self.name_locations()
         self.check_words()
 
-    # The question.
+    # The unmarked.
 
     def check_seen(self) -> None:
-        """Refuses a condition with a name that no path shows."""
+        """Raises Refused if the condition has a name that no path shows."""
         for number, names in self.condition.collect_names().items():
             nodes = [thread.graph.nodes[index] for thread in self.threads[number] for index in thread.graph.list_reachable()]
             shown_names = {name for node in nodes if isinstance(node, End) for name, _ in node.values}
@@ -108,8 +110,8 @@ class Converter:
         return names
 
     def check_words(self) -> None:
-        """Refuses words that lw can't distinguish. Words of lw have 32 bits; those of a location may have more, unless two of them have the same 32
-        lowest bits.
+        """Raises Refused if lw can't distinguish two words of a location: its words have 32 bits, and a location may have wider ones only if their
+        lowest 32 bits differ.
         """
         named_words = [(self.program.layout.name_address(address), self.program.locations.words[address]) for address in self.locations]
         for name, words in [*named_words, *self.program.own_words.items()]:
@@ -155,7 +157,7 @@ class Converter:
             raise Refused(f"the condition compares '{site.name}', of {size} bytes, with {number}")
         number %= 1 << 8 * size
         if lw_site is None:
-            return ALWAYS if self.program.layout.read_initial_word(address, size) == number else plain.Not(ALWAYS)
+            return ALWAYS if self.program.layout.find_initial_word(address, size) == number else plain.Not(ALWAYS)
         is_location = isinstance(lw_site, plain.LocationSite)
         if number not in (self.program.locations.words[address] if is_location else self.program.own_words[site.name]):
             return plain.Not(ALWAYS)
@@ -167,7 +169,7 @@ class Converter:
 
     # Tests.
 
-    def tests_by_guess(self) -> Iterator[ProgramTest]:
+    def list_tests(self) -> Iterator[ProgramTest]:
         """Yields the tests of lw. A guess under which a thread has no end makes none. Raises Refused if there are too many."""
         count = 1
         for guessed in self.threads:
@@ -180,7 +182,7 @@ class Converter:
                 yield self.make_test(threads, numbers)
 
     def make_test(self, threads: list[Thread], numbers: tuple[int, ...]) -> ProgramTest:
-        """Returns the test of some guesses."""
+        """Returns the test under some guesses: `threads` are followed under them, and `numbers` are their indices."""
         columns: list[Sequence[plain.Statement]] = []
         lines, starts = [], []
         marks: list[plain.Site] = []
@@ -192,16 +194,18 @@ class Converter:
             columns.append(writer.write_statements())
             lines.append([thread.graph.lines[index] for index in writer.origins])
             starts.append([index for index, (before, node) in enumerate(zip([None, *writer.origins], writer.origins)) if before != node])
+        # The test without marks.
         sizes = self.program.locations.sizes
-        words = tuple(self.program.layout.read_initial_word(index, sizes[index]) % 2**32 for index in self.locations)
-        question = plain.Test("X86", self.name, list(self.names.values()), [(0,) * SIX] * len(columns), words, columns)
-        question.quantifier, question.proposition = self.condition.quantifier, self.convert_proposition(self.condition.proposition)
+        words = tuple(self.program.layout.find_initial_word(index, sizes[index]) % 2**32 for index in self.locations)
+        unmarked = plain.Test("X86", self.name, list(self.names.values()), [(0,) * SIX] * len(columns), words, columns)
+        unmarked.quantifier, unmarked.proposition = self.condition.quantifier, self.convert_proposition(self.condition.proposition)
         places = (self.find_site(it.site) for it in self.condition.list_atoms())
-        question.listed = {it for it in places if it is not None}
-        listed = question.listed | set(marks)
+        unmarked.listed = {it for it in places if it is not None}
+        # The test with marks: a state is a run's that is not given up if all marks are set.
+        listed = unmarked.listed | set(marks)
         name = self.name + ("+" + "-".join(map(str, numbers)) if len(numbers) and self.has_guesses() else "")
-        test = plain.Test("X86", name, question.locations, question.registers, words, columns, listed, "forall", ALWAYS)
-        return ProgramTest(ConvertedTest(test, question, marks, numbers), lines, starts)
+        test = plain.Test("X86", name, unmarked.locations, unmarked.registers, words, columns, listed, "forall", ALWAYS)
+        return ProgramTest(ConvertedTest(test, unmarked, marks, numbers), lines, starts)
 
     def has_guesses(self) -> bool:
         """Returns whether the program is more than one test."""

@@ -7,7 +7,7 @@ from typing import Any
 
 from c.flags import Flags
 from c.refused import Refused
-from c.values import MASK, UNSET, Ask, Clock, IsOneOf, IsSame, Question, Symbol, Value, earliest_clock, later_clock
+from c.values import MASK, UNSET, Ask, Clock, IsOneOf, IsSame, Question, Symbol, Value, compute_earliest_clock, compute_later_clock
 
 MAX_WORDS = 40
 TOO_MANY_WORDS = f"an operation depends on a word that can be one of more than {MAX_WORDS}"
@@ -157,7 +157,7 @@ class ExecutionPath:
     def narrow(self, symbol_id: int, possible: Iterable[int]) -> None:
         """Records that a symbol's word is one of these."""
         self.words[symbol_id] = frozenset(possible)
-        self.past = later_clock(self.past, earliest_clock([self.clocks[symbol_id][possible_word] for possible_word in self.words[symbol_id]]))
+        self.past = compute_later_clock(self.past, compute_earliest_clock([self.clocks[symbol_id][possible_word] for possible_word in self.words[symbol_id]]))
 
     def learn(self, question: Question, holds: bool) -> None:
         """Records the answer to a question."""
@@ -176,7 +176,12 @@ class ExecutionPath:
         """Returns all that determines how the path continues, if nothing is asked and no other thread stores anything: two equal snapshots of a loop say
         that it never ends.
         """
-        simplify = lambda value: value if value is None or self.resolve(value) is None else self.resolve(value)
+
+        def simplify(value: Value) -> Value:
+            """Returns a value as a number, if it can be only one."""
+            number = None if value is None else self.resolve(value)
+            return value if number is None else number
+
         registers = tuple((name, simplify(value), size) for name, (value, size) in sorted(self.registers.items()))
         memory = tuple((address, size, simplify(value)) for address, (size, value) in sorted(self.memory.items()))
         last = tuple((address, simplify(value)) for address, value in sorted(self.last_stored.items()))

@@ -22,15 +22,17 @@ WITH_REGISTER = r"(xadd|cmpxchg)[bwlq]?"
 
 
 def check_form(instruction: Instruction) -> None:
-    """Refuses operands that an instruction cannot have."""
+    """Raises Refused if an instruction has operands that it cannot have."""
     counts = next((counts for pattern, counts in COUNTS if re.fullmatch(pattern, instruction.mnemonic)), None)
     if counts is None:
         return
     operands = instruction.operands
     registers = [isinstance(operand, Register) for operand in operands]
+    # Of any instruction: at most one operand in memory, and a number only as a source.
     is_right = len(operands) in counts and sum(isinstance(operand, Memory) for operand in operands) <= 1
     if is_right and isinstance(operands[-1], Number):
         is_right = instruction.mnemonic.startswith("push")
+    # Of some instructions: a register where one is needed.
     if is_right and re.fullmatch(INTO_REGISTER, instruction.mnemonic):
         is_right = registers[-1] and not isinstance(operands[0], Number)
         is_right = is_right and (not instruction.mnemonic.startswith("lea") or isinstance(operands[0], Memory))

@@ -54,8 +54,10 @@ class Layout:
         """Returns whether a byte is on some thread's stack."""
         return STACKS - 4 * STACK_OF_THREAD < address <= STACKS + GAP
 
-    def read_initial_word(self, address: int, size: int) -> int:
-        """Returns the initial word of some bytes. Allocated memory is assumed to start with 0. Raises Refused if no variable has the bytes."""
+    def find_initial_word(self, address: int, size: int) -> int:
+        """Returns the word that `size` bytes from an address on have at first: 0 in allocated memory. Raises Refused unless a variable has all of
+        them, or if its data name what is defined elsewhere.
+        """
         if self.is_heap(address):
             return 0
         containing_object = self.find_object(address)
@@ -67,7 +69,7 @@ class Layout:
         return word
 
     def extract_datum_bytes(self, datum: Datum, begin: int, size: int) -> int:
-        """Returns the part of a datum in the word of some bytes of its object."""
+        """Returns what a datum contributes to the word of `size` bytes of its object from the offset `begin` on."""
         low, high = max(datum.offset, begin), min(datum.offset + datum.size, begin + size)
         if low >= high:
             return 0
@@ -105,7 +107,7 @@ class Layout:
         return f"stack {(STACKS - address) // STACK_OF_THREAD}" if self.is_stack(address) else None
 
     def check_comparable(self, left: int, right: int) -> None:
-        """Refuses an order or a difference of addresses of two objects, since it depends on where a linker puts them."""
+        """Raises Refused for an order or a difference of addresses of two objects: it depends on where a linker puts them."""
         areas = self.find_area(left), self.find_area(right)
         if None not in areas and areas[0] != areas[1]:
             raise Refused(f"the order or the difference of addresses of two objects is used, '{areas[0]}' and '{areas[1]}': a linker chooses it")

@@ -59,6 +59,7 @@ class Locations:
         """Returns the location of which an access is the whole or a part: its start, and its size. Raises Wider after it has merged smaller
         locations, and Refused if two overlap or one is not aligned.
         """
+        # Each location that has one of the bytes: it contains the access, is contained in it, or overlaps it.
         for begin in range(address - WIDEST + 1, address + size):
             length = self.sizes.get(begin, 0)
             if not length or begin + length <= address:
@@ -71,12 +72,13 @@ class Locations:
             raise Refused(
                 f"'{self.layout.name_address(begin)}', of {length} bytes, and {size} bytes at '{self.layout.name_address(address)}' overlap"
             )
+        # A new location.
         if self.layout.compute_alignment(address) % size:
             alignment = self.layout.compute_alignment(address)
             aligned = f"is aligned to {alignment} only: a processor need not access it at once; declare it _Alignas({size})"
             raise Refused(f"'{self.layout.name_address(address)}' is accessed by {size} bytes, and {aligned}")
         self.sizes[address] = size
-        self.words[address] = {self.layout.read_initial_word(address, size): self.never}
+        self.words[address] = {self.layout.find_initial_word(address, size): self.never}
         return address, size
 
     def merge_locations(self, address: int, size: int) -> None:
@@ -87,7 +89,7 @@ class Locations:
 
     def forget_words(self) -> None:
         """Resets each location to its initial words."""
-        self.words = {address: {self.layout.read_initial_word(address, size): self.never} for address, size in self.sizes.items()}
+        self.words = {address: {self.layout.find_initial_word(address, size): self.never} for address, size in self.sizes.items()}
 
     def list_readable_words(self, address: int, thread: int, stores: int) -> frozenset[int]:
         """Returns the words that a thread can find in a location after that number of its own stores."""

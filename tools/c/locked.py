@@ -9,7 +9,7 @@ from c.flags import Flags, Source
 from c.operands import Memory, Operand, Register
 from c.own_memory import load_own, store_own
 from c.refused import Refused
-from c.values import MASK, Ask, Clock, IsOneOf, IsSame, Question, Symbol, Value, later_clock, record_earlier
+from c.values import MASK, Ask, Clock, IsOneOf, IsSame, Question, Symbol, Value, compute_later_clock, record_earlier
 from c.vectors import Vectors
 from c.path_graph import Exchange, ExchangeAdd, Fence
 
@@ -22,6 +22,7 @@ class NextGuess(Exception):
     """A guess is missing. It has `cases` cases."""
 
     def __init__(self, cases: int) -> None:
+        """Makes the exception of the number of cases."""
         super().__init__(cases)
         self.cases = cases
 
@@ -68,6 +69,7 @@ class Locked(Vectors):
         path = self.path
         if not self.program.layout.is_stack(address):
             self.program.locations.record_store(self.thread, address, size)
+        # The old word, the result in its place, and the flags.
         old = load_own(path, self.program.layout, address, size)
         if base == "xchg":
             store_own(path, address, size, value)
@@ -140,14 +142,16 @@ class Locked(Vectors):
         path = self.path
         added = {"inc": 1, "dec": MASK[size]}.get(base, value)
         added = -path.require_number(value) & MASK[size] if base == "sub" else added
+        # What is stored: each sum of a word that can be found and one that can be added.
         addends = path.list_clocked_words(added)
         symbol_id = self.make_symbol_id(address, size)
         old = Symbol(symbol_id, size, 0, size)
         words: dict[int, Clock] = {}
         for word, clock in path.list_clocked_words(old).items():
             for addend, other_clock in addends.items():
-                record_earlier(words, word + addend & MASK[size], later_clock(clock, other_clock))
+                record_earlier(words, word + addend & MASK[size], compute_later_clock(clock, other_clock))
         self.record_store(address, words)
+        # The thread's own later loads find the sum, if no other thread stores.
         if self.is_only_writer(address, size):
             try:
                 path.last_stored[address] = add_values(path, old, added, size)

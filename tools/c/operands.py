@@ -110,7 +110,7 @@ def parse_sum(text: str) -> tuple[str | None, int]:
 
 
 def strip_plt_suffix(name: str, text: str) -> str:
-    """Returns a symbol without `@PLT`. Other suffixes after `@` are refused."""
+    """Returns a symbol without `@PLT`. Raises Refused for another suffix after `@`. `text` is the whole operand."""
     symbol, _, suffix = name.partition("@")
     if suffix not in ("", "PLT"):
         raise Refused(f"'{text}' is found by a table of addresses, or is a thread's own: compile with -fno-pic, and use no thread-local variable")

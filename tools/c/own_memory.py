@@ -20,7 +20,7 @@ def load_own(path: ExecutionPath, layout: Layout, address: int, size: int) -> Va
         if begin <= address and address + size <= begin + length:
             return path.extract_bytes(value, size, address - begin)
     is_stack, missing = layout.is_stack(address), size
-    word = 0 if is_stack else layout.read_initial_word(address, size)
+    word = 0 if is_stack else layout.find_initial_word(address, size)
     for area in entries:
         length, value = path.memory[area]
         if value is None:

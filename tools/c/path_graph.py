@@ -5,7 +5,7 @@ from dataclasses import dataclass
 from typing import Union
 
 from c.refused import Refused
-from c.values import IsSame, Question, Value, symbols_in
+from c.values import IsSame, Question, Value, list_symbols
 
 MAX_NODES = 4000
 
@@ -111,14 +111,14 @@ class PathGraph:
         """Returns the index of a question's node, or of what follows if that does not depend on it."""
         return yes if yes == no else self.intern_node(Branch(question, yes, no), line)
 
-    def successors(self, number: int) -> list[int]:
-        """Returns the successors of a node."""
+    def list_successors(self, number: int) -> list[int]:
+        """Returns the successors of a node: their indices."""
         node = self.nodes[number]
         return [node.after] if isinstance(node, Do) else [node.yes, node.no] if isinstance(node, Branch) else []
 
     def list_reachable(self) -> list[int]:
         """Returns the nodes that the thread can reach, each after its successors."""
-        seen, ordered, stack = {self.first}, [], [(self.first, iter(self.successors(self.first)))]
+        seen, ordered, stack = {self.first}, [], [(self.first, iter(self.list_successors(self.first)))]
         while stack:
             index, rest = stack[-1]
             successor = next((it for it in rest if it not in seen), None)
@@ -127,7 +127,7 @@ class PathGraph:
                 stack.pop()
             else:
                 seen.add(successor)
-                stack.append((successor, iter(self.successors(successor))))
+                stack.append((successor, iter(self.list_successors(successor))))
         return ordered
 
     def can_reach(self, kind: type) -> bool:
@@ -140,17 +140,17 @@ class PathGraph:
         for index in self.list_reachable():
             node = self.nodes[index]
             writes = isinstance(node, Do) and isinstance(node.effect, (Store, Exchange, ExchangeAdd))
-            max_stores[index] = max((max_stores[successor] for successor in self.successors(index)), default=0) + writes
+            max_stores[index] = max((max_stores[successor] for successor in self.list_successors(index)), default=0) + writes
         return max_stores[self.first]
 
 
 def list_used_symbols(node: Node) -> frozenset[int]:
     """Returns the symbols that a node reads."""
     if isinstance(node, Do):
-        return frozenset() if isinstance(node.effect, (Load, Fence)) else symbols_in(node.effect.value)
+        return frozenset() if isinstance(node.effect, (Load, Fence)) else list_symbols(node.effect.value)
     if isinstance(node, Branch):
         return frozenset((node.question.symbol, node.question.other) if isinstance(node.question, IsSame) else (node.question.symbol,))
-    return frozenset().union(*(symbols_in(value) for _, value in node.values)) if isinstance(node, End) else frozenset()
+    return frozenset().union(*(list_symbols(value) for _, value in node.values)) if isinstance(node, End) else frozenset()
 
 
 def find_defined_symbol(node: Node) -> int | None:

@@ -6,6 +6,7 @@ class Refused(Exception):
     """Why a program is not converted: the cause, the line of the source, and the instruction, if they are known."""
 
     def __init__(self, cause: str, line: int | None = None, instruction: str | None = None) -> None:
+        """Makes a refusal of its cause, and of its place if that is known."""
         super().__init__(cause)
         self.cause, self.line, self.instruction = cause, line, instruction
 

@@ -26,7 +26,7 @@ class Registers:
 
     def find_live_after(self, node_index: int) -> frozenset[int]:
         """Returns the symbols that are read after a node."""
-        return frozenset().union(*(self.live[it] for it in self.graph.successors(node_index)))
+        return frozenset().union(*(self.live[it] for it in self.graph.list_successors(node_index)))
 
     def find_conflicts(self) -> dict[int, set[int]]:
         """Returns, for each symbol, those that need another register."""
@@ -49,7 +49,7 @@ class Registers:
                     wishes.setdefault(value.id, []).append(self.seen_registers[name])
         return wishes
 
-    def refuse_too_many(self) -> Refused:
+    def make_too_many_refusal(self) -> Refused:
         """Returns the refusal of a thread for which six registers are not enough."""
         return Refused(f"P{self.thread} needs more than the six registers that lw has")
 
@@ -60,7 +60,7 @@ class Registers:
             taken_registers = {self.register_of[it] for it in others if it in self.register_of}
             free = [it for it in range(SIX) if it not in taken_registers]
             if not free:
-                raise self.refuse_too_many()
+                raise self.make_too_many_refusal()
             wish = [it for it in wishes.get(symbol, []) if it in free]
             others_free = [it for it in free if it not in (*self.seen_registers.values(), self.mark)]
             self.register_of[symbol] = (wish or others_free or [it for it in free if it != self.mark] or free)[0]
@@ -70,5 +70,5 @@ class Registers:
         taken_registers = {self.register_of[it] for it in self.live[node_index] | self.find_live_after(node_index)}
         free = [it for it in range(SIX) if it not in taken_registers and it != self.mark]
         if not free:
-            raise self.refuse_too_many()
+            raise self.make_too_many_refusal()
         return ([it for it in free if it not in self.seen_registers.values()] or free)[0]

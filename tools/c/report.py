@@ -4,7 +4,7 @@ from __future__ import annotations
 from dataclasses import dataclass, field
 
 import plain
-from c.convert import Converter, ProgramTest
+from c.convert import ProgramConverter, ProgramTest
 from c.refused import NoRun
 from c.source import strip_prefix
 from herd.together import make_merged_report, parse_state
@@ -37,8 +37,8 @@ class Answer:
 class Names:
     """The names and words of a report of lw, as the reader knows them."""
 
-    def __init__(self, converter: Converter, question: plain.Test) -> None:
-        """Finds the names of the values in reports: an address is the name of what is there."""
+    def __init__(self, converter: ProgramConverter, unmarked: plain.Test) -> None:
+        """Finds the names of the values in reports, whose sites are those of the test `unmarked`. An address is the name of what is there."""
         self.sites: dict[str, str] = {}
         self.words: dict[str, dict[int, str]] = {}
         layout, locations = converter.program.layout, converter.program.locations
@@ -46,39 +46,38 @@ class Names:
         on_heap = [address for words in locations.words.values() for address in words if layout.is_heap(address)]
         addresses.update({address: f"&{layout.name_address(address)}" for address in on_heap})
         for address, number in converter.locations.items():
-            site = plain.format_site(question, plain.LocationSite(number))
+            site = plain.format_site(unmarked, plain.LocationSite(number))
             self.sites[site] = strip_prefix(layout.name_address(address))
             self.words[site] = {it % 2**32: addresses.get(it, str(it)) for it in locations.words[address]}
-        for thread in range(len(question.threads)):
+        for thread in range(len(unmarked.threads)):
             for name, register in converter.assign_seen_registers(thread).items():
-                site = plain.format_site(question, plain.RegisterSite(thread, register))
+                site = plain.format_site(unmarked, plain.RegisterSite(thread, register))
                 self.sites[site] = strip_prefix(name[1:]) if name[0] == "&" else f"{thread}:{name}"
                 own = converter.program.own_words.get(name[1:], set())
                 self.words[site] = {**addresses, **{it % 2**32: addresses.get(it, str(it)) for it in own}} if name[0] == "&" else addresses
 
     def translate_line(self, line: str) -> str:
         """Returns the line of a state. A register that the condition does not name has its name in lw's test."""
-        words = lambda site: self.words.get(site, {})
-        return " ".join(f"{self.sites.get(site, site)}={words(site).get(word, word)};" for site, word in parse_state(line).items())
+        return " ".join(f"{self.sites.get(site, site)}={self.words.get(site, {}).get(word, word)};" for site, word in parse_state(line).items())
 
 
-def make_answer(converter: Converter) -> Answer:
+def make_answer(converter: ProgramConverter) -> Answer:
     """Lists the tests of a program, and puts their reports together. Returns the answer. Raises NoRun if no run comes to an end."""
-    tests = list(converter.tests_by_guess())
+    tests = list(converter.list_tests())
     if not tests:
         raise NoRun("no run comes to an end: each waits for what no other thread stores, or goes through a loop more often than --tries says")
     report, makers = make_merged_report([it.conversion for it in tests])
-    question = tests[0].conversion.question
+    unmarked = tests[0].conversion.unmarked
     code = converter.program.assembly.code
     bounded = sorted({code[index].line or 0 for index in converter.program.bounded})
     instructions = max(len(column) for it in tests for column in it.conversion.test.threads)
-    return Answer(translate_report(report, converter, question), tests, makers, instructions, bounded, sorted(converter.program.notes))
+    return Answer(translate_report(report, converter, unmarked), tests, makers, instructions, bounded, sorted(converter.program.notes))
 
 
-def translate_report(report: str, converter: Converter, question: plain.Test) -> str:
-    """Returns a report in the names of the source."""
+def translate_report(report: str, converter: ProgramConverter, unmarked: plain.Test) -> str:
+    """Returns a report in the names of the source; its sites are those of the test `unmarked`."""
     states = answers.filter_state_lines(report)
-    lines, names = report.splitlines(), Names(converter, question)
+    lines, names = report.splitlines(), Names(converter, unmarked)
     lines[2 : 2 + len(states)] = map(names.translate_line, states)
     lines[-2] = f"Condition {converter.condition.text}"
     return plain.join_lines(lines)

@@ -10,7 +10,7 @@ from dataclasses import replace
 import fences
 import films
 import plain
-from c.convert import Converter, ProgramTest
+from c.convert import ProgramConverter, ProgramTest
 from c.report import Answer, Names
 from fencing.together import CombinedTest, Original, Part, format_answer
 from herd.propositions import restrict
@@ -24,10 +24,10 @@ VISIBLE = ("load", "store", "xchg", "xadd", "mfence")
 
 
 def restore_question(program_test: ProgramTest) -> plain.Test:
-    """Returns the test whose condition is that of the source. A run that is given up has no marks, and the condition leaves it out."""
-    question = program_test.conversion.question
-    proposition = restrict(question.quantifier, [plain.Eq(site, 1) for site in program_test.conversion.marks], question.proposition)
-    return replace(question, name=program_test.conversion.test.name, proposition=proposition)
+    """Returns the test whose condition is that of the source, and holds only of runs that are not given up: all marks are set."""
+    unmarked = program_test.conversion.unmarked
+    proposition = restrict(unmarked.quantifier, [plain.Eq(site, 1) for site in program_test.conversion.marks], unmarked.proposition)
+    return replace(unmarked, name=program_test.conversion.test.name, proposition=proposition)
 
 
 def format_lines(lines: Iterable[int]) -> str:
@@ -35,12 +35,12 @@ def format_lines(lines: Iterable[int]) -> str:
     return f"line {', '.join(map(str, sorted(lines)))}" if lines else "no line"
 
 
-def format_tests(answer: Answer, converter: Converter) -> str:
+def format_tests(answer: Answer, converter: ProgramConverter) -> str:
     """Returns the texts of the tests of an answer."""
     return "".join(format_test(it, converter) for it in answer.tests)
 
 
-def format_test(program_test: ProgramTest, converter: Converter) -> str:
+def format_test(program_test: ProgramTest, converter: ProgramConverter) -> str:
     """Returns the text of a test, with a comment that says what its names mean, and from which lines its instructions come."""
     test = restore_question(program_test)
     heading, _, rest = plain.format_canonical_text(test).partition("\n")
@@ -53,7 +53,7 @@ def format_test(program_test: ProgramTest, converter: Converter) -> str:
     return f"{heading}\n(* {comment} *)\n{rest}"
 
 
-def format_fences(answer: Answer, converter: Converter) -> str:
+def format_fences(answer: Answer, converter: ProgramConverter) -> str:
     """Returns what tools/fences.py says of the fences and exchanges of a program, with the lines of the source, and states in its names."""
     if len(answer.tests) != 1:
         return format_fences_together(answer, converter)
@@ -69,7 +69,7 @@ def format_fences(answer: Answer, converter: Converter) -> str:
     return text + (f"There {', '.join(places)}.\n" if places else "")
 
 
-def format_fences_together(answer: Answer, converter: Converter) -> str:
+def format_fences_together(answer: Answer, converter: ProgramConverter) -> str:
     """Returns what tools/fences.py says of the fences and exchanges of a program that is several tests. Instructions of the same source lines are one
     place.
     """
@@ -77,13 +77,13 @@ def format_fences_together(answer: Answer, converter: Converter) -> str:
     parts = [Part(it.conversion, [list(map(origin, lines)) for lines in it.lines], it.begins) for it in answer.tests]
     format_place = lambda place: f"P{place[0]} {format_lines(place[1])}"
     further_sites: set[plain.Site] = {plain.LocationSite(number) for number in converter.locations.values()}
-    names = Names(converter, answer.tests[0].conversion.question)
+    names = Names(converter, answer.tests[0].conversion.unmarked)
     original = Original(converter.name, converter.condition.text, format_place, format_place, further_sites, words_on_everything="its question and all locations")
     # (The maker of the lists and the number of tries are reported for the whole answer.)
     return plain.join_lines(format_answer(CombinedTest(parts, names.translate_line, True), original, False, True)[:-1])
 
 
-def format_schedules(answer: Answer, converter: Converter) -> str:
+def format_schedules(answer: Answer, converter: ProgramConverter) -> str:
     """Returns a run to each state of a report: its events, by the lines of the source."""
     runs: dict[str, list[str]] = {}
     for program_test in answer.tests:
@@ -93,7 +93,7 @@ def format_schedules(answer: Answer, converter: Converter) -> str:
     return "".join(f"{state}\n" + "".join(f"  {event}\n" for event in runs[state]) for state in answers.filter_state_lines(answer.report))
 
 
-def render_film(answer: Answer, converter: Converter, number: int, source: list[str]) -> str:
+def render_film(answer: Answer, converter: ProgramConverter, number: int, source: list[str]) -> str:
     """Returns the film of a run to the state of a number, counted from 1: a picture for each event, with its line of the source. Raises NoFilm if
     there is no such state.
     """
@@ -107,6 +107,7 @@ def render_film(answer: Answer, converter: Converter, number: int, source: list[
         film = films.make_film(plain.format_canonical_text(restore_question(program_test)).encode(), schedule, "mesi")
     except films.Refused as why:
         raise NoFilm(why.args[0]) from None
+    # The lines of the source beside each instruction, and in the sentence on each step.
     for thread, cells in enumerate(film["cells"]):
         for cell in cells:
             cell["text"] += f"  ({format_lines(program_test.lines[thread][cell['at']])})" if cell["at"] < len(program_test.lines[thread]) else ""
@@ -117,10 +118,10 @@ def render_film(answer: Answer, converter: Converter, number: int, source: list[
     return draw_strip(film)
 
 
-def list_schedules(program_test: ProgramTest, converter: Converter) -> Iterator[tuple[str, str]]:
+def list_schedules(program_test: ProgramTest, converter: ProgramConverter) -> Iterator[tuple[str, str]]:
     """Yields the states of a test that are not given up, by the names of the source, each with a schedule."""
-    test, names = program_test.conversion.test, Names(converter, program_test.conversion.question)
-    shown = {plain.format_site(test, site) for site in plain.list_observed_sites(program_test.conversion.question)}
+    test, names = program_test.conversion.test, Names(converter, program_test.conversion.unmarked)
+    shown = {plain.format_site(test, site) for site in plain.list_observed_sites(program_test.conversion.unmarked)}
     marks = [plain.format_site(test, site) for site in program_test.conversion.marks]
     lines = answers.make_answer(["schedules"], test).text.splitlines()[2:]
     for state, schedule in zip(lines[::2], lines[1::2]):

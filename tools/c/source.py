@@ -51,7 +51,7 @@ def blank_comments(text: str, comment: "re.Pattern[str]" = NO_CODE) -> str:
 
 
 def check_returns(code: str, bodies: dict[int, tuple[int, int]], names_by_thread: dict[int, set[str]]) -> None:
-    """Refuses the result of a thread that has fewer than 32 bits, since a register may have anything above them."""
+    """Raises Fault if a thread of whose result the condition asks returns fewer than 32 bits: a register may have anything above them."""
     for thread in [it for it, names in names_by_thread.items() if "return" in names and it in bodies]:
         begin = bodies[thread][0]
         head = re.split(r"[;{}]", code[:begin])[-1]
@@ -174,6 +174,7 @@ def convert_herd_form(text: str) -> Source:
     name, begin = require_match(HERD.match(code))[1], code.index("{")
     end = find_closing_brace(code, begin)
     words, last = parse_initial_block(text, code, begin + 1, end), end
+    # The functions: each parameter is a pointer to the global of its name.
     kinds: dict[str, str] = {}
     lines: list[str] = []
     for match in re.finditer(r"\bP(\d+)\s*\(([^)]*)\)\s*\{", code):
@@ -189,6 +190,7 @@ def convert_herd_form(text: str) -> Source:
     if not question:
         raise given.Fault("the condition is to follow the functions: `locations` and `filter` are not read", last + 1)
     condition = read_condition(code, last + 1, len(code.rstrip()))
+    # The source in C.
     head = ["#include <stdatomic.h>", "#include <stdbool.h>", "#include <stdint.h>"]
     head += [f"{kind} {PREFIX}{location} = {words.get(location, '0')};" for location, kind in kinds.items()]
     source = "\n".join(head + lines)

@@ -35,11 +35,13 @@ class Step(Control):
         instruction, name = self.instruction, self.instruction.mnemonic
         if WITHOUT_EFFECT.fullmatch(name):
             return
+        # Operands that are not followed.
         for operand in instruction.operands:
             inner = operand.operand if isinstance(operand, Through) else operand
             if isinstance(inner, Other):
                 raise Refused(NOT_FOLLOWED if re.match(r"%[yz]mm", inner.text) else f"the operand '{inner.text}' is not followed")
         check_form(instruction)
+        # By the mnemonic.
         special = SPECIAL.get(name)
         if self.is_vector():
             self.execute_vector_move()
@@ -125,6 +127,7 @@ class Step(Control):
         operands = self.instruction.operands
         if base in ("push", "pop") and size != 8:
             raise Refused("code of 32 bits is not followed")
+        # By the mnemonic without its size.
         if base == "push":
             self.push(self.read_operand(operands[0], 8))
         elif base == "pop" and isinstance(operands[0], Register):
@@ -223,6 +226,7 @@ class Step(Control):
         source, target = (None, operands[0]) if len(operands) == 1 else operands
         if base in ("xadd", "cmpxchg", "bts", "btr", "btc"):
             raise Refused(f"'{base}' without a lock is not followed")
+        # Without an operation.
         if base == "xchg":
             values = self.read_register_or_number(source, size), self.read_register_or_number(target, size)
             self.write_register(target, size, values[0])
@@ -232,6 +236,7 @@ class Step(Control):
             self.path.flags = Flags(Source.LOGIC, 0, None, size)
             self.write_register(target, size, 0)
             return
+        # The operands, the result, and where it goes.
         in_memory = self.compute_address(target) if isinstance(target, Memory) else None
         right = self.read_operand(source, size if base not in SHIFTS else 1) if source is not None else 1
         left = self.read_register_or_number(target, size) if in_memory is None else self.load(in_memory, size)
@@ -301,7 +306,7 @@ class Step(Control):
 
 
 def refuse_abort(_: Step) -> None:
-    """Refuses an instruction that ends a program."""
+    """Raises Refused for an instruction that ends a program."""
     raise Refused("a run may come to an abort")
 
 

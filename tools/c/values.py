@@ -47,9 +47,10 @@ Question = Union[IsOneOf, IsSame]
 
 
 class Ask(Exception):
-    """The path forks here: both answers to a question are followed."""
+    """The path forks here: `execute` ends, and both answers to a question are followed."""
 
     def __init__(self, question: Question) -> None:
+        """Makes the exception of a question."""
         super().__init__(question)
         self.question = question
 
@@ -59,23 +60,23 @@ def to_signed(word: int, size: int) -> int:
     return word - (1 << 8 * size) if word >> (8 * size - 1) else word
 
 
-def later_clock(first: Clock, second: Clock) -> Clock:
-    """Returns the clock of what comes after both."""
+def compute_later_clock(first: Clock, second: Clock) -> Clock:
+    """Returns the clock of what comes after two events, by their clocks."""
     return tuple(map(max, first, second))
 
 
-def earliest_clock(clocks: Sequence[Clock]) -> Clock:
+def compute_earliest_clock(clocks: Sequence[Clock]) -> Clock:
     """Returns the clock of what comes after one of some events, of which it is not known which."""
     return tuple(map(min, *clocks)) if len(clocks) > 1 else clocks[0]
 
 
 def record_earlier(clocks: dict[int, Clock], word: int, clock: Clock) -> None:
     """Records that a word can come as early as a clock says."""
-    clocks[word] = earliest_clock((clock, clocks.get(word, clock)))
+    clocks[word] = compute_earliest_clock((clock, clocks.get(word, clock)))
 
 
-def symbols_in(value: Value) -> frozenset[int]:
-    """Returns the set with the symbol that a value has, or the empty set if the value has none."""
+def list_symbols(value: Value) -> frozenset[int]:
+    """Returns the ids of the symbols that a value has: one or none."""
     return frozenset((value.id,)) if isinstance(value, Symbol) else frozenset()
 
 

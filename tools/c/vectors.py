@@ -51,7 +51,7 @@ class Vectors(Access):
         return self.read_register(source.name, size)
 
     def check_own(self, memory: Memory, size: int) -> None:
-        """Refuses a whole vector in memory to which other threads store: a processor need not access it at once."""
+        """Raises Refused for a whole vector in memory to which other threads store: a processor need not access it at once."""
         address = self.compute_address(memory)
         if size == VECTOR and self.is_shared(address, size) and self.program.locations.find_writers(address, size):
             raise Refused(f"16 bytes at '{self.program.layout.name_address(address)}' are accessed at once, and other threads access them too")

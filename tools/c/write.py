@@ -139,13 +139,14 @@ class Writer:
         moves += [] if self.mark is None else [(self.mark, 1)]
         moves = [it for it in moves if it[1] != 0 or it[0] in self.written]
         while moves:
-            registers_read = lambda move: {registers[value.id] for _, value in moves if isinstance(value, Symbol) and (_, value) != move}
-            ready = next((it for it in moves if it[0] not in registers_read(it)), None)
+            # The first move into a register that no other move reads.
+            read_by = [(move, registers[move[1].id]) for move in moves if isinstance(move[1], Symbol)]
+            ready = next((it for it in moves if all(move == it or register != it[0] for move, register in read_by)), None)
             if ready is None:  # a ring: one of its registers is copied
                 busy = {register for register, _ in moves} | {registers[value.id] for _, value in moves if isinstance(value, Symbol)}
                 free = next((it for it in range(SIX) if it not in busy), None)
                 if free is None:
-                    raise self.registers.refuse_too_many()
+                    raise self.registers.make_too_many_refusal()
                 symbol = moves[0][1].id
                 self.statements.append(Statement("set", free, value=Register(registers[symbol])))
                 registers[symbol] = free

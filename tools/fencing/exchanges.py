@@ -24,7 +24,7 @@ def is_old_word_used(test: Test, place: Place) -> bool:
 
 
 def find_free_register(code: Sequence[Statement], test: Test, thread: int) -> int | None:
-    """Returns the last register that a thread neither uses nor shows. `None` if there is none."""
+    """Returns the last of the registers that a thread neither uses nor shows. `None` if there is none."""
     used = {it.register for it in code} | {it.value.register for it in code if isinstance(it.value, Register)}
     used |= Code(test, thread).needed[0] | Code(test, thread).needed[len(code)]
     free = [number for number in range(6) if number not in used]
@@ -32,7 +32,7 @@ def find_free_register(code: Sequence[Statement], test: Test, thread: int) -> in
 
 
 def make_unlocked_instructions(test: Test, place: Place) -> list[Statement]:
-    """Returns the instructions that replace an exchange; none if they need a register and none is free."""
+    """Returns the instructions that replace an exchange, without its lock; an empty list if they need a register and none is free."""
     thread, position = place
     exchange, is_used = test.threads[thread][position], is_old_word_used(test, place)
     store = Statement("store", location=exchange.location, value=Register(exchange.register))
@@ -57,8 +57,8 @@ def replace_instruction(test: Test, place: Place, instructions: list[Statement])
     """Returns a test with other instructions in place of one."""
     thread, position = place
     growth = len(instructions) - 1
-    shift_target = lambda it: it if it.target is None or it.target <= position else replace(it, target=it.target + growth)
-    code = [shift_target(it) for it in test.threads[thread]]
+    # Jumps over the place lead further.
+    code = [it if it.target is None or it.target <= position else replace(it, target=it.target + growth) for it in test.threads[thread]]
     threads = list(test.threads)
     threads[thread] = tuple(code[:position] + instructions + code[position + 1 :])
     return replace(test, threads=threads)

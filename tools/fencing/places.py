@@ -1,4 +1,4 @@
-"""Finds the places where a fence may help: before a load that some way reaches from a store with no fence and no locked instruction between, and
+"""Finds the places where a fence may help: before a load that some path reaches from a store with no fence and no locked instruction between, and
 before a branch that two such loads follow.
 
 A fence elsewhere does no more: it may be moved on, over stores and what is the thread's own, to the next load or branch, where it orders
@@ -18,7 +18,7 @@ WAITS = ("mfence", "xchg", "xadd")
 
 
 def find_positions_after_stores(code: Sequence[Statement]) -> set[int]:
-    """Returns the positions that some way reaches from a store, with nothing between that waits for it."""
+    """Returns the positions that some path reaches from a store, with nothing between that waits for it."""
     seen: set[int] = set()
     queue = [after for position, it in enumerate(code) if it.kind == "store" for after in plain.list_successors(it, position)]
     while queue:
@@ -30,7 +30,9 @@ def find_positions_after_stores(code: Sequence[Statement]) -> set[int]:
 
 
 def find_next_loads(code: Sequence[Statement], position: int) -> set[int]:
-    """Returns the positions of the loads that are the first ones from a position on, on some way with nothing before them that waits."""
+    """Returns the positions of the loads that some path reaches from a position, this one included, as its first load, with nothing before it that
+    waits.
+    """
     if position == len(code) or code[position].kind in WAITS:
         return set()
     if code[position].kind == "load":
@@ -38,13 +40,17 @@ def find_next_loads(code: Sequence[Statement], position: int) -> set[int]:
     return set().union(*(find_next_loads(code, after) for after in plain.list_successors(code[position], position)))
 
 
+def is_fence_place(code: Sequence[Statement], position: int) -> bool:
+    """Returns whether a fence may help before an instruction, which a waiting store precedes: it is a load, or a branch to several next loads."""
+    is_branch = code[position].kind in ("je", "jne")
+    return code[position].kind == "load" or is_branch and len(find_next_loads(code, position)) > 1
+
+
 def list_fence_places(test: Test) -> list[Place]:
-    """Returns all places where a fence may help: a thread, and the index of the instruction after it."""
+    """Returns all places where a fence may help: a thread, and the index of the instruction after the fence."""
     places = []
     for thread, code in enumerate(test.threads):
-        for position in sorted(find_positions_after_stores(code)):
-            is_branch = code[position].kind in ("je", "jne") and len(find_next_loads(code, position)) > 1
-            places += [(thread, position)] * (code[position].kind == "load" or is_branch)
+        places += [(thread, position) for position in sorted(find_positions_after_stores(code)) if is_fence_place(code, position)]
     return places
 
 
@@ -53,9 +59,11 @@ def remove_fences(test: Test, left_out: list[Place]) -> Test:
     threads = []
     for thread, code in enumerate(test.threads):
         removed = [position for other_thread, position in left_out if other_thread == thread]
-        shift = lambda target, removed=removed: target - sum(position < target for position in removed)
-        instructions = [it for position, it in enumerate(code) if position not in removed]
-        threads.append(tuple(it if it.target is None else replace(it, target=shift(it.target)) for it in instructions))
+        instructions = []
+        for it in (it for position, it in enumerate(code) if position not in removed):
+            target = None if it.target is None else it.target - sum(position < it.target for position in removed)
+            instructions.append(it if target is None else replace(it, target=target))
+        threads.append(tuple(instructions))
     return replace(test, threads=threads)
 
 

@@ -11,15 +11,17 @@ Fence = TypeVar("Fence", bound=Hashable)
 
 
 def find_smallest_sets(fences: Sequence[Fence], is_enough: Callable[[frozenset[Fence]], bool]) -> list[list[Fence]]:
-    """Returns all smallest sufficient sets, each in the order of the fences; none if all fences together are not sufficient. `is_enough` says
-    whether a set is sufficient.
+    """Returns all sufficient sets with the fewest fences, each in the order of the fences; none if all fences together are not sufficient.
+    `is_enough` says whether a set is sufficient.
     """
     whole = frozenset(fences)
     if not is_enough(whole):
         return []
+    # Each sufficient set has the fences without which not even the others suffice.
     needed_fences = frozenset(it for it in fences if not is_enough(whole - {it}))
     if is_enough(needed_fences):
         return [sort_set(needed_fences, fences)]
+    # The others, in sets of one, of two and so on. A subset of a set that is known to be insufficient is not asked about.
     others = [it for it in fences if it not in needed_fences]
     too_few: list[frozenset[Fence]] = []
     for size in range(1, len(others) + 1):

@@ -2,8 +2,8 @@
 
 The law `lw_axiomatic::spare_fences_change_no_outcome` (specs/SpareFences.antt) says so of a fence for which this holds on every path: each store
 before it and each later load that it separates are separated by another fence or locked instruction too, or no other thread has an
-instruction that writes what the load reads. So only stores count from which some way reaches the fence with nothing between that waits, and
-only loads that some such way reaches from the fence. That the code here is as the law has it is tested and not proved.
+instruction that writes what the load reads. So only stores count from which some path reaches the fence with nothing between that waits, and
+only loads that some such path reaches from the fence. That the code here is as the law has it is tested and not proved.
 """
 from __future__ import annotations
 
@@ -18,7 +18,7 @@ WRITES = ("store", "xchg", "xadd")
 
 
 def find_loads_after(code: Sequence[Statement], position: int) -> set[int]:
-    """Returns the positions of the loads that some way reaches from a position, with nothing between that waits."""
+    """Returns the positions of the loads that some path reaches from after a position, with nothing between that waits."""
     loads_after, seen, queue = set(), set(), list(plain.list_successors(code[position], position))
     while queue:
         reached = queue.pop()

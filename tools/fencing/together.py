@@ -23,12 +23,14 @@ LwPlace = Tuple[int, int]
 
 
 def list_places_after_stores(test: plain.Test) -> list[LwPlace]:
-    """Returns the places of all instructions that some way reaches from a store, with nothing between that waits for it."""
+    """Returns the places of all instructions that some path reaches from a store, with nothing between that waits for it."""
     return [(thread, position) for thread, code in enumerate(test.threads) for position in sorted(find_positions_after_stores(code))]
 
 
 class Part(NamedTuple):
-    """One of the tests, with the origins of each thread's instructions, and the indices at which the code of one original instruction begins."""
+    """One of the tests, with the origin of each instruction by threads, and for each thread the indices at which the code of one original instruction
+    begins.
+    """
 
     conversion: ConvertedTest
     origins: list[list[Origin]]
@@ -64,16 +66,18 @@ class CombinedTest:
     """
 
     def __init__(self, parts: list[Part], rename_line: Callable[[str], str], is_tried_everywhere: bool = False) -> None:
-        """Prepares the tests. `rename_line` writes the line of a state in the names of the original."""
+        """Prepares the tests. `rename_line` writes the line of a state in the names of the original; `unmarked` is the first of the tests without
+        marks.
+        """
         self.parts, self.rename_line, self.is_tried_everywhere = parts, rename_line, is_tried_everywhere
         self.makers: set[answers.Maker] = set()
         self.reports: dict[tuple, str] = {}  # by the canonical texts of the tests
-        self.question = parts[0].conversion.question
+        self.unmarked = parts[0].conversion.unmarked
 
     def show_sites(self, sites: set[plain.Site]) -> "CombinedTest":
         """Returns a combination of these tests in which each test shows these sites too."""
         shown = lambda test: replace(test, listed=test.listed | sites)
-        conversions = [replace(it.conversion, test=shown(it.test), question=shown(it.conversion.question)) for it in self.parts]
+        conversions = [replace(it.conversion, test=shown(it.test), unmarked=shown(it.conversion.unmarked)) for it in self.parts]
         parts = [it._replace(conversion=shown_conversion) for it, shown_conversion in zip(self.parts, conversions)]
         return CombinedTest(parts, self.rename_line, self.is_tried_everywhere)
 
@@ -93,7 +97,7 @@ class CombinedTest:
     def count_unwanted_states(self, change: Callable[[Part], plain.Test] = lambda part: part.test) -> int:
         """Returns in how many states what a question is against is present: its proposition, or of `forall` its contrary."""
         positive, negative = (int(it) for it in self.make_report(change).splitlines()[-3].split()[1::2])
-        return negative if self.question.quantifier == "forall" else positive
+        return negative if self.unmarked.quantifier == "forall" else positive
 
     def collect_places(self, find_places: Callable[[Part], set[Place]]) -> list[Place]:
         """Returns all places that a function finds in the tests, in the order of the original."""
@@ -108,7 +112,7 @@ class CombinedTest:
         return self.collect_places(lambda part: part.find_places(fences(part)))
 
     def list_states_without(self, left_out: set[Place]) -> list[str]:
-        """Returns the states without some fences."""
+        """Returns the lines of the states of the tests without the fences at some places."""
         return self.list_states(lambda part: remove_fences(part.test, part.find_instructions(left_out, ("mfence",))))
 
     def find_enough_sets(self) -> list[list[Place]]:
@@ -132,7 +136,7 @@ class CombinedTest:
         return self.collect_places(lambda part: part.find_places(list_exchanges(part.test)))
 
     def list_states_without_lock(self, place: Place) -> list[str] | None:
-        """Returns the states without the lock of an exchange. None if no register is free for that."""
+        """Returns the lines of the states without the lock of the exchange at a place. `None` if no register is free for that."""
         tests: dict[int, plain.Test] = {}
         for part in self.parts:
             changed = self.remove_lock(part, place)
@@ -202,7 +206,7 @@ def format_helping_places(tests: CombinedTest, format_place: Callable[[Place], s
     number, states = tests.count_unwanted_states(), len(tests.list_states())
     if not number:
         return
-    presence = "What has to be always is not there" if tests.question.quantifier == "forall" else "What is asked about is there"
+    presence = "What has to be always is not there" if tests.unmarked.quantifier == "forall" else "What is asked about is there"
     sets = tests.find_helping_sets()
     end = "an MFENCE more before these instructions changes that" if sets else "no MFENCE changes that"
     yield f"{presence}, in {number} of {states} states: {end}"

@@ -16,7 +16,7 @@ def list_successors(statement: Statement, position: int) -> list[int]:
 
 
 def find_fenced_loads(statements: Sequence[Statement]) -> set[int]:
-    """Returns the positions of the loads that need a fence: those that some way through a thread reaches from a store, with nothing between
+    """Returns the positions of the loads that need a fence: those that some path through a thread reaches from a store, with nothing between
     that waits for the store.
     """
     fenced, reached = set(), set()
@@ -56,7 +56,7 @@ def compile_statement(statement: Statement) -> list[Statement]:
 
 
 def compile_thread(statements: Sequence[Statement], has_fences: bool) -> tuple[Statement, ...]:
-    """Returns the instructions of a source thread. Jumps target instructions."""
+    """Returns the instructions of a source thread, with the fences that it needs or with none. Jumps target instructions."""
     fenced = find_fenced_loads(statements) if has_fences else set()
     program: list[Statement] = []
     starts: list[int] = []

@@ -25,11 +25,13 @@ def execute_statement(statement: Statement, position: int, registers: Words, wor
     of memory.
     """
     operand_word = lambda value: read_value(value, registers)
+    # Jumps.
     if statement.kind == "goto":
         return statement.target, registers, words
     if statement.kind in ("if equal", "if unequal"):
         jumps = (registers[statement.register] == operand_word(statement.value)) == (statement.kind == "if equal")
         return statement.target if jumps else position + 1, registers, words
+    # All others continue at the next position.
     if statement.kind == "store":
         words = replace_item(words, statement.location, operand_word(statement.value))
     elif statement.kind == "set":
@@ -50,6 +52,7 @@ class OneMemory:
     """A memory with one word for each location."""
 
     def __init__(self, words: Sequence[int]) -> None:
+        """Creates a memory with these words."""
         self.words = list(words)
 
     def load(self, _cpu: int, location: int) -> int:

@@ -22,7 +22,7 @@ class Accesses(NamedTuple):
 
 
 def list_paths(statements: Sequence[Statement], position: int = 0) -> list[tuple[int, ...]]:
-    """Returns the flow paths from a position to the end, each as the positions on it."""
+    """Returns the flow paths from a position to the thread's end, each as the positions on it."""
     if position == len(statements):
         return [()]
     successors = sorted(set(list_successors(statements[position], position)))

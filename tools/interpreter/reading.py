@@ -129,7 +129,7 @@ class Reader:
         return location
 
     def read_site(self) -> Site:
-        """Reads a location or a thread's register, as the block, the list and the condition name it."""
+        """Reads a location or a thread's register, as the block, the list and the condition name it. Raises NoTest if it is neither."""
         if self.peek_text() == "[":
             return LocationSite(self.read_bracketed_location())
         if self.peek_kind() == "number":
@@ -198,18 +198,18 @@ class Reader:
         return self.take_token()
 
     def take_node(self) -> str:
-        """Reads the next token, which is a node of the condition. Returns its text."""
+        """Reads the next token, which is a node of the condition, and counts it. Returns its text. Raises NoTest if there are too many nodes."""
         self.count_node()
         return self.take_token()
 
     def count_node(self) -> None:
-        """Counts a node of the condition, and refuses more than MAX_NODES."""
+        """Counts a node of the condition. Raises NoTest if there are more than MAX_NODES."""
         self.nodes += 1
         if self.nodes > MAX_NODES:
             raise self.make_fault(f"the condition has more than {MAX_NODES} nodes")
 
     def read_atom(self) -> Proposition:
-        """Reads an atom, a proposition in parentheses, or a negation."""
+        """Reads an atom, a proposition in parentheses, or a negation. Raises NoTest if it is none of them."""
         if self.peek_text() in ("~", "not"):
             self.take_node()
             return Not(self.read_atom())
@@ -224,7 +224,7 @@ class Reader:
         return Eq(*self.read_equation())
 
     def read_conjunction(self) -> Proposition:
-        r"""Reads atoms between which there is `/\`."""
+        r"""Reads atoms between which there is `/\`. Raises NoTest if there is none."""
         left = self.read_atom()
         while self.peek_text() == "/\\":
             self.take_node()
@@ -232,7 +232,7 @@ class Reader:
         return left
 
     def read_disjunction(self) -> Proposition:
-        r"""Reads conjunctions between which there is `\/`."""
+        r"""Reads conjunctions between which there is `\/`. Raises NoTest if there is none."""
         left = self.read_conjunction()
         while self.peek_text() == "\\/":
             self.take_node()
@@ -242,7 +242,7 @@ class Reader:
     # Cells.
 
     def read_value(self) -> Value:
-        """Reads a number, with or without `$` before it in an x86 test, or a register."""
+        """Reads a number, with or without `$` before it in an x86 test, or a register. Raises NoTest if it is neither."""
         if self.test.language == "X86" and self.peek_text() == "$":
             self.take_token("$")
             return Number(self.read_number())
@@ -363,7 +363,7 @@ class Reader:
         return tuple(self.resolve_jump(it, index, labels, ends[index] - 1) for index, it in enumerate(statements))
 
     def check_statement_count(self, statements: list[Statement]) -> None:
-        """Refuses a further statement if the thread has the maximal number of them."""
+        """Raises NoTest if the thread has the maximal number of statements, so that no further one may come."""
         max_statements = MAX_STATEMENTS[self.test.language]
         if len(statements) == max_statements:
             raise self.make_fault(f"the thread has more than {max_statements} {'statements' if self.test.language == 'SRC' else 'instructions'}")

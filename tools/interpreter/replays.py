@@ -35,11 +35,12 @@ class SourceReplay:
     """A replay of a source test, by interleaving on one memory."""
 
     def __init__(self, test: Test) -> None:
+        """Starts a replay."""
         self.test = test
         self.places, self.words = make_source_start(test)
 
     def execute_event(self, kind: str, thread: int, _location: int | None) -> None:
-        """Executes an event, or raises Refused if it is not enabled."""
+        """Executes an event. Raises Refused if it is not enabled."""
         if kind != "P":
             raise Refused(*((6, "BufferEmpty") if kind == "D" else (7, "NotHeld")))
         position, registers = self.places[thread]
@@ -76,7 +77,7 @@ class X86Replay:
         self.caches = Caches(len(test.threads), test.words, protocol)
 
     def execute_event(self, kind: str, cpu: int, location: int | None) -> None:
-        """Executes an event, or raises Refused if it is not enabled."""
+        """Executes an event. Raises Refused if it is not enabled."""
         if kind == "E":
             assert location is not None  # read_schedule gives each E its location
             self.caches.evict(cpu, location)
@@ -123,7 +124,9 @@ def start_replay(test: Test, protocol: str) -> SourceReplay | X86Replay:
 
 
 def replay(test: Test, schedule: str, protocol: str = "mesi") -> tuple[str, int]:
-    """Returns the page of a replay, and its exit status. A refused event ends it, and is named on the page."""
+    """Returns the page of a replay, and its exit status. A refused event ends it, and is named on the page. Raises NoSchedule at a word of the
+    schedule that is no event.
+    """
     run = start_replay(test, protocol)
     done, stopped = 0, None
     for event in read_schedule(schedule, test.locations):

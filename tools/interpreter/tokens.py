@@ -15,7 +15,7 @@ TOKEN = re.compile(
 KEY = re.compile(r"[A-Za-z0-9_-]+[ \t]*=[^\n]*")
 # A token's kind and its text.
 Token = Tuple[str, str]
-# What a fault quotes of a text: a word, or at most 32 letters of it, or one other character.
+# What a fault quotes of a text: a word, of which at most 32 letters, or one other character.
 LETTERS = re.compile(r"\w{1,32}|.", re.S)
 
 
@@ -25,7 +25,7 @@ def quote(text: str) -> str:
 
 
 def quote_at(text: str, offset: int) -> str:
-    """Returns the text at an offset, in quotes: a word, one character, or the end."""
+    """Returns, for a fault, what is at an offset: in quotes a word, of which at most 32 letters, or one other character; or that the text ends."""
     match = LETTERS.match(text, offset)
     return quote(match[0]) if match and offset < len(text) else "the end of the text"
 

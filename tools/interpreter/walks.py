@@ -64,7 +64,7 @@ def make_outcome(state: State) -> Outcome:
 
 def explore_states(test: Test, start: State, moves: Callable[[Test, State], Iterator[Move]]) -> tuple[dict[Outcome, State], Origins]:
     """Walks through all states that a test reaches from a start; `moves` yields the successors of a state. Returns all outcomes, each with a final
-    state that has it, and the origin of each state on a shortest way.
+    state that has it, and the origin of each state: the state and the event before it on a shortest path.
     """
     origins: Origins = {start: None}
     finals: dict[Outcome, State] = {}

@@ -38,7 +38,7 @@ VARIANTS = (PLAIN, WITH_TRAPS)
 
 
 def to_signed(word: int) -> int:
-    """Returns a word as a number that instructions of 32 bits take."""
+    """Returns a word as the number that instructions of 32 bits take: with a sign."""
     return word - 2**32 if word >= 2**31 else word
 
 

@@ -11,7 +11,7 @@ from collections.abc import Sequence
 
 from machine import assembly, disassembly
 from machine.assembly import Code
-from machine.disassembly import read_last_line
+from machine.disassembly import find_last_line
 from machine.faults import NotRun
 
 SOURCES = sorted(glob.glob(os.path.join(os.path.dirname(os.path.abspath(__file__)), "harness", "*.c")))
@@ -20,7 +20,7 @@ FLAGS = ["-O2", "-pthread"]
 
 
 def check_system() -> None:
-    """Refuses a system that cannot run x86 tests, or that lacks objdump."""
+    """Raises NotRun on a system that cannot run x86 tests, or that lacks objdump."""
     if sys.platform != "linux" or platform.machine() not in ("x86_64", "AMD64"):
         raise NotRun(f"a test is run on Linux on x86-64 only, and this is {platform.system()} on {platform.machine()}")
     if not shutil.which(disassembly.COMMAND[0]):
@@ -34,21 +34,21 @@ def run_compiler(command: Sequence[str], folder: str) -> None:
     except OSError as why:
         raise NotRun(f"the compiler '{command[0]}' does not start: {why.strerror}; --cc names another (Debian: gcc)") from None
     if ran.returncode:
-        raise NotRun(f"the compiler '{command[0]}' fails: {read_last_line(ran.stderr)}")
+        raise NotRun(f"the compiler '{command[0]}' fails: {find_last_line(ran.stderr)}")
 
 
 class Builder:
     """The compiled harness, in a folder."""
 
     def __init__(self, compiler: list[str], folder: str) -> None:
-        """Compiles programs in a folder."""
+        """Prepares to compile programs in a folder. Raises NotRun if the harness does not compile."""
         self.compiler, self.folder = compiler, folder
         check_system()
         run_compiler([*compiler, *FLAGS, "-c", *SOURCES], folder)
         self.objects = [os.path.basename(it)[:-2] + ".o" for it in SOURCES]
 
     def build_program(self, threads: Sequence[Code], first: Sequence[Sequence[int]]) -> str:
-        """Returns the program of a test, after objdump has shown that its code is that of the threads."""
+        """Returns the program of a test. Raises NotRun if it does not compile, or objdump shows that its code is not that of the threads."""
         with open(os.path.join(self.folder, "test.s"), "w", encoding="ascii") as file:
             file.write(assembly.format_assembly(threads, first))
         program = os.path.join(self.folder, "test")

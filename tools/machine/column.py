@@ -39,9 +39,9 @@ def read_text(file: str) -> str:
 def run_column(
     texts: dict[str, str | None], seconds: float, report: Callable[[str], None], compiler: str | None = None, tries: int = 1
 ) -> Column:
-    """Runs the test of each file, by its text or its conversion, or a program's tests, for that number of seconds. The files are run
-    one after another, since runs disturb each other, and `report` is called with each that is done. `compiler` is that of programs in C and
-    C++. Without a compiler or objdump nothing is run, and `NotRun` says why.
+    """Runs the test of each file, by its text or its conversion, or a program's tests, for that number of seconds. The files are run one after
+    another, since runs disturb each other, and `report` is called with each that is done. `compiler` is that of programs in C and C++. Raises NotRun
+    without a compiler for the harness, or without objdump.
     """
     column = Column({}, [], False)
     with tempfile.TemporaryDirectory(prefix="lw-machine-") as folder:
@@ -57,6 +57,7 @@ def run_column(
                 continue
             finally:
                 report(file)
+            # What was seen of a test that is run.
             column.cells[file] = format_cell(result)
             column = column._replace(is_contradicted=column.is_contradicted or result.is_contradicted())
     return column

@@ -62,7 +62,7 @@ Operand = Union[Number, Register, Cell, Scratch, None]
 
 
 def parse_operand(text: str) -> Operand:
-    """Returns the operand of 32 bits that a text names, or None if it is one that no test has."""
+    """Returns the operand of 32 bits that a text names. `None` if no test has it."""
     cell = CELL.fullmatch(text)
     if cell and cell[1] in CELLS:
         return Cell(CELLS[cell[1]])
@@ -74,7 +74,9 @@ def parse_operand(text: str) -> Operand:
 
 
 def parse_statement(text: str, numbers: dict[int, int]) -> Statement | None:
-    """Reads an instruction. Returns None if it is none of a test. `numbers` has the instructions by their addresses."""
+    """Returns the instruction that a text of the disassembly is. `None` if no test has it. `numbers` has the indices of instructions by their
+    addresses.
+    """
     words = re.match(r"(lock )?(\w+)(?:\s+(.*))?$", text)
     if not words:
         return None
@@ -91,7 +93,7 @@ def parse_statement(text: str, numbers: dict[int, int]) -> Statement | None:
 
 
 def make_statement_of_two(mnemonic: str, target: Operand, source: Operand) -> Statement | None:
-    """Returns the instruction with two operands, or None if it is none of a test."""
+    """Returns the instruction with two operands. `None` if no test has it."""
     if isinstance(target, Cell):
         if mnemonic == "mov" and isinstance(source, (Number, Register)):
             return Statement("store", location=target.location, value=source)
@@ -122,7 +124,7 @@ def list_instructions(listing: Listing, begin: int, end: float) -> dict[int, str
 
 
 def compare_code(thread: int, code: Sequence[Statement], listing: Listing, begin: int, end: int) -> None:
-    """Refuses instructions that are not those of a thread."""
+    """Raises NotRun if the instructions from an address up to another are not those of a thread."""
     texts = list_instructions(listing, begin, end)
     numbers = {address: number for number, address in enumerate([*texts, end])}
     for index, (expected, text) in enumerate(zip(code, texts.values())):
@@ -133,7 +135,7 @@ def compare_code(thread: int, code: Sequence[Statement], listing: Listing, begin
 
 
 def format_statement(statement: Statement) -> str:
-    """Names an instruction of a test, for a message."""
+    """Returns an instruction of a test in words, for a message."""
     of_statement = statement.value
     value = ("number", of_statement.word) if isinstance(of_statement, Number) else of_statement and ("register", of_statement.register)
     parts = (("register", statement.register), ("location", statement.location), ("value", value), ("target", statement.target))
@@ -141,7 +143,7 @@ def format_statement(statement: Statement) -> str:
 
 
 def compare_threads(threads: Sequence[Sequence[Statement]], first: Sequence[Sequence[int]], listing: Listing) -> None:
-    """Refuses a disassembly that is not that of the threads, whose registers begin with some words."""
+    """Raises NotRun if a disassembly is not that of the threads, whose registers begin with the words `first`."""
     for thread, code in enumerate(threads):
         for is_trapped, labels in enumerate(LABELS):
             function, begin, end = (find_address(listing, it.format(thread)) for it in labels)
@@ -153,17 +155,17 @@ def compare_threads(threads: Sequence[Sequence[Statement]], first: Sequence[Sequ
 
 
 def check_program(threads: Sequence[Sequence[Statement]], first: Sequence[Sequence[int]], file: str) -> None:
-    """Refuses a compiled program whose code is not that of the threads."""
+    """Raises NotRun if objdump fails, or the code of a compiled program is not that of the threads."""
     try:
         ran = subprocess.run([*COMMAND, file], stdout=subprocess.PIPE, stderr=subprocess.PIPE, check=False)
     except OSError as why:
         raise NotRun(f"objdump does not start: {why.strerror}") from None
     if ran.returncode:
-        raise NotRun(f"objdump fails: {read_last_line(ran.stderr)}")
+        raise NotRun(f"objdump fails: {find_last_line(ran.stderr)}")
     compare_threads(threads, first, parse_listing(ran.stdout.decode("utf-8", "replace")))
 
 
-def read_last_line(printed: bytes) -> str:
-    """Returns the last line that a command prints on standard error."""
+def find_last_line(printed: bytes) -> str:
+    """Returns the last line of what a command has printed on standard error; empty if there is none."""
     lines = printed.decode("utf-8", "replace").strip().splitlines()
     return lines[-1] if lines else "it says nothing"

@@ -24,7 +24,7 @@ class NoKnob(NotRun):
 
 
 def parse_number(name: str, value: str) -> int:
-    """Reads the number that a knob is set to. Raises NoKnob if it is out of its bounds."""
+    """Returns the number that a knob is set to. Raises NoKnob if the text is no number within the knob's bounds."""
     minimum, maximum = NUMBERS[name]
     if not value.isdecimal() or not minimum <= int(value) <= maximum:
         raise NoKnob(f"{name} is a number from {minimum} to {maximum}, and not '{value}'")
@@ -34,7 +34,9 @@ def parse_number(name: str, value: str) -> int:
 
 
 def parse_knob(word: str) -> tuple[str, int]:
-    """Reads a word `NAME=VALUE`. Returns the knob that it sets, and the number that the harness is passed. Raises NoKnob if the word sets none."""
+    """Returns the knob that a word `NAME=VALUE` sets, and the number that the harness is passed: the value, or its index among the knob's words.
+    Raises NoKnob if the word sets no knob.
+    """
     name, sign, value = word.partition("=")
     if not sign or name not in DEFAULTS:
         raise NoKnob(f"'{word}' sets no knob; NAME=VALUE does, and a NAME is one of {', '.join(sorted(DEFAULTS))}")
@@ -46,5 +48,5 @@ def parse_knob(word: str) -> tuple[str, int]:
 
 
 def make_knobs(pairs: Iterable[tuple[str, int]]) -> Knobs:
-    """Returns all knobs: those that are set, and the others as they are by default."""
+    """Returns the number of each knob: that of its pair, if it is set, and otherwise its default."""
     return {**DEFAULTS, **dict(pairs)}

@@ -57,6 +57,7 @@ class Laboratory:
     """A compiled harness, and the processors that it runs on."""
 
     def __init__(self, compiler: Sequence[str], folder: str) -> None:
+        """Compiles the harness in a folder. Raises NotRun if it does not compile."""
         self.builder = Builder(list(compiler), folder)
 
     def make_plan(self, subject: Subject, settings: Settings, listed: Sequence[Words], processors_here: processors.Processors) -> Plan:

@@ -13,7 +13,7 @@ ASKED = {"exists": "Allowed", "~exists": "Forbidden", "forall": "Required"}
 
 
 def count_runs(subject: Subject, seen: Sightings) -> list[int]:
-    """Counts the runs in which the proposition was true, and those in which it was not."""
+    """Returns the numbers of runs in which the proposition was true, and in which it was not."""
     positive = sum(sighting.times for words, sighting in seen.states.items() if subject.is_true(words))
     return [positive, sum(sighting.times for sighting in seen.states.values()) - positive]
 

@@ -43,7 +43,7 @@ def read_text(path: str) -> str:
 
 
 def parse_numbers(text: str) -> list[int]:
-    """Reads the numbers of a list as Linux prints it: `0-2,5`."""
+    """Returns the numbers of a list as Linux prints it: `0-2,5`."""
     numbers: list[int] = []
     for first, last in re.findall(r"(\d+)(?:-(\d+))?", text):
         numbers += range(int(first), int(last or first) + 1)
@@ -65,7 +65,7 @@ def read_quota(system: str) -> float:
 
 
 def read_processors(system: str = "/sys", info: str = "/proc/cpuinfo") -> Processors:
-    """Reads what is known of the processors of this process."""
+    """Reads what is known of the processors of this process: under the folder `system`, and in the file `info`."""
     allowed = tuple(it for it in sorted(os.sched_getaffinity(0)) if it < MAX_PROCESSORS)
     siblings = {cpu: read_text(f"{system}/devices/system/cpu/cpu{cpu}/topology/thread_siblings_list").strip() for cpu in allowed}
     nodes = read_nodes(system)
@@ -83,7 +83,7 @@ def read_processors(system: str = "/sys", info: str = "/proc/cpuinfo") -> Proces
 
 
 def group_processors(key: Callable[[int], object], cpus: Sequence[int]) -> list[Group]:
-    """Groups processors with the same key, in the order in which they appear."""
+    """Returns processors in groups, those with the same key in one, in the order in which they appear."""
     groups: dict[object, Group] = {}
     for cpu in cpus:
         groups.setdefault(key(cpu), []).append(cpu)

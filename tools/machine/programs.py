@@ -43,7 +43,7 @@ class Part(NamedTuple):
         word_of_site = dict(zip(self.subject.sites, words))
         if any(word_of_site[mark] != 1 for mark in self.conversion.marks):
             return None
-        return tuple(word_of_site[site] for site in plain.list_observed_sites(self.conversion.question))
+        return tuple(word_of_site[site] for site in plain.list_observed_sites(self.conversion.unmarked))
 
 
 class Program(NamedTuple):
@@ -87,7 +87,7 @@ def compile_program(file: str, text: str, compiler: str | None, tries: int) -> P
     if not answer.has_run:
         raise NotRun(f"no run goes through every loop within {tries} tr{'ies' if tries != 1 else 'y'}")
     parts = [make_part(it.conversion) for it in answer.tests]
-    question = parts[0].conversion.question
+    question = parts[0].conversion.unmarked
     rename_line, listed = Names(converter, question).translate_line, merge_lists(parts, compiler)
     sites, condition = plain.list_observed_sites(question), converter.condition.text
     subject = Subject(question, question, sites, rename_line=rename_line, condition_text=condition, listed=listed)
@@ -105,8 +105,8 @@ def divide_limits(limits: Limits, count: int) -> Limits:
 
 
 def run_parts(laboratory: Laboratory, program: Program, settings: Settings) -> Iterator[tuple[Part, MeasuredRun]]:
-    """Yields the tests of a program, each after its run, with that. If the runs end when all states are seen, a test is run only for states that it
-    lists and that no test before it has shown, and is left out if there are none.
+    """Yields the tests of a program, each after its run, with that. If runs end when all states are seen, a test is run only for listed states that
+    no test before it has shown, and is left out if there are none.
     """
     part_settings = settings._replace(limits=divide_limits(settings.limits, len(program.parts)))
     seen = set()

@@ -6,7 +6,7 @@ import subprocess
 from typing import NamedTuple
 
 from machine import plans
-from machine.disassembly import read_last_line
+from machine.disassembly import find_last_line
 from machine.faults import NotRun
 from machine.plans import Plan
 from machine.subjects import Words
@@ -75,7 +75,7 @@ def explain_status(status: int, printed: bytes) -> str:
     """Returns why the harness ended with a status that is not 0."""
     if status < 0:
         return f"the harness is ended by {signal.Signals(-status).name}"
-    return read_last_line(printed)
+    return find_last_line(printed)
 
 
 def run_plan(program: str, plan: Plan) -> Sightings:

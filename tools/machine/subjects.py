@@ -60,7 +60,9 @@ class StateList(NamedTuple):
 
 
 def make_subject(text: str, everything: bool) -> Subject:
-    """Reads a test. A source test is compiled."""
+    """Returns the subject of a test's text; a source test is compiled. With `everything` it shows all registers and locations. Raises NoTest if the
+    text is none.
+    """
     shown = x86 = plain.read_test(text)
     compiled_by = None
     if shown.language == "SRC":
