@@ -122,6 +122,7 @@ class CellReader(Reader):
         offset, is_locked = self.token.offset, False
         if self.token.text.upper() == "REP" and self.peek(1).upper() != "NOP":
             raise Refused(f"'{self.token.text}' is not converted: {STRINGS}", offset)
+        # The prefixes, and the mnemonic.
         while self.token.text.upper() in ("LOCK", "REP"):
             is_locked = self.take_token().text.upper() == "LOCK" or is_locked
         if self.token.kind != "name":
@@ -133,6 +134,7 @@ class CellReader(Reader):
         self.mnemonic = mnemonic
         if bits:
             self.record_size(bits, token)
+        # The operands.
         if mnemonic[0] == "J":
             return self.read_jump(mnemonic, offset)
         operands = self.read_operands(OPERANDS[mnemonic])

@@ -28,12 +28,13 @@ UNSET_FLAG = "the zero flag is read here before an instruction has set it: it is
 
 @dataclass
 class ConvertedTest:
-    """A test of lw under a guess; its question without marks; the marks; the guess of each LOCK CMPXCHG, set if it succeeds; the filter, if there is
-    one; and the sites that only the filter and the marks name.
+    """A test of lw under a guess, whose condition asks for all marks, and what merges its report: the same test without marks (`unmarked`); the
+    marks; the guess of each LOCK CMPXCHG, set if it succeeds; the filter, if there is one; and the sites that only the filter and the marks name
+    (`shown_here_only`).
     """
 
     test: plain.Test
-    question: plain.Test
+    unmarked: plain.Test
     marks: list[Site]
     guesses: tuple
     filter: Proposition | None = None
@@ -83,7 +84,9 @@ class ThreadCode:
 
 
 def rewrite_thread(code: list[Instruction], initial: dict[str, str], guesses: dict[int, bool]) -> ThreadCode:
-    """Returns a thread's instructions of lw. Jumps still target the indices of the text's instructions."""
+    """Returns a thread's instructions of lw. Jumps still target the indices of the text's instructions. `initial` says which registers hold
+    addresses, and `guesses` which LOCK CMPXCHG succeed, by their indices. Raises Refused if an instruction is not converted.
+    """
     thread_code, addresses, read = ThreadCode(), compute_held_addresses(code, initial), find_read_flags(code)
     for index, instruction in enumerate(code):
         rewriter = Rewriter(instruction, index, addresses[index], read[index], guesses.get(index))
@@ -96,11 +99,13 @@ def rewrite_thread(code: list[Instruction], initial: dict[str, str], guesses: di
     return thread_code
 
 
-class Converter:
+class HerdConverter:
     """Converts one frame, whose threads are read."""
 
     def __init__(self, frame: Frame, codes: list[list[Instruction]]) -> None:
-        """Finds the registers and locations of a frame, whose threads are read, and what each of its tests needs."""
+        """Finds the registers and locations of a frame, whose threads are read, and what each of its tests needs. Raises Refused if lw has too few of
+        them, or an observed register holds an address.
+        """
         self.frame = frame
         self.codes = codes
         self.locations = LocationNames()
@@ -120,22 +125,22 @@ class Converter:
         self.fix_locations(extremes[0])
 
     def check_observed(self) -> None:
-        """Refuses a question about a register that holds an address at the end."""
+        """Raises Refused if the question is about a register that holds an address at the end."""
         ends = [compute_held_addresses(code, addresses)[-1] for code, addresses in zip(self.codes, self.held)]
         for site, offset in self.sites:
             if isinstance(site, RegisterSite) and ends[site.thread].get(site.register, NUMBER) != NUMBER:
                 raise Refused(f"{site.thread}:{site.register} may end with the address of a location, and words of lw are numbers", offset)
 
     def rewrite_threads(self, guesses: tuple[bool, ...]) -> list[ThreadCode]:
-        """Returns all threads under a guess."""
+        """Returns the code of all threads under a guess. Raises Refused if an instruction is not converted."""
         by_thread: list[dict[int, bool]] = [{} for _ in self.codes]
         for (thread, index), guess in zip(self.guessed, guesses):
             by_thread[thread][index] = guess
         return [rewrite_thread(code, addresses, guesses_of_thread) for code, addresses, guesses_of_thread in zip(self.codes, self.held, by_thread)]
 
     def number_registers(self, thread: int, extremes: list[ThreadCode]) -> dict[str, int]:
-        """Returns the index of each register of a thread, and of its mark if there is room for one. `extremes` is the thread's code if
-        all guesses succeed, and if all fail: together they name all its registers.
+        """Returns the index of each register of a thread, and of its mark if there is room for one. `extremes` is the thread's code if all guesses
+        succeed, and if all fail: together they name all its registers. Raises Refused if six are not enough.
         """
         names: dict[str, int] = {}
         for code in extremes:
@@ -146,7 +151,7 @@ class Converter:
         return number_registers(thread, names, MARK if self.has_mark[thread] else None)
 
     def fix_locations(self, threads: list[ThreadCode]) -> None:
-        """Puts all locations into the table, in the order of the text."""
+        """Puts all locations into the table, in the order of the text, and after them the marks that are locations."""
         sites = [(it.site, it.offset) for it in self.frame.entries]
         for site, _ in [*sites, *self.sites]:
             if isinstance(site, LocationSite):
@@ -198,8 +203,11 @@ class Converter:
         return plain.replace_atoms(proposition, lambda atom: Eq(self.number_site(atom.site), atom.word))
 
     def make_conversion(self, guesses: tuple[bool, ...]) -> ConvertedTest:
-        """Returns the test of lw under a guess."""
+        """Returns the test of lw under a guess, which asks for all marks; and what merges its report: the same test without marks, the marks, and the
+        sites that only they and the filter name.
+        """
         frame, threads = self.frame, self.rewrite_threads(guesses)
+        # The initial words; the address of a location is in the code of a thread.
         registers = [[0] * 6 for _ in threads]
         words = [0] * len(self.locations.names)
         for entry in frame.entries:
@@ -211,20 +219,23 @@ class Converter:
                 number = number_initial_register(entry.site.register, self.registers[entry.site.thread])
                 if number is not None:
                     registers[entry.site.thread][number] = entry.value.word
-        question_with_filter = restrict(frame.quantifier, [frame.filter] if frame.filter else [], frame.proposition)
-        question = plain.Test("X86", frame.name, list(self.locations.names), [tuple(it) for it in registers], tuple(words))
-        question.listed = {self.number_site(site) for site, _ in frame.listed}
-        question.quantifier, question.proposition = frame.quantifier, self.number_proposition(question_with_filter)
-        question.threads = [self.number_thread(number, it) for number, it in enumerate(threads)]
+        # The test without marks: its condition holds only of states that the filter admits.
+        filtered = restrict(frame.quantifier, [frame.filter] if frame.filter else [], frame.proposition)
+        unmarked = plain.Test("X86", frame.name, list(self.locations.names), [tuple(it) for it in registers], tuple(words))
+        unmarked.listed = {self.number_site(site) for site, _ in frame.listed}
+        unmarked.quantifier, unmarked.proposition = frame.quantifier, self.number_proposition(filtered)
+        unmarked.threads = [self.number_thread(number, it) for number, it in enumerate(threads)]
+        # The test with marks, which also shows the sites that only they and the filter name.
         marks = [self.find_mark_site(number) for number, has_mark in enumerate(self.has_mark) if has_mark]
         name = frame.name + ("+" + "".join("FS"[it] for it in guesses) if guesses else "")
-        marked = restrict(frame.quantifier, [Eq(it, 1) for it in marks], question.proposition)
+        proposition = restrict(frame.quantifier, [Eq(it, 1) for it in marks], unmarked.proposition)
         filter_of_test = self.number_proposition(frame.filter) if frame.filter else None
-        named = question.listed | plain.list_sites(self.number_proposition(frame.proposition))
-        further = {*marks, *plain.list_sites(filter_of_test or Constant(True))} - named
-        test = replace(question, name=name, proposition=marked)
+        shown = unmarked.listed | plain.list_sites(self.number_proposition(frame.proposition))
+        shown_here_only = {*marks, *plain.list_sites(filter_of_test or Constant(True))} - shown
+        test = replace(unmarked, name=name, proposition=proposition)
         places, starts = [it.places for it in threads], [it.begins[:-1] for it in threads]
-        return ConvertedTest(test, question, marks, guesses, filter_of_test, sorted(further, key=plain.site_sort_key), places, starts)
+        ordered = sorted(shown_here_only, key=plain.site_sort_key)
+        return ConvertedTest(test, unmarked, marks, guesses, filter_of_test, ordered, places, starts)
 
     def list_sites(self) -> list[Site]:
         """Returns all registers and locations of the text, as sites of its tests."""
@@ -237,8 +248,8 @@ def list_width_notes(frame: Frame) -> list[tuple[int, str]]:
     return [(0, "words of 64 bits are taken as words of 32 bits, into which all words of this test fit")] if frame.is_wide else []
 
 
-def read_back(test: plain.Test, offset: int) -> None:
-    """Refuses a converted test that lw does not read. The offset is that of the fault in the original."""
+def check_converted_test(test: plain.Test, offset: int) -> None:
+    """Raises Refused, at `offset`, if lw does not read a converted test."""
     text = plain.format_canonical_text(test)
     try:
         plain.read_test(text)
@@ -252,14 +263,16 @@ def convert(text: str, tries: int = 0, is_att: bool | None = None) -> Conversion
     order = find_order(text, frame.language, frame.threads) if is_att is None else Order(is_att)
     read = [read_code(cells, order.is_att) for cells in frame.threads]
     frame.is_wide |= any(is_wide for _, is_wide in read)
-    converter = Converter(frame, [unroll_code(code, tries) for code, _ in read])
+    converter = HerdConverter(frame, [unroll_code(code, tries) for code, _ in read])
     if len(converter.guessed) > MAX_GUESSES:
         thread, index = converter.guessed[MAX_GUESSES]
         raise Refused(f"there are more than {MAX_GUESSES} LOCK CMPXCHG", converter.codes[thread][index].offset)
+    # A test for each guess, all of which lw must read, and whose words must fit into 32 bits.
     conversions = [converter.make_conversion(guesses) for guesses in product((SUCCEEDS, FAILS), repeat=len(converter.guessed))]
     for conversion in conversions:
-        read_back(conversion.test, text.find(frame.name))
+        check_converted_test(conversion.test, text.find(frame.name))
     Widths(frame, converter.codes)
+    # What is said of the conversion.
     notes = [*frame.notes, *converter.notes, *list_width_notes(frame)]
     if order.note:
         notes.append(order.note)

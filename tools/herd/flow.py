@@ -9,7 +9,7 @@ from plain import Register
 GIVE_UP = -1
 READS_FLAG = ("JE", "JNE", "CMOVE", "CMOVNE")
 SETS_FLAG = ("ADD", "SUB", "INC", "DEC", "XOR", "AND", "OR", "CMP", "TEST", "XADD", "CMPXCHG")
-# In place of a location: of a register that holds no address, and of one that holds an address on some ways only.
+# In place of a location: of a register that holds no address, and of one that holds an address on some paths only.
 NUMBER, EITHER = "a number", "either"
 
 
@@ -34,9 +34,7 @@ def find_read_flags(code: list[Instruction]) -> list[bool]:
 
 
 def find_unset_flag_read(code: list[Instruction]) -> Instruction | None:
-    """Returns the first instruction that may read the zero flag before an instruction has set it, if there is one. Jumps go forward. `None` if there
-    is none.
-    """
+    """Returns the first instruction that may read the zero flag before an instruction has set it. `None` if there is none. Jumps go forward."""
     unset = [True] + [False] * len(code)
     for index, instruction in enumerate(code):
         if unset[index] and instruction.mnemonic in READS_FLAG:
@@ -62,7 +60,7 @@ def find_address(operand: Operand, addresses: dict[str, str]) -> str | None:
 
 
 def find_location(operand: InMemory, addresses: dict[str, str]) -> str | None:
-    """Returns the location of an operand in memory, if it has one. `None` if it has none."""
+    """Returns the location of an operand in memory. `None` if its address is computed, or not known."""
     if operand.number or len(operand.registers) + bool(operand.location) != 1:
         return None
     return operand.location or find_address(Register(operand.registers[0]), addresses)
@@ -93,7 +91,9 @@ def update_held(instruction: Instruction, addresses: dict[str, str]) -> dict[str
 
 
 def intersect_held(first: dict[str, str] | None, second: dict[str, str]) -> dict[str, str]:
-    """Returns the addresses that registers hold where two ways meet; `first` is `None` if only the second way is known so far."""
+    """Returns the addresses that registers hold where two paths meet: EITHER if they differ. `first` is `None` if only the second path is known so
+    far.
+    """
     if first is None:
         return dict(second)
     names = {*first, *second}

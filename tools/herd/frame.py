@@ -69,7 +69,7 @@ class FrameReader(PropositionReader):
         self.is_in_block = True
 
     def read(self) -> Frame:
-        """Reads the whole frame."""
+        """Reads the whole frame. Raises Refused if the text has another form, or what is not converted."""
         self.take_token("{")
         while not self.take_token_if("}"):
             self.read_entry()
@@ -126,7 +126,7 @@ class FrameReader(PropositionReader):
         self.put_entry(Entry(site, value, offset, bits or before.bits, has_value))
 
     def put_entry(self, entry: Entry) -> None:
-        """Adds an entry of a new site, or replaces that of a site that has one."""
+        """Adds an entry of the initial block, in place of one of the same site if there is one."""
         sites = [it.site for it in self.frame.entries]
         if entry.site in sites:
             self.frame.entries[sites.index(entry.site)] = entry
@@ -259,7 +259,7 @@ class FrameReader(PropositionReader):
                 self.take_token(";")
 
     def check_threads(self, count: int) -> None:
-        """Checks that each thread that is named exists."""
+        """Raises Refused if a register is named of a thread that does not exist; `count` is the number of threads."""
         entries = [(it.site, it.offset) for it in self.frame.entries]
         for site, offset in [*entries, *self.frame.listed, *self.frame.condition_sites]:
             if isinstance(site, RegisterSite) and site.thread >= count:
@@ -267,6 +267,6 @@ class FrameReader(PropositionReader):
 
 
 def read_frame(text: str) -> Frame:
-    """Returns the frame of a test in herd's form."""
+    """Returns the frame of a test in herd's form. Raises Refused if the text is none, or has what is not converted."""
     language, name, tokens = parse_tokens(text)
     return FrameReader(Frame(language, name), tokens).read()

@@ -25,15 +25,15 @@ class Text:
         """Returns the number of the line in which an offset is."""
         return self.text.count("\n", 0, offset) + 1
 
-    def read_instruction(self, offset: int) -> str:
-        """Returns the instruction that begins at an offset, as the text has it."""
+    def find_instruction(self, offset: int) -> str:
+        """Returns the instruction in whose cell an offset is, as the text has it."""
         cells = [cell for thread in self.result.frame.threads for cell in thread]
         end = next(cell[-1].offset for cell in cells if cell[0].offset <= offset < cell[-1].offset)
         return " ".join(self.text[offset:end].split())
 
     def describe_place(self, place: tuple[int, int]) -> str:
         """Returns the name of a place: its thread, its line, and the instruction."""
-        return f"P{place[0]}, line {self.find_line(place[1])}, {self.read_instruction(place[1])}"
+        return f"P{place[0]}, line {self.find_line(place[1])}, {self.find_instruction(place[1])}"
 
     def describe_place_briefly(self, place: tuple[int, int]) -> str:
         """Returns a shorter name of a place: its thread and its line, without the instruction."""
@@ -41,7 +41,9 @@ class Text:
 
 
 def find_origins(conversion: ConvertedTest) -> list[list[int | None]]:
-    """Returns of each thread's instructions the places from which they come. The last one has none if it sets the thread's mark."""
+    """Returns, for each thread of a test, the place in the text from which each instruction comes: an offset, and `None` for the last one if it sets
+    the thread's mark.
+    """
     return [places + [None] * (len(code) - len(places)) for code, places in zip(conversion.test.threads, conversion.places)]
 
 
@@ -50,10 +52,10 @@ def format_runs(text: Text) -> dict[str, list[str]]:
     runs: dict[str, list[str]] = {}
     for conversion in text.result.conversions:
         listed = answers.make_answer(["schedules"], conversion.test).text.splitlines()[2:]
-        question = {plain.format_site(conversion.test, site) for site in plain.list_observed_sites(conversion.question)}
+        observed = {plain.format_site(conversion.test, site) for site in plain.list_observed_sites(conversion.unmarked)}
         for state, schedule in zip(listed[::2], listed[1::2]):
             if list_marked_states(conversion, [state]):
-                shown = " ".join(f"{site}={word};" for site, word in parse_state(state).items() if site in question)
+                shown = " ".join(f"{site}={word};" for site, word in parse_state(state).items() if site in observed)
                 runs.setdefault(shown, list(list_visible_events(text, conversion, schedule.split())))
     return runs
 
@@ -79,12 +81,12 @@ def list_visible_events(text: Text, conversion: ConvertedTest, schedule: list[st
 
 
 def describe_step(text: Text, conversion: ConvertedTest, origins: list[Any], place: tuple[int, int]) -> str:
-    """Returns the instruction of the text from which one of lw comes, and which part of it this is, or whether a guessed exchange succeeds.
-    The place is a thread and a position.
+    """Returns in words the instruction of the text from which one of lw comes, which part of it this is, and whether a guessed exchange succeeds.
+    `place` is a thread and a position, `origins` those of `find_origins`.
     """
     thread, position = place
     code = conversion.test.threads[thread]
-    instruction = text.read_instruction(origins[position])
+    instruction = text.find_instruction(origins[position])
     if re.match(r"(?i)lock\s+cmpxchg", instruction):
         return f"{instruction}, which {'succeeds' if code[position].kind == 'xchg' else 'fails'}"
     parts = {other.kind for other, origin in zip(code, origins) if origin == origins[position] and other.kind in VISIBLE}

@@ -43,7 +43,7 @@ def make_graph(code: list[Instruction]) -> list[Node]:
 
 
 def list_reachable(nodes: list[Node], first: int) -> Iterator[int]:
-    """Yields the nodes that some way reaches from a node, each after its successors, unless they are on a cycle with it."""
+    """Yields the nodes that some path reaches from a node, each after its successors, unless they are on a cycle with it."""
     seen, stack = {first}, [(first, iter(nodes[first].list_successors()))]
     while stack:
         node, rest = stack[-1]
@@ -66,7 +66,9 @@ def find_predecessors(nodes: list[Node], reached: list[int]) -> dict[int, list[i
 
 
 def find_loops(nodes: list[Node]) -> Iterator[tuple[set[int], int]]:
-    """Yields the largest loops that the thread can reach: the nodes of each, and the first of those by which it is entered."""
+    """Yields the largest loops that the thread can reach: the nodes of each, and the node by which it is entered (the first in the text if there are
+    several).
+    """
     reached = list(list_reachable(nodes, 0))
     before, seen = find_predecessors(nodes, reached), set()
     for first in reversed(reached):
@@ -86,7 +88,9 @@ def find_loops(nodes: list[Node]) -> Iterator[tuple[set[int], int]]:
 
 
 def add_copies(nodes: list[Node], loop: set[int], entry: int, tries: int) -> None:
-    """Writes a loop in this number of copies. A way back to its entry goes to the next copy, and abandons the run in the last one."""
+    """Changes `nodes` so that they have a loop `tries` times, one copy after another. A jump back to the entry goes to the next copy; in the last
+    copy it abandons the run.
+    """
     ordered = sorted(loop)
     originals, numbers = [nodes[it] for it in ordered], [{it: it for it in ordered}]
     for _ in range(tries - 1):
@@ -94,13 +98,21 @@ def add_copies(nodes: list[Node], loop: set[int], entry: int, tries: int) -> Non
         nodes += originals
     for copy, number in enumerate(numbers):
         next_entry = numbers[copy + 1][entry] if copy + 1 < tries else GIVE_UP
-        redirect = lambda target: next_entry if target == entry else number.get(target, target)
+
+        def redirect(target: int | None) -> int | None:
+            """Returns the node to which this copy goes in place of a node of the loop; others stay."""
+            if target is None or target == entry:
+                return None if target is None else next_entry
+            return number.get(target, target)
+
         for node_index, node in zip(ordered, originals):
             nodes[number[node_index]] = Node(node.origin, redirect(node.after), redirect(node.target))
 
 
 def unroll_loops(nodes: list[Node], code: list[Instruction], tries: int) -> None:
-    """Unrolls all loops, the outer ones first. Raises Refused if there is a loop and no limit of tries, or if the copies are too long."""
+    """Changes `nodes` until they have no loop: the outer ones are unrolled first. Raises Refused if there is a loop and no limit of tries, or if the
+    copies are too long.
+    """
     loops = list(find_loops(nodes))
     while loops:
         for loop, entry in loops:
@@ -134,7 +146,11 @@ def sort_nodes(nodes: list[Node]) -> list[int]:
 def write_node(instruction: Instruction, node: Node, following: int) -> list[tuple[Instruction, int | None]]:
     """Returns the instructions of a node, each with the node to which it jumps, if it does; `following` is the node that is written next.
     """
-    jump_to = lambda target: [] if target == following else [(Instruction("JMP", (), instruction.offset), target)]
+
+    def jump_to(target: int | None) -> list[tuple[Instruction, int | None]]:
+        """Returns a jump to a node; none if it comes next."""
+        return [] if target == following else [(Instruction("JMP", (), instruction.offset), target)]
+
     if instruction.target is None:
         return [(instruction, None), *jump_to(node.after)]
     if instruction.mnemonic == "JMP" or node.after == node.target:

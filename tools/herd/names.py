@@ -37,6 +37,7 @@ class LocationNames:
     """The table of locations: names of the text, each with a name that lw accepts."""
 
     def __init__(self) -> None:
+        """Starts with no location."""
         self.index_of: dict[str, int] = {}  # by the names of the text
         self.names: list[str] = []
 

@@ -130,8 +130,8 @@ def has_bare_name(cell: list[Token]) -> bool:
     return any(it[0].kind == "name" and not parse_register(it[0].text) for it in split_instruction(cell)[1])
 
 
-def refuse_contradiction(text: str, att: Mark, intel: Mark) -> Refused:
-    """Returns the refusal of a test with two marks that say different orders."""
+def make_contradiction_refusal(text: str, att: Mark, intel: Mark) -> Refused:
+    """Returns the refusal of a test with two marks that say different orders, at the later one."""
     first, second = sorted((att, intel), key=lambda it: it.offset)
     other = f"{first.words} at {given.format_line_and_column(text, first.offset)} says {NAMES[first.is_att]}"
     says = f"{second.words} says {NAMES[second.is_att]} order of operands, and {other}"
@@ -146,7 +146,7 @@ def find_order(text: str, language: str, threads: list[list[list[Token]]]) -> Or
     against = intel or (att and sorted((it for cell in cells for it in find_bare_registers(cell)), key=lambda it: it.offset))
     where = [cell[0].offset for cell in cells if depends_on_order(cell)]
     if att and against and where:
-        raise refuse_contradiction(text, att[0], against[0])
+        raise make_contradiction_refusal(text, att[0], against[0])
     if marks:
         is_att = marks[0].is_att
         order = f"operands are taken in {NAMES[is_att]} order, the destination {ENDS[is_att]}, as {marks[0].words} says"

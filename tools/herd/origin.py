@@ -110,7 +110,8 @@ def translate_states(test: plain.Test, origin: Origin, lines: Iterable[str]) -> 
 
 
 def add_states(translations: dict[str, TranslatedStates], origin: Origin, text: str, lines: Iterable[str]) -> None:
-    """Adds the states of a converted test to those of its original. Fails if the comment names what the test does not have."""
+    """Adds the states of a converted test to those of its original in `translations`. Raises NoTest if the comment names what the test does not have.
+    """
     test = plain.read_test(text)
     states = list(translate_states(test, origin, lines))
     original = translations.setdefault(origin.name, TranslatedStates())

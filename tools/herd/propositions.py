@@ -16,11 +16,11 @@ class PropositionReader(Reader):
     frame: Any
 
     def read_site(self) -> Any:
-        """Reads a register of a thread or a location."""
+        """Reads a register of a thread or a location. The derived class has it; this one raises NotImplementedError."""
         raise NotImplementedError
 
     def read_word(self, site: Any) -> Any:
-        """Reads the number that a site has."""
+        """Reads the number that a site has. The derived class has it; this one raises NotImplementedError."""
         raise NotImplementedError
 
     def read_quantifier(self) -> str:
@@ -32,7 +32,7 @@ class PropositionReader(Reader):
         return self.take_token().text
 
     def read_implication(self) -> Proposition:
-        """Reads a proposition, at its outermost of implications, which are grouped from the right."""
+        """Reads a proposition. An implication binds least, and is grouped from the right."""
         left = self.read_disjunction()
         return Or(Not(left), self.read_implication()) if self.take_token_if("=>") else left
 

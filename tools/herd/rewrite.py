@@ -41,7 +41,7 @@ class Rewriter:
         self.notes: list[tuple[int, str]] = []
 
     def make_refusal(self, cause: str) -> Refused:
-        """Returns why the instruction is not converted."""
+        """Returns the refusal of the instruction, with its cause."""
         return Refused(cause, self.instruction.offset)
 
     def rewrite_statements(self) -> list[Statement]:
@@ -95,7 +95,7 @@ class Rewriter:
         return [Statement("cmp", register, value=Number(0))] if self.is_flag_read else []
 
     def check_flag_unread(self) -> None:
-        """Refuses to add if the sum's flag would be read in place of an older one."""
+        """Raises Refused if a later branch reads the zero flag, which an addition of lw would set and the instruction does not."""
         if self.is_flag_read:
             raise self.make_refusal(f"{self.instruction.mnemonic} leaves the flags alone, a sum of lw sets them, and a later branch reads them")
 
@@ -199,7 +199,7 @@ class Rewriter:
         return [Statement("set", SCRATCH, value=Register(sum_)), Statement("add", sum_, value=Register(register)), restoring]
 
     def rewrite_cmov(self) -> list[Statement]:
-        """Rewrites a move that a branch may skip. A load is done on both ways."""
+        """Rewrites a move that a branch may skip. A load is done whether or not it is skipped."""
         target, source = self.instruction.operands
         branch = Statement("jne" if self.instruction.mnemonic == "CMOVE" else "je", target=self.index + 1)
         if isinstance(source, InMemory):
@@ -217,7 +217,7 @@ class Rewriter:
         return [Statement(self.instruction.mnemonic.lower(), target=self.instruction.target)]
 
     def refuse_unlocked(self) -> list[Statement]:
-        """Refuses CMPXCHG without LOCK."""
+        """Raises Refused for CMPXCHG without LOCK."""
         raise self.make_refusal("CMPXCHG without LOCK is a load and a store that others may part: write them, and a branch")
 
     # Locked instructions.

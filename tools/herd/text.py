@@ -75,6 +75,7 @@ class Reader:
     """A reader of tokens, from left to right."""
 
     def __init__(self, tokens: list[Token]) -> None:
+        """Starts at the first token."""
         self.tokens = tokens
         self.number = 0  # the index of the next token
 

@@ -23,7 +23,7 @@ def make_outcome(test: plain.Test, words: dict[str, int]) -> plain.Outcome:
 
 
 def list_marked_states(conversion: ConvertedTest, lines: Iterable[str]) -> list[dict[str, int]]:
-    """Returns the states, each as words by names, in which all marks are set: those of runs that are not given up."""
+    """Returns the states, each a dictionary of words by names, in which all marks are set: those of runs that are not given up."""
     names = [plain.format_site(conversion.test, site) for site in conversion.marks]
     states = [parse_state(line) for line in lines]
     return [words for words in states if all(words[name] == 1 for name in names)]
@@ -35,16 +35,16 @@ def collect_answers(conversions: list[ConvertedTest]) -> list[answers.Answer]:
 
 
 def merge_reports(conversions: list[ConvertedTest], reports: list[answers.Answer]) -> str:
-    """Returns the report of the question, from the reports of the tests."""
-    question = conversions[0].question
+    """Returns the report of the test without marks, from the reports of the converted tests, one for each guess."""
+    unmarked = conversions[0].unmarked
     outcomes: set[plain.Outcome] = set()
     for conversion, answer in zip(conversions, reports):
-        outcomes |= {make_outcome(question, words) for words in list_marked_states(conversion, answers.filter_state_lines(answer.text))}
-    return plain.make_report(question, outcomes)
+        outcomes |= {make_outcome(unmarked, words) for words in list_marked_states(conversion, answers.filter_state_lines(answer.text))}
+    return plain.make_report(unmarked, outcomes)
 
 
 def make_merged_report(conversions: list[ConvertedTest]) -> tuple[str, set[answers.Maker]]:
-    """Returns the report of the question, and the makers of the lists from which it results."""
+    """Returns the report of the test without marks, and the makers of the lists from which it results."""
     reports = collect_answers(conversions)
     return merge_reports(conversions, reports), {it.by for it in reports}
 

@@ -34,7 +34,7 @@ ANY: Range = (0, LARGEST)
 
 
 def merge_optional_ranges(first: Range | None, second: Range | None) -> Range | None:
-    """Returns the range of what is in one of two ranges, None if one of them is not known."""
+    """Returns the range of what is in one of two ranges. `None` if one of them is not known."""
     return merge_ranges(first, second) if first and second else None
 
 
@@ -44,7 +44,7 @@ def merge_ranges(first: Range, second: Range) -> Range:
 
 
 def merge_registers(first: Registers | None, second: Registers) -> Registers:
-    """Returns the ranges of registers where two ways meet."""
+    """Returns the ranges of registers where two paths meet. `first` is `None` if only the second path is known so far."""
     if first is None:
         return dict(second)
     return {name: merge_optional_ranges(first.get(name, (0, 0)), second.get(name, (0, 0))) for name in {*first, *second}}
@@ -70,8 +70,8 @@ class Thread:
 
 @dataclass
 class Memory:
-    """The words that a thread may read: those of others, those of others for an instruction that loads and stores, and its own; and the
-    number of its stores.
+    """The words that a thread may find in memory: those of others (`words`; for an instruction that loads and stores `words_for_updates`), and its
+    own; and the number of its stores.
     """
 
     words: Words
@@ -80,7 +80,7 @@ class Memory:
     stores: int = 0
 
     def read_location(self, location: str, is_update: bool) -> Range:
-        """Returns the words that a location may have."""
+        """Returns the range of the words that a load of a location finds; `is_update` says whether the instruction also stores."""
         words = (self.words_for_updates if is_update else self.words).get(location, (0, 0))
         return merge_ranges(words, self.own.get(location, words))
 
@@ -104,7 +104,7 @@ class Step:
         self.bits = instruction.bits or (64 if any(self.find_location(operand) in wide for operand in instruction.operands) else 32)
 
     def make_refusal(self, cause: str) -> Refused:
-        """Returns why the instruction is not converted."""
+        """Returns the refusal of the instruction, with its cause."""
         return Refused(f"{cause}, and a word of lw has 32 bits", self.instruction.offset)
 
     def find_location(self, operand: Operand) -> str | None:
@@ -276,10 +276,10 @@ def follow_thread(thread: Thread, memory: Memory, wide: set[str]) -> Registers:
 
 
 class Widths:
-    """The ranges of all registers and locations of a test. A test is refused if some word may not fit."""
+    """The ranges of all registers and locations of a test, each the least and the greatest word."""
 
     def __init__(self, frame: Frame, codes: list[list[Instruction]]) -> None:
-        """Finds the ranges of a test's words, and refuses the test if some may not fit."""
+        """Finds the ranges of a test's words. Raises Refused if one may not fit."""
         self.frame = frame
         self.threads = [self.make_thread(number, code) for number, code in enumerate(codes)]
         self.check_sizes()
@@ -301,7 +301,7 @@ class Widths:
         return Thread(code, addresses, registers)
 
     def check_sizes(self) -> None:
-        """Checks that no location of 32 bits is accessed by 64."""
+        """Raises Refused if an instruction accesses a location of 32 bits by 64."""
         narrow = {it.site.location for it in self.frame.entries if isinstance(it.site, LocationSite) and it.bits == 32}
         for thread in self.threads:
             for instruction, name in thread.list_accesses():
@@ -309,7 +309,9 @@ class Widths:
                     raise Refused(f"it accesses 64 bits of '{name}', whose type has 32", instruction.offset)
 
     def compute_ranges(self) -> tuple[Words, list[Registers]]:
-        """Returns the ranges of all locations, and of each thread's registers at its end."""
+        """Returns the ranges of all locations, and of each thread's registers at its end: in each round the threads find what the others stored in
+        the round before, until nothing changes. Raises Refused if a word may not fit.
+        """
         values = {it.site.location: it.value for it in self.frame.entries if isinstance(it.site, LocationSite)}
         initial = {name: (it.word, it.word) for name, it in values.items() if isinstance(it, Number)}
         seen = [initial] * len(self.threads)
@@ -322,7 +324,9 @@ class Widths:
         return self.merge_words(initial, memories), ends
 
     def run_round(self, seen: list[Words], seen_by_updates: list[Words]) -> tuple[list[Memory], list[Registers]]:
-        """Returns the stores of each thread, and its registers at its end, if it reads some words of others."""
+        """Returns the stores of each thread, and its registers at its end, if it finds some words of the others: `seen`, or by an instruction that
+        loads and stores `seen_by_updates`.
+        """
         memories = [Memory(*words) for words in zip(seen, seen_by_updates)]
         return memories, [follow_thread(thread, memory, self.wide) for thread, memory in zip(self.threads, memories)]
 
@@ -341,7 +345,7 @@ class Widths:
         return self.ends[site.thread].get(site.register, (0, 0))
 
     def check_negatives(self) -> None:
-        """Checks that each negative number means the same in 32 and in 64 bits."""
+        """Raises Refused if a negative number does not mean the same in 32 and in 64 bits."""
         for negative in self.frame.negatives:
             is_wide = negative.site.location in self.wide if isinstance(negative.site, LocationSite) else negative.bits == 64
             if not is_wide or negative.is_initial and isinstance(negative.site, RegisterSite):
@@ -360,7 +364,7 @@ class Widths:
         return "write it modulo 2 to the 32" + (", or the register by its name of 32 bits" if is_register else "")
 
     def check_observed(self) -> None:
-        """Checks that each register that the condition mentions has a word of 32 bits at the end."""
+        """Raises Refused if an observed register may have a word at the end that does not fit into 32 bits."""
         for site, offset in [*self.frame.listed, *self.frame.condition_sites]:
             if self.find_range(site) is None:
                 assert isinstance(site, RegisterSite)  # a location always has a range

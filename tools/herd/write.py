@@ -66,14 +66,16 @@ def rename_registers(text: str, form: str) -> str:
 
 
 def check_names(test: Test) -> None:
-    """Checks that no location has a name that herd's form gives to something else."""
+    """Raises Fault if a location has a name that herd's form gives to something else."""
     for name in test.locations:
         if register_named(name) or name.upper() in INSTRUCTION_POINTERS or name in TYPES:
             raise given.Fault(f"the location '{name}' has a name that is a register's or a type's in herd's form: name it otherwise", 0)
 
 
-def write_herd_text(test: Test, form: str) -> str:
-    """Returns a test in herd's form. It says the same as the test's canonical text."""
+def format_herd_text(test: Test, form: str) -> str:
+    """Returns a test in herd's form, which says the same as the test's canonical text. Raises Fault if a location has a name that herd's form gives
+    to something else.
+    """
     check_names(test)
     columns = [[f"P{number}", *format_cells(test, code, form)] for number, code in enumerate(test.threads)]
     widths = [max(len(cell) for cell in column) for column in columns]
@@ -92,7 +94,7 @@ def write_herd_text(test: Test, form: str) -> str:
     return rename_registers(plain.join_lines(lines), form)
 
 
-def write_herd_report(report: str, form: str) -> str:
+def format_herd_report(report: str, form: str) -> str:
     """Returns a report of lw in the lines of a log of herd's: with a line `Witnesses`, and a line of time, which is 0. Raises ValueError if the text
     is no report.
     """

@@ -14,7 +14,7 @@ if TYPE_CHECKING:
 
 
 def read_lists_and_log(answers: list[FileAnswer], name: str) -> tuple[ListedTests, dict[str, set[State]]]:
-    """Returns the states of each test that is listed here, and those of each test in the log of a name."""
+    """Returns the states of each test that is listed here, and the states of each test in the log at a path."""
     from shared import logs
 
     texts, converted = [], [it for it in answers if it.row.converted is not None]
@@ -26,7 +26,7 @@ def read_lists_and_log(answers: list[FileAnswer], name: str) -> tuple[ListedTest
     for answer in converted:
         logs.add_converted(lists, answer.report, answer.tests, answer.tries)
     with open(name, encoding="utf-8", errors="replace") as file:
-        return lists, logs.read_states(file)
+        return lists, logs.parse_states(file)
 
 
 def report_differences(answers: list[FileAnswer], name: str) -> int:

@@ -43,17 +43,18 @@ class Clock:
     """Measures the processor time of this process, and of those that it started and that have ended."""
 
     def __init__(self) -> None:
-        self.begin = self.read_time()
+        """Starts the clock."""
+        self.begin = self.measure_time()
 
     @staticmethod
-    def read_time() -> float:
-        """Returns the processor time so far."""
+    def measure_time() -> float:
+        """Returns the processor time of this process so far, and of those that it started and that have ended."""
         used = os.times()
         return time.process_time() + used.children_user + used.children_system
 
     def measure_seconds(self) -> float:
         """Returns the processor time since the start."""
-        return self.read_time() - self.begin
+        return self.measure_time() - self.begin
 
 
 def format_times(count: int) -> str:
@@ -73,7 +74,9 @@ def describe_no_run(tries: int) -> str:
 
 
 def answer_file(choices: Choices, job: tuple[str, spawn.Run | None]) -> rows.FileAnswer:
-    """Returns the answer of a file that lw does not read. A job is the file, and lw's run of it, or None of a program, which lw is not asked about."""
+    """Returns the answer of a file that lw does not read, by its conversion. The job is the file, and lw's run of it; of a program, which lw is not
+    asked about, `None`.
+    """
     file, run = job
     try:
         with open(file, "rb") as source_file:
@@ -109,6 +112,7 @@ def answer_test(file: str, text: str, choices: Choices, run: spawn.Run) -> rows.
     count = len(result.conversions)
     by = "from_herd.py" if count == 1 and not result.tries else "assume.py"
     description = f"{by}, {language}: {describe_tests(count, result.tries)}"
+    # The tests of all guesses are listed, and their reports merged.
     try:
         test_answers = collect_answers(result.conversions)
     except given.Fault as fault:
@@ -117,15 +121,16 @@ def answer_test(file: str, text: str, choices: Choices, run: spawn.Run) -> rows.
     if answers.filter_state_lines(report):
         report = translate_report(report, result)
     else:
-        report = answers.format_no_verdict(result.conversions[0].question, describe_no_run(choices.tries))
+        report = answers.format_no_verdict(result.conversions[0].unmarked, describe_no_run(choices.tries))
     row = rows.make_row(file, report, clock.measure_seconds(), choose_method(it.by for it in test_answers))
-    tests = [(from_herd.write_converted_text(result, it), answer.text) for it, answer in zip(result.conversions, test_answers)]
+    tests = [(from_herd.format_converted_text(result, it), answer.text) for it, answer in zip(result.conversions, test_answers)]
     return rows.FileAnswer(row._replace(converted=description, notes=list(notes)), report, tests, result.tries)
 
 
 def choose_fault(file: str, text: str, run: spawn.Run, lw_offset: int, fault: given.Fault) -> str:
-    """Returns the line of what is wrong in a text that neither lw, at a place, nor tools/from_herd.py takes: of the two, what the one says that
-    reads further, and what both say if they end in one line and differ."""
+    """Returns the line on a text that lw does not read, at `lw_offset`, and that is not converted from herd's form, because of `fault`: that of the
+    reader that comes to a later line. Of one line both are in it, if they differ.
+    """
     try:
         is_x86 = parse_heading(text)[0] == "X86"
     except given.Fault:
@@ -160,6 +165,7 @@ def answer_program(file: str, text: str, choices: Choices) -> rows.FileAnswer:
         return rows.FileAnswer(row._replace(converted=description), report, [], choices.tries)
     except Refused as why:
         return rows.make_refusal(file, why.format_line(file), description)
+    # The row of a program with a report.
     tries = choices.tries if answer.bounded else 0
     report = answer.report if answer.has_run else from_c.format_no_run(source, describe_no_run(choices.tries))
     row = rows.make_row(file, report, clock.measure_seconds(), choose_method(answer.makers))

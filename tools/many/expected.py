@@ -39,7 +39,7 @@ def read_expectations(name: str) -> dict[str, str]:
 
 
 def is_met(row: rows.Row, word: str) -> bool:
-    """Returns whether a row has what a word says."""
+    """Returns whether a row has the verdict or the observation that a word says."""
     return row.verdict == word if word in VERDICTS else (row.observation or "").split(" ")[0] in OBSERVATIONS[word]
 
 
@@ -54,12 +54,13 @@ class Expected:
     """The expected verdicts of rows: those of a table, if there is one, and Ok for all others, if that is expected."""
 
     def __init__(self, name: str | None, is_ok_expected: bool, is_shard: bool = False) -> None:
+        """Reads the table at a path, if one is named. Raises NoTable if it is none."""
         self.name, self.others, self.is_shard = name, rows.AS_ASKED if is_ok_expected else None, is_shard
         self.table = read_expectations(name) if name else {}
         self.met_names: set[str] = set()
 
     def find_word(self, row: rows.Row) -> str | None:
-        """Returns the expected word for a row, or None."""
+        """Returns the expected word for a row. `None` if nothing is expected of it."""
         name = find_name(row, self.table)
         if name is None:
             return self.others

@@ -31,7 +31,7 @@ def is_program(file: str) -> bool:
 
 
 def parse_shard(text: str) -> Shard | None:
-    """Reads `I/N`. Returns `None` if the text is no shard."""
+    """Returns the shard of a text `I/N`. `None` if the text is no shard."""
     number, slash, of = text.partition("/")
     is_number = slash and all(it.isascii() and it.isdigit() for it in (number, of))
     return Shard(int(number), int(of)) if is_number and 1 <= int(number) <= int(of) else None

@@ -54,7 +54,9 @@ def run_tests(files: list[str], report: Callable[[str], None]) -> list[tuple[spa
 def convert_and_answer(
     jobs: list[tuple[str, spawn.Run | None]], choices: Choices, report: Callable[[str], None]
 ) -> list[rows.FileAnswer]:
-    """Returns the answers of files that are converted before, side by side. A job is a file, and why lw refuses it, if it was asked."""
+    """Returns the answers of files that are converted first, in parallel. A job is a file, and lw's run of it, which says why lw refuses it; `None`
+    if lw was not asked.
+    """
     if not jobs:
         return []
     from concurrent.futures import ProcessPoolExecutor

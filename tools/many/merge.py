@@ -28,7 +28,7 @@ def is_row(value: Any) -> bool:
 
 
 def check_shards(rows: list[dict]) -> None:
-    """Checks that the rows of shards are all rows of all shards of one split."""
+    """Raises NoTable unless the rows of shards are all rows of all shards of one split."""
     splits = {(it["part"].partition("/")[2], it["parts"]) for it in rows if "part" in it}
     if not splits:
         return
@@ -42,7 +42,7 @@ def check_shards(rows: list[dict]) -> None:
 
 
 def merge_tables(names: list[str]) -> list[Row]:
-    """Returns the rows of several tables of JSON, sorted by their files. Refuses tables that are incomplete, or have a file twice."""
+    """Returns the rows of several tables of JSON, sorted by their files. Raises NoTable if a table is none or incomplete, or a file is in two."""
     tables = [(name, row) for name in names for row in read_table(name)]
     file_of_part: Dict[str, str] = {}
     for name, row in tables:

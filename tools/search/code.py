@@ -64,7 +64,9 @@ class Code:
         return bool(state.buffer) and self.statements[state.position].kind in ("mfence", "xchg", "xadd")
 
     def run_locally(self, state: ThreadState) -> tuple[ThreadState, int]:
-        """Runs the thread as long as nothing outside it is involved. Returns its state then, and the number of statements executed."""
+        """Runs the thread as long as nothing outside it is involved. Returns its state then, with 0 in place of what no longer matters, and the number of
+        statements executed.
+        """
         steps = 0
         while state.position < self.end:
             statement = self.statements[state.position]

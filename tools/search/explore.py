@@ -1,4 +1,4 @@
-"""The search: all reachable states of a test, without duplicates, the nearest first, with the way to each.
+"""The search for the final states of a test: through its states, without duplicates, the nearest first, with the way to each.
 
 A thread whose next event no other thread can notice or disturb any more executes it at once, and nothing else is explored from there: a
 step or a drain of a location that no other thread may still read or write, or a load of one that no other may still write. Every final
@@ -48,14 +48,14 @@ class Search:
         self.memories: dict[tuple[int, ...], int] = {test.words: 0}
         self.stored: dict[tuple[int, int, int], int] = {}  # the memory after another one, a location, and a word that is stored there
         start = (0, *(thread.start for thread in self.threads))
-        self.numbers: dict[State, int] = {start: 0}
+        self.indices: dict[State, int] = {start: 0}
         self.states: list[State] = [start]
         # For each state, except the start, the index of the state before it, and of the move between them the thread, the kind, and the number of
         # statements executed.
         self.origins: list[tuple[int, int, int, int]] = [(0, 0, STEP, 0)]
 
     def replace_word(self, memory: int, location: int, word: int) -> int:
-        """Returns the index of the memory that differs from another by the word of a location."""
+        """Returns the index of the memory that differs from another by the word of a location. Adds this memory if it is new."""
         key = (memory, location, word)
         after = self.stored.get(key)
         if after is None:
@@ -99,8 +99,8 @@ class Search:
                 yield index, self.make_step(self.threads[index], node, words)
 
     def find_independent_move(self, index: int, node: ThreadNode, words: tuple[int, ...], reads: int, writes: int) -> Move | None:
-        """Returns a move of a thread that no other can notice or disturb, if it has one. `reads` and `writes` are the locations that the others may
-        still access, a bit each. `None` if it has none.
+        """Returns a move of the thread at `index` that no other thread can notice or disturb. `reads` and `writes` are the locations that the others
+        may still access, a bit each. `None` if it has no such move.
         """
         if node.drain and not (reads | writes) >> node.drain[0] & 1:
             return make_drain(node)
@@ -110,7 +110,9 @@ class Search:
         return None if watched >> node.location & 1 else self.make_step(self.threads[index], node, words)
 
     def explore(self, max_states: int, report: Callable[[int, int], None]) -> SearchResult:
-        """Explores at most `max_states` states. Calls `report` from time to time with the numbers of the explored and of the known states."""
+        """Explores at most `max_states` states. Calls `report` from time to time with the numbers of explored and of found states. Returns a schedule
+        to each final state, whether all states were explored, and how many were found.
+        """
         explored = 0
         finals: dict[tuple[int, ...], int] = {}
         observed = plain.list_observed_sites(self.test)
@@ -120,8 +122,8 @@ class Search:
                 is_end = False
                 memory = state[0] if location < 0 else self.replace_word(state[0], location, word)
                 after = (memory, *state[1 : thread + 1], node, *state[thread + 2 :])
-                if after not in self.numbers:
-                    self.numbers[after] = len(self.states)
+                if after not in self.indices:
+                    self.indices[after] = len(self.states)
                     self.states.append(after)
                     self.origins.append((explored, thread, kind, steps))
             if is_end:
@@ -139,7 +141,7 @@ class Search:
         return self.threads[site.thread].nodes[state[1 + site.thread]].state.registers[site.register]
 
     def make_schedule(self, number: int) -> str:
-        """Returns the schedule that reaches the state with this index."""
+        """Returns the schedule that reaches the state of an index."""
         parts: list[str] = []
         while number:
             number, thread, kind, steps = self.origins[number]

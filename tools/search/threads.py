@@ -38,20 +38,20 @@ class Thread:
     def __init__(self, test: Test, number: int) -> None:
         """Finds all nodes that a thread reaches from its start."""
         self.code = Code(test, number)
-        self.numbers: dict[ThreadState, int] = {}
+        self.indices: dict[ThreadState, int] = {}
         self.nodes: list[ThreadNode] = []
-        self.start, self.first_steps = self.find_end(ThreadState(0, test.registers[number], False, ()))
+        self.start, self.first_steps = self.add_end(ThreadState(0, test.registers[number], False, ()))
 
-    def find_end(self, state: ThreadState, steps: int = 0) -> End:
-        """Returns the index of the node at which a thread stops after running from a state, and the number of statements executed, added
-        to `steps`.
+    def add_end(self, state: ThreadState, steps: int = 0) -> End:
+        """Runs a thread from a state as far as it involves nothing outside it. Returns the index of the node of the state then, and `steps` increased by
+        the number of statements executed. A new node is added with its moves, and so, recursively, are all nodes that these reach.
         """
         state, local_steps = self.code.run_locally(state)
-        if state not in self.numbers:
-            self.numbers[state] = len(self.nodes)
+        if state not in self.indices:
+            self.indices[state] = len(self.nodes)
             self.nodes.append(ThreadNode(state, self.code))
             self.compute_moves(self.nodes[-1])
-        return self.numbers[state], steps + local_steps
+        return self.indices[state], steps + local_steps
 
     def compute_moves(self, node: ThreadNode) -> None:
         """Computes the moves of a node, and the nodes that they reach. The end of a load or an exchange depends on the word that it finds: `finish_read`
@@ -59,7 +59,7 @@ class Thread:
         state = node.state
         if state.buffer:
             location, word = state.buffer[0]
-            node.drain = (location, word, *self.find_end(state._replace(buffer=state.buffer[1:])))
+            node.drain = (location, word, *self.add_end(state._replace(buffer=state.buffer[1:])))
         if state.position == self.code.end or self.code.waits(state):
             return
         statement = self.code.statements[state.position]
@@ -68,15 +68,15 @@ class Thread:
             own_words = [word for location, word in state.buffer if location == statement.location]
             node.kind = FORWARD if own_words else LOAD
             if own_words:
-                node.end = self.find_end(self.make_end(state, statement.register, own_words[-1]), 1)
+                node.end = self.add_end(self.make_end(state, statement.register, own_words[-1]), 1)
         elif statement.kind == "store":
             node.kind, node.word = STORE, read_value(statement.value, state.registers)
-            node.end = self.find_end(state._replace(position=state.position + 1), 1)
+            node.end = self.add_end(state._replace(position=state.position + 1), 1)
         else:
             node.kind = EXCHANGE
 
     def make_end(self, state: ThreadState, register: int, word: int, zero: bool | None = None) -> ThreadState:
-        """Returns the state after a statement that gives a word to a register, and sets the zero flag if it is passed."""
+        """Returns the state after a statement that puts a word into a register, and sets the zero flag to `zero` unless that is `None`."""
         registers = state.registers[:register] + (word,) + state.registers[register + 1 :]
         return ThreadState(state.position + 1, registers, state.zero if zero is None else zero, state.buffer)
 
@@ -88,6 +88,6 @@ class Thread:
             operand = read_value(statement.value, state.registers) if statement.value else state.registers[statement.register]
             new = operand if statement.kind in ("xchg", "swap") else (word + operand) % WORD
             zero = new == 0 if statement.kind == "xadd" else None
-        end = (new, *self.find_end(self.make_end(state, statement.register, word, zero), 1))
+        end = (new, *self.add_end(self.make_end(state, statement.register, word, zero), 1))
         node.ends[word] = end
         return end

@@ -83,8 +83,8 @@ LINKS = {"WR": (("Rfe",), ("Coe", "Rfe")), "WW": (("Coe",),), "RW": (("Fre",),),
 
 
 def list_critical_cycles(max_edges: int, max_threads: int, orders: tuple[str, ...] = ("Pod",)) -> Iterator[tuple[str, ...]]:
-    """Yields all critical cycles of at most this number of edges and threads, without duplicates. `orders` are the edges within a thread,
-    without letters.
+    """Yields all critical cycles of at most `max_edges` edges and `max_threads` threads, without duplicates. `orders` are the names of the edges
+    within a thread, without their letters.
     """
     seen = set()
     for pairs in range(2, max_threads + 1):

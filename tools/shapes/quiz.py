@@ -32,7 +32,7 @@ def find_level(names: tuple[str, ...]) -> int:
 
 
 def insert_own_loads(names: tuple[str, ...], random: Random) -> tuple[str, ...]:
-    """Returns a cycle in which some threads load what they stored before they continue."""
+    """Returns the names of a cycle in which some threads load what they stored before they continue."""
     changed: list[str] = []
     for name in names:
         is_changed = name.startswith("PodW") and random.random() < 0.4
@@ -41,7 +41,7 @@ def insert_own_loads(names: tuple[str, ...], random: Random) -> tuple[str, ...]:
 
 
 def make_pool(random: Random) -> list[list[tuple[str, ...]]]:
-    """Returns cycles of no family of docs/FAMILIES.md, by level, in a random order."""
+    """Returns, for each level, the cycles of no family of docs/FAMILIES.md, in a random order."""
     known = set(FAMILIES.values())
     pool: list[list[tuple[str, ...]]] = [[] for _ in LEVELS]
     for names in list_critical_cycles(MAX_EDGES, 4, ("Pod", "MFenced")):
@@ -54,14 +54,14 @@ def make_pool(random: Random) -> list[list[tuple[str, ...]]]:
     return pool
 
 
-def rotate_at_random(shape_names: tuple[str, ...], random: Random) -> Shape:
-    """Returns a cycle's shape, started at some edge, so that its threads are in another order."""
-    first = random.randrange(len(shape_names))
-    return make_shape(make_cycle(list(shape_names[first:] + shape_names[:first])))
+def rotate_at_random(names: tuple[str, ...], random: Random) -> Shape:
+    """Returns the shape of a cycle of named edges, read from a random edge on, so that its threads come in another order."""
+    first = random.randrange(len(names))
+    return make_shape(make_cycle(list(names[first:] + names[:first])))
 
 
 def rename_locations(text: str, random: Random) -> str:
-    """Returns a test's text with other names for its locations."""
+    """Returns a test's text with random names for its locations, and without the note that names its cycle."""
     letters = random.sample("abcdfghjkmpquvw", 8)
     table = {old: new for old, new in zip("stuvwxyz", letters)}
     heading, notes, *rest = text.split("\n")
@@ -75,7 +75,7 @@ def is_whole_word(line: str, index: int) -> bool:
 
 
 def make_question(names: tuple[str, ...], number: int, random: Random) -> Question:
-    """Returns a question of a cycle."""
+    """Returns the question of a cycle, whose test is called `quizNUMBER`."""
     shape = rotate_at_random(names, random)
     text = rename_locations(format_test(shape, f"quiz{number}", X86), random)
     test = plain.read_test(text)
@@ -85,7 +85,7 @@ def make_question(names: tuple[str, ...], number: int, random: Random) -> Questi
 
 
 def take_question(cycles: list[tuple[str, ...]], is_allowed: bool, number: int, random: Random) -> Question:
-    """Returns a question of the next cycle with the wanted answer, or of the next one if there is none; the cycle is removed."""
+    """Removes a cycle, and returns its question: the first whose answer is likely the wanted one, or else the first."""
     index = next((index for index, names in enumerate(cycles) if bool(list_unpreserved_edges(list(names))) == is_allowed), 0)
     return make_question(cycles.pop(index), number, random)
 

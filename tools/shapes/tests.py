@@ -57,7 +57,9 @@ def make_shape(edges: list[Edge]) -> Shape:
 
 
 def assign_locations(accesses: list[Access], edges: list[Edge], places: int) -> None:
-    """Assigns locations. The last edge to another location goes back to the first location. Raises NoCycle if there are more than eight."""
+    """Replaces the number of each access's location by a name; `places` is the number of locations. The last edge to another location goes back to
+    the first. Raises NoCycle if there are more than eight.
+    """
     if places > 8:
         raise NoCycle("the cycle has more than eight locations, and lw has eight at most")
     names = "stuvwxyz"[-places:] if places > 2 else "xy"
@@ -66,8 +68,11 @@ def assign_locations(accesses: list[Access], edges: list[Edge], places: int) -> 
 
 
 def assign_words(shape: Shape) -> None:
-    """Assigns words to stores and loads: each store to a location has the next number. Raises NoCycle if a test could not ask for them."""
+    """Sets the word of each access, the register of each load, and the number of stores to each location. Each store to a location has the next
+    number. Raises NoCycle if a condition could not ask for the cycle, or a thread has too many loads.
+    """
     edges, accesses = shape.edges, shape.accesses
+    # From each edge to another location, the accesses of one location: a store has the next word, a load the one before it.
     starts = [index for index in range(len(edges)) if not edges[index - 1].is_same_location]
     for begin in starts:
         index, count = begin, 0
@@ -81,6 +86,7 @@ def assign_words(shape: Shape) -> None:
         shape.stores[access.location] = count
         if count > 2:
             raise NoCycle(f"the location {access.location} has more than two stores, and its last word does not tell their order")
+    # The registers of each thread's loads, in their order.
     loads: dict[int, int] = {}
     for access in accesses:
         if access.kind == "R":
