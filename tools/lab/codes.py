@@ -90,6 +90,7 @@ class Digits:
     """The digits of a number, one after another."""
 
     def __init__(self, number: int) -> None:
+        """Starts at the least digit of a number."""
         self.rest = number
 
     def take_digit(self, base: int) -> int:

@@ -73,6 +73,7 @@ class Renderer:
     """Renders blocks as HTML. A link leads to what `links` has for its target, in a tab of its own."""
 
     def __init__(self, links: dict[str, str] | None = None) -> None:
+        """Makes a renderer; without `links` no link leads anywhere."""
         self.links = links or {}
 
     def render_body(self, text: str) -> str:

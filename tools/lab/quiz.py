@@ -106,7 +106,7 @@ def is_possible(text: str, report: Report) -> bool:
 
 
 def list_other_ends(text: str) -> list[str]:
-    """Returns the texts of the test with one word of its condition changed, in all ways."""
+    """Returns the texts of a test that have one word of its condition changed."""
     front, asks, question = text.rpartition("exists")
     other_ends = []
     for digit in WORD.finditer(question):
@@ -120,7 +120,7 @@ def ask_test(text: str, report: Report) -> QuizTest:
 
 
 def make_possible_by_interleaving(text: str, random: Random, report: Report) -> QuizTest:
-    """Returns the test with another end, which is possible by interleaving; unchanged, if there is none."""
+    """Returns a test with a random other end that is possible by interleaving, and its verdicts; with its own end if there is no such end."""
     others = list_other_ends(text)
     random.shuffle(others)
     for other_test in (ask_test(other, report) for other in others):
@@ -147,7 +147,7 @@ def make_tests(count: int, seed: str, report: Report) -> list[QuizTest]:
 
 
 def hash_text(text: str) -> int:
-    """Returns a number of five bits that a text gives, by which its answer is hidden."""
+    """Returns a number of five bits that depends on a text. With it the answer to the text's test is hidden."""
     state = 2166136261
     for byte in text.encode():
         state = (state ^ byte) * 16777619 % 2**32
@@ -155,7 +155,7 @@ def hash_text(text: str) -> int:
 
 
 def scramble(content: bytes, text: str) -> bytes:
-    """Returns bytes, hidden by those that a text gives. Of hidden bytes it returns the original ones."""
+    """Returns bytes, each combined with one that depends on `text`. Twice gives the original bytes."""
     state = 2166136261
     for byte in text.encode():
         state = (state ^ byte) * 16777619 % 2**32
@@ -172,8 +172,8 @@ def hide_reason(seed: str, text: str) -> str:
     return base64.urlsafe_b64encode(scramble(reasons_text.encode(), f"why {seed}{text}")).decode()
 
 
-def read_reasons(data: Data) -> list[list[reasons.Reason]]:
-    """Returns the reasons of a page's tests: of each that by interleaving and that on x86."""
+def parse_reasons(data: Data) -> list[list[reasons.Reason]]:
+    """Returns the reasons that a page's data hide: for each test that by interleaving and that on x86."""
     texts = (scramble(base64.urlsafe_b64decode(it), f"why {data['seed']}{text}") for text, it in zip(data["tests"], data["reasons"]))
     return [json.loads(it) for it in texts]
 
@@ -190,6 +190,6 @@ def make_data(seed: str, tests: list[QuizTest]) -> Data:
     return {"seed": seed, "mark": hash_tests(texts, seed), "hidden": hidden, "tests": texts, "reasons": [hide_reason(seed, it) for it in texts]}
 
 
-def read_answers(data: Data) -> list[int]:
-    """Returns the right answers of a page's tests."""
+def parse_answers(data: Data) -> list[int]:
+    """Returns the right answers that a page's data hide, for each test as a code has it."""
     return [(hash_text(data["seed"] + text) ^ SYMBOLS.index(symbol)) & 3 for text, symbol in zip(data["tests"], data["hidden"])]

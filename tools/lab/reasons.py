@@ -23,7 +23,7 @@ Reason = Dict[str, Union[str, List[str]]]
 
 
 def list_asked_schedules(test: plain.Test, start: Callable[[plain.Test], State], moves: Moves) -> list[str]:
-    """Returns the schedules to the states in which a test's condition holds, the shortest first."""
+    """Returns a schedule to each outcome in which a test's condition holds, the shortest first. `moves` yields the successors of a state."""
     finals, origins = plain.explore_states(test, start(test), moves)
     holding = [state for outcome, state in finals.items() if plain.is_true_in(test.proposition, outcome)]
     return sorted((plain.make_schedule(it, origins) for it in holding), key=lambda it: (len(it), it))
@@ -38,8 +38,8 @@ def describe_steps(test: plain.Test, schedule: str) -> list[str]:
 
 
 def find_shortest_cycle(test: plain.Test, find: Callable[[executions.Execution], Optional[Sequence[executions.Edge]]]) -> list[str]:
-    """Returns the events of the shortest cycle that `find` returns of an execution in which the condition holds. It returns one of each such
-    execution, since no run ends this way.
+    """Returns the events, in words, of the shortest cycle that `find` returns of an execution in which the condition holds. It has to return one of
+    each: no run ends this way.
     """
     cycles = []
     for execution in executions.list_candidates(test, MAX_CANDIDATES):

@@ -81,6 +81,7 @@ class Sheet(markdown.Renderer):
     """Renders the sheet: the tests in place of a line that names them, and room for an answer after each item that no table follows."""
 
     def __init__(self, tests: dict[str, str], site: str | None) -> None:
+        """Makes a renderer of the sheet: `tests` are the tests by their names, `site` is the address of the page, if there is one."""
         super().__init__(GIVEN_OUT)
         self.tests, self.site = tests, site
 

@@ -60,8 +60,8 @@ def read_library_version() -> str:
 
 
 def read_origin() -> Origin:
-    """Returns the origin of the sources. They have to be those of the commit."""
-    commit = pack.read_commit()
+    """Returns the origin of the sources. Raises NoPack if they are not those of the commit."""
+    commit = pack.find_commit()
     seconds = int(pack.capture_lines("git", "show", "-s", "--format=%ct", commit)[0])
     return Origin(commit, seconds, " ".join(pack.capture_lines("rt", "version")), pack.describe_gate())
 
@@ -116,7 +116,7 @@ def make_warning(origin: Origin, has_beyond: bool) -> list[str]:
 
 
 def write_file(folder: str, name: str, content: bytes) -> str:
-    """Writes a file under another name first, so that none is there by half. Returns its path."""
+    """Writes a file, under another name first, so that no half of one is left. Returns its path."""
     os.makedirs(folder, exist_ok=True)
     path = os.path.join(folder, name)
     with open(f"{path}.new", "wb") as file:

@@ -45,7 +45,7 @@ def listen(ports: Sequence[int]) -> socket.socket | None:
 
 
 def parse_port(word: str) -> int:
-    """Reads the number of a port. Raises ArgumentTypeError if it is none."""
+    """Returns the number of a port. Raises ArgumentTypeError if the word is none."""
     if not (re.fullmatch(r"[0-9]{1,5}", word) and 0 < int(word) < 65536):
         raise argparse.ArgumentTypeError(f"'{word}' is no port from 1 to 65535")
     return int(word)

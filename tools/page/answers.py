@@ -54,7 +54,7 @@ class ListedStates(NamedTuple):
 
 
 def read_text(view: View) -> str:
-    """Returns the text of the test that a link to the page opens."""
+    """Returns the text of the test that a link to the page opens: its own, or that of its example."""
     if "text" in view.fields:
         return view.fields["text"]
     with open(f"{HOME}/examples/{view.fields['example']}.litmus", encoding="utf-8") as file:
@@ -94,8 +94,8 @@ def render_code_words(sentence: str) -> str:
     return re.sub(r"`([^`]*)`", r"<code>\1</code>", escape(sentence, quote=False))
 
 
-def count_words(positive: int, count: int) -> str:
-    """Returns a sentence that says in how many states the condition holds."""
+def describe_count(positive: int, count: int) -> str:
+    """Returns the sentence that says in how many of `count` states the condition holds, of which `positive` is the number."""
     if count == 1:
         return f"The condition {'holds' if positive else 'does not hold'} in the only final state."
     holding = "all" if positive == count else f"{positive} of" if positive else "none of"
@@ -110,6 +110,7 @@ def draw_list(test: Test) -> str:
     positive = sum(holds for _, holds in listed.rows)
     kind, word, sentence = describe_verdict(test, positive, len(listed.rows))
     missing = find_missing(test, listed)
+    # A row for each observed name, with a column for each state, and one for the state that is missing.
     never = lambda text, tag="td": f'<{tag} class="never">{text}</{tag}>' if missing else ""
     mark = lambda holds: ' class="holds"' if holds else ""
     heads = "".join(f'<th scope="col"{mark(holds)}>{number}</th>' for number, (_, holds) in enumerate(listed.rows, 1))
@@ -123,7 +124,7 @@ def draw_list(test: Test) -> str:
     condition = escape(plain.format_condition(test), quote=False)
     return (
         f'<p class="verdict {kind}"><span aria-hidden="true">{SIGNS[kind]}</span> <strong>{word}</strong> {render_code_words(sentence)}</p>\n'
-        f"<p><code>{condition}</code> {count_words(positive, len(listed.rows))}</p>\n"
+        f"<p><code>{condition}</code> {describe_count(positive, len(listed.rows))}</p>\n"
         f'<div class="wide" tabindex="0">\n<table class="states">\n' + "".join(f"{it}\n" for it in rows) + "</table>\n</div>\n"
     )
 
@@ -279,7 +280,7 @@ def split_runs(lines: list[str]) -> list[Run]:
 
 
 def draw_command(command: str, output: list[str], view: View) -> str:
-    """Returns what a command on one test prints, as the page shows it; nothing if the page shows it in no other way."""
+    """Returns the output of a command on one test, as the page shows it. Empty if the page shows it in no other way."""
     refusals = [match[1] for match in map(REFUSAL.fullmatch, output) if match]
     if refusals:
         return "".join(f'<p class="refused"><strong>Refused.</strong> <code>{escape(it, quote=False)}</code></p>\n' for it in refusals)
@@ -301,14 +302,18 @@ def draw_command(command: str, output: list[str], view: View) -> str:
 
 
 def draw_runs(runs: list[Run], link: LinkMaker) -> str:
-    """Returns what the commands of a listing print, as the page shows it, with links to it; nothing if the page shows some of it in no other way."""
+    """Returns what the commands of a listing print, as the page shows it, with links to it. Empty if the page shows the output of some command in no
+    other way.
+    """
     views = [list(list_views(command)) for command, _ in runs]
     parts = [parse_parts(output) for _, output in runs]
+    # Replays of which only parts are printed are rows of one table.
     if all(parts) and all(len(it) == 1 for it in views):
         return draw_caches([(of_run[0], it) for of_run, it in zip(views, parts) if it], link)
     drawn = []
     for (command, output), of_command in zip(runs, views):
         lines = [it for it in output if not re.fullmatch(r"\[status \d+\]", it)]
+        # A command on several tests: their verdicts, or the ends of their runs.
         if len(of_command) > 1 and len(of_command) == len(lines) and all(map(OBSERVATION.fullmatch, lines)):
             drawn.append(draw_verdicts(list(zip(of_command, lines)), link))
             continue
@@ -317,6 +322,7 @@ def draw_runs(runs: list[Run], link: LinkMaker) -> str:
             continue
         if len(of_command) != 1:
             return ""
+        # A command on one test.
         view = of_command[0]
         links = f'<p class="open">{link(make_label(view), **view.fields)}{describe_schedule(view)}</p>\n'
         if "./lw schedules" in command:

@@ -56,8 +56,8 @@ def format_atom(name: str, atom: Atom) -> str:
 
 
 def describe_thread(test: Test, atoms: list[Atom]) -> str:
-    """Says what one thread does: its reads in the order of its code, and the words that it ends with. A register that several of its atoms name is no
-    read, since it has one word only.
+    """Returns what one thread does, in words: what it reads, in the order of its code, and the words that it ends with. A register that several atoms
+    name is no read, since it has one word only.
     """
     registers = [atom for atom in atoms if isinstance(atom.site, RegisterSite)]
     named_once = [atom for atom in registers if [it.site for it in registers].count(atom.site) == 1]
@@ -110,9 +110,12 @@ def describe_verdict(test: Test, positive: int, count: int) -> tuple[str, str, s
     """
     runs = " by interleaving" if test.language == "SRC" else ""
     words = describe_condition(test) or "the condition holds"
+    none = f"There is no run{runs} in which {words}"
     if test.quantifier == "forall":
-        return ("yes", "Always.", f"In every run{runs} {words}.") if positive == count else ("no", "Not always.", f"Not in every run{runs} {words}.")
+        if positive == count:
+            return "yes", "Always.", f"In every run{runs} {words}."
+        return ("no", "Not always.", f"Not in every run{runs} {words}.") if positive else ("no", "Never.", f"{none}; the test requires that of every run.")
     if not positive:
-        return "no", "Forbidden.", f"There is no run{runs} in which {words}."
+        return "no", "Forbidden.", f"{none}."
     some = f"There is a run{runs} in which {words}"
     return ("wrong", "Allowed.", f"{some}; the test forbids that.") if test.quantifier == "~exists" else ("can", "Allowed.", f"{some}.")

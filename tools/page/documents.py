@@ -15,7 +15,7 @@ from lab import markdown, sheets
 from lab.tests import make_tests, read_file
 from page import answers
 from page.commands import EXAMPLE, is_example, list_views
-from page.origin import describe_origin, read_origin
+from page.origin import About, Archive
 
 
 class Document(NamedTuple):
@@ -64,12 +64,13 @@ UNFOLD = "</details>\n"
 STYLE, SCRIPT = "reading.css", "reading.js"
 # The site's words on the links above commands, at the start of a document, and on the commands themselves, at its end.
 OPEN_NOTE = "You need nothing installed: a link with ▸ does on this site's page what the command below it does, with the same test or run."
-COMMAND_NOTE = "The commands themselves are for readers who have lw's repository."
+COMMAND_NOTE = "The commands themselves are for readers who have {tools}."
 # The site's words at the start of a walk.
 WALK_NOTE = (
     "You need nothing installed. A link with ▸ opens on lw's page what is shown below it. <em>In a shell</em> unfolds the command that prints the same, "
-    "for readers who have lw's repository."
+    "for readers who have {tools}."
 )
+REPOSITORY = "lw's repository"
 # The tags of links, of which none may be within another.
 WITHIN = re.compile(r"</?a\b[^>]*>")
 NAMED = re.compile(r"(?:docs/)?\b([A-Z][A-Z-]+\.md)\b")
@@ -232,11 +233,21 @@ def make_contents(headings: list[str], renderer: markdown.Renderer) -> str:
     return f'<nav class="contents" aria-label="On this page">\n<ul>\n{items}</ul>\n</nav>\n'
 
 
-def make_next_link(file: str) -> str:
-    """Returns a link to the document after this one."""
+def describe_tools(archive: Archive | None) -> str:
+    """Returns words on what has the programs and the tools: the archive that a site carries, with a link to it, or the repository."""
+    if archive is None:
+        return REPOSITORY
+    return f'<a href="{escape(archive.file)}" download>lw\'s archive</a> ({archive.size}, for Linux on x86-64 with Python)'
+
+
+def make_next_link(file: str, origin: str) -> str:
+    """Returns a link to the document after this one, and the words on the site's origin."""
     names = list(DOCUMENTS)
     after = names[(names.index(file) + 1) % len(names)]
-    return f'<p class="next">Next: <a href="{after}">{DOCUMENTS[after].title}</a>, {DOCUMENTS[after].about}. Or <a href="index.html" target="lw">run a test</a>.</p>\n' + f'<p class="origin">{escape(describe_origin(read_origin()))}</p>\n'
+    return (
+        f'<p class="next">Next: <a href="{after}">{DOCUMENTS[after].title}</a>, {DOCUMENTS[after].about}. Or <a href="index.html" target="lw">run a test</a>.'
+        f'</p>\n<p class="origin">{escape(origin)}</p>\n'
+    )
 
 
 def make_preparation(has_slides: bool) -> str:
@@ -266,14 +277,15 @@ def make_preparation(has_slides: bool) -> str:
     return f'<div class="note">\n<p>All that you need is on this site:</p>\n<ol>\n{items}</ol>\n<p>{answers_note}</p>\n</div>\n'
 
 
-def make_page(file: str, tests: dict[str, str], policy: str, has_slides: bool) -> str:
+def make_page(file: str, tests: dict[str, str], policy: str, about: About, has_slides: bool) -> str:
     """Returns a document of a site as a page."""
     heading, _, text = read_file(f"docs/{DOCUMENTS[file].source}.md").partition("\n")
     is_walk = file in WALKS
     title, renderer = heading.lstrip("# "), SiteRenderer(tests, 1 if file == SHAPES else 2, is_walk)
     body = renderer.render_body(text)
     notes = (WALK_NOTE if is_walk else OPEN_NOTE, "" if is_walk else COMMAND_NOTE)
-    open_note, command_note = (f'<p class="note">{it}</p>\n' if it and '<p class="open">' in body else "" for it in notes)
+    tools = describe_tools(about.archive)
+    open_note, command_note = (f'<p class="note">{it.format(tools=tools)}</p>\n' if it and '<p class="open">' in body else "" for it in notes)
     kind = ' class="card"' if file in CARDS else ""
     if file == "lab.html":
         body = PREPARATION.sub(lambda it: it[1] + make_preparation(has_slides), body, count=1)
@@ -281,23 +293,24 @@ def make_page(file: str, tests: dict[str, str], policy: str, has_slides: bool) -
         f'<!doctype html>\n<html lang="en">\n<head>\n<meta charset="utf-8">\n<meta name="viewport" content="width=device-width, initial-scale=1">\n'
         f'<title>{escape(title)}</title>\n<meta http-equiv="Content-Security-Policy" content="{policy}">\n<link rel="icon" href="icon.svg">\n'
         f'<link rel="stylesheet" href="{STYLE}">\n<script src="{SCRIPT}"></script>\n</head>\n<body{kind}>\n{make_navigation(file)}'
-        f'<main id="document" tabindex="-1">\n<h1>{escape(title)}</h1>\n{open_note}{make_contents(renderer.headings, renderer)}{body}{command_note}{make_next_link(file)}</main>\n</body>\n</html>\n'
+        f'<main id="document" tabindex="-1">\n<h1>{escape(title)}</h1>\n{open_note}{make_contents(renderer.headings, renderer)}{body}{command_note}{make_next_link(file, about.origin)}</main>\n</body>\n</html>\n'
     )
 
 
-def list_documents() -> list[list[str]]:
-    """Returns each document with what it is, as the page lists them, and the sheet of the lab after the lab."""
+def list_documents(has_slides: bool) -> list[list[str]]:
+    """Returns each document with what it is, as the page lists them, and after the lab its sheet, its slides if the site has them, and its quiz."""
     documents = [[file, f"{it.title}: {it.about}"] for file, it in DOCUMENTS.items()]
     after_lab = list(DOCUMENTS).index("lab.html") + 1
-    documents[after_lab:after_lab] = [[SHEET, "Sheet for students: the lab's items, to print"], [QUIZ, "Quiz: ten tests, with reasons"]]
+    slides = [[SLIDES, "Slides: for the lab's introduction"]] if has_slides else []
+    documents[after_lab:after_lab] = [[SHEET, "Sheet for students: the lab's items, to print"], *slides, [QUIZ, "Quiz: ten tests, with reasons"]]
     return documents
 
 
-def make_pages(policy: str, quiz: str, slides: str | None = None) -> dict[str, str]:
+def make_pages(policy: str, about: About, quiz: str, slides: str | None = None) -> dict[str, str]:
     """Returns the documents of a site, the sheet of the lab, its quiz, and its slides if there are some: for each file its text."""
     lab = read_file("docs/LAB.md")
     tests = make_tests(lab)
-    pages = {file: make_page(file, tests, policy, slides is not None) for file in DOCUMENTS}
+    pages = {file: make_page(file, tests, policy, about, slides is not None) for file in DOCUMENTS}
     pages[SHEET] = sheets.make_sheet(lab, tests, "index.html", is_of_site=True)
     pages[QUIZ] = quiz
     return pages if slides is None else {**pages, SLIDES: slides}

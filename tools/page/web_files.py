@@ -118,7 +118,9 @@ def make_example(name: str, shows: str, also: str) -> Example:
 
 
 def list_sentences() -> dict[str, str]:
-    """Returns what docs/FORMAT.md says of each fault, each limit and each event that is refused: by its kind and its code."""
+    """Returns what docs/FORMAT.md says of each fault, each limit and each event that is refused: by keys of its kind and its code, such as `cell 3` or
+    `end 5`.
+    """
     sentences_by_code, kind = {}, None
     for line in read_file("docs/FORMAT.md").splitlines():
         heading = re.match(r"\*\*(Text|Cell|Schedule) faults|\*\*(Limit)s|### (How a replay ends)", line)

@@ -100,7 +100,9 @@ class Runs:
             raise NoRun(500, f"The test was not run on this machine: {why}") from None
 
     def run_process(self, arguments: list[str], text: bytes, connection: socket.socket, places: threading.BoundedSemaphore) -> EndedRun:
-        """Runs a command on a text, once there is a place for it. Gone is raised if the connection is closed meanwhile."""
+        """Runs a command on a text, once there is a place for it. Raises Gone if the connection is closed meanwhile, and NoRun if there is no place
+        in time, or the run takes too long or prints too much.
+        """
         wait_for_place(places, connection)
         try:
             process = self.start_process(arguments)
@@ -247,5 +249,5 @@ class Communication:
 
 
 def make_too_long() -> NoRun:
-    """Returns the fault of a run that took too long."""
+    """Returns the exception for a run that took too long."""
     return NoRun(504, f"The run took longer than {MAX_SECONDS} seconds, and was ended.")

@@ -85,7 +85,7 @@ class Head:
     """The first lines of a request: the method, the path, and the fields that are used. The values of others are not read."""
 
     def __init__(self, text: str) -> None:
-        """Reads the head of a request, or refuses it."""
+        """Parses the head of a request. Raises Refusal if it is none, or has a field that is none."""
         first, *lines = text.split("\r\n")
         words = re.fullmatch(r"([A-Z]+) ([!-~]+) HTTP/1\.[01]", first)
         matches = [re.match(r"([!#$%&'*+.^_`|~0-9A-Za-z-]+):", line) for line in lines]
@@ -98,7 +98,7 @@ class Head:
             raise Refusal(400, "A field of the request has what it can't have.")
 
     def find_single_field(self, name: str) -> str | None:
-        """Returns the value of a field that appears once, else None."""
+        """Returns the value of a field that appears once. `None` if it does not appear, or more often."""
         values = [value for it, value in self.fields if it == name]
         return values[0] if len(values) == 1 else None
 
@@ -108,7 +108,7 @@ class Head:
 
 
 def check_head(head: Head, port: int) -> None:
-    """Refuses what is not for this server, and what has a body of unknown size."""
+    """Raises Refusal for a request to another server, of another method than GET and POST, or with a body of unknown size."""
     # Of the port of HTTP a browser says nothing.
     if head.find_single_field("host") not in (f"127.0.0.1:{port}", *(["127.0.0.1"] if port == 80 else [])):
         raise Refusal(403, f"The page is only at http://127.0.0.1:{port}/.")
@@ -121,7 +121,7 @@ def check_head(head: Head, port: int) -> None:
 
 
 def check_post(head: Head) -> int:
-    """Refuses what the page itself has not asked for. Returns the length of its body."""
+    """Returns the length of a request's body. Raises Refusal if the request is no question of the page itself."""
     if head.find_single_field("origin") != f"http://{head.find_single_field('host')}":
         raise Refusal(403, "Only the page itself may ask for runs.")
     if head.path not in ("/run", "/machine", "/current"):
@@ -158,8 +158,8 @@ def parse_run(body: bytes) -> tuple[list[str], bytes]:
 
 
 def parse_machine_run(body: bytes) -> tuple[bytes, int]:
-    """Returns the bytes of a text, and for how many seconds its test is run on this machine, that a body says. Refuses a test in herd's form of C,
-    which would be compiled.
+    """Returns the bytes of a text, and for how many seconds its test is run on this machine, that a body says. Raises Refusal for another number of
+    seconds, and for a test in herd's form of C, which would be compiled.
     """
     fields = parse_object(body, SHAPE_ON_MACHINE)
     if not 1 <= fields["seconds"] <= MAX_MACHINE_SECONDS:
@@ -191,7 +191,7 @@ def is_schedule(word: str) -> bool:
 
 
 def encode_text(text: str) -> bytes:
-    """Returns the bytes of a text, or refuses half of a pair of surrogates."""
+    """Returns the bytes of a text. Raises Refusal if it has half of a pair of surrogates."""
     try:
         return text.encode()
     except UnicodeEncodeError:
@@ -199,14 +199,14 @@ def encode_text(text: str) -> bytes:
 
 
 def make_object(pairs: list[tuple[str, object]]) -> dict[str, object]:
-    """Returns an object of JSON, whose keys must differ. Raises ValueError if they do not."""
+    """Returns an object of JSON, by its pairs of a key and a value. Raises ValueError if two keys are the same."""
     if len(dict(pairs)) != len(pairs):
         raise ValueError("a key is there twice")
     return dict(pairs)
 
 
 def refuse_number(word: str) -> NoReturn:
-    """Refuses `NaN` and the like, which Python takes for numbers."""
+    """Raises ValueError for `NaN` and the like, which Python's reader of JSON takes for numbers."""
     raise ValueError(word)
 
 
@@ -217,10 +217,11 @@ class Reader:
     """Reads from a connection, up to a point in time."""
 
     def __init__(self, connection: socket.socket) -> None:
+        """Starts to read from a connection, for MAX_SECONDS seconds."""
         self.connection, self.until, self.read = connection, time.monotonic() + MAX_SECONDS, b""
 
     def read_more(self) -> None:
-        """Reads some bytes more. Refuses a request that takes too long or ends too early."""
+        """Reads some more bytes. Raises Refusal if the request takes too long or ends too early."""
         remaining_seconds = self.until - time.monotonic()
         if remaining_seconds <= 0:
             raise Refusal(408, f"The request took longer than {MAX_SECONDS} seconds.")
@@ -272,7 +273,7 @@ class Places:
             self.asking[connection] = None
 
     def promise_run(self, connection: socket.socket) -> None:
-        """Promises a run to a connection, unless too many are promised. Raises NoRun then."""
+        """Promises a run to a connection. Raises NoRun if too many are promised, and Gone if the connection was cut off."""
         with self.lock:
             if len(self.running) >= MAX_POSTS:
                 raise NoRun(503, "Too many runs are asked for. Try again in a while.")
@@ -284,7 +285,7 @@ class Places:
             self.move_connection(connection, self.sending)
 
     def move_connection(self, connection: socket.socket, group: dict[socket.socket, None]) -> None:
-        """Moves a connection to another group. Gone is raised if it was cut off."""
+        """Moves a connection to another group. Raises Gone if it was cut off."""
         if connection not in self.asking and connection not in self.running:
             raise Gone
         self.asking.pop(connection, None)
@@ -346,7 +347,7 @@ class Server:
             self.places.remove_connection(connection)
 
     def make_answer(self, connection: socket.socket) -> tuple[int, str, bytes]:
-        """Returns the status, the kind of what is sent, and its bytes."""
+        """Returns the status, the type of the content, and its bytes."""
         try:
             reader = Reader(connection)
             head = reader.read_head()

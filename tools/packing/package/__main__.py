@@ -47,7 +47,7 @@ class Commands:
     """Each tool as a call without arguments: `Commands().from_c()`, for the scripts that pip makes."""
 
     def __getattr__(self, name: str) -> Callable[[], None]:
-        """Returns the call that runs a tool."""
+        """Returns the call that runs the tool of a name. Raises AttributeError if there is no such tool."""
         module = list_tools().get(name.replace("_", "-"))
         if module is None:
             raise AttributeError(name)
