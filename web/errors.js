@@ -1,15 +1,17 @@
 // Shows why there is no answer: a fault, with its place and the sentence of docs/FORMAT.md for it, or an error.
 
-import { button, byId, el, sentence } from "./dom.js";
-import { explainMissingRowEnd, hintOn } from "./faults.js";
+import { el, findById, makeButton, renderSentence } from "./dom.js";
+import { explainFault, explainMissingRowEnd } from "./faults.js";
+import { copy } from "./output.js";
 import { fold } from "./placing.js";
-import { documents, table } from "./supplies.js";
+import { documents, fetchTable } from "./supplies.js";
 
+// The sentences of docs/FORMAT.md, by the kind and the number of a cause, as `cell 2`.
 let sentences = {};
 
 /** Loads the sentences of docs/FORMAT.md. */
 export async function loadSentences() {
-  sentences = await table("sentences");
+  sentences = await fetchTable("sentences");
 }
 
 /**
@@ -18,7 +20,7 @@ export async function loadSentences() {
  * @param {number} number
  * @returns {string}
  */
-function sentenceOf(kind, number) {
+function findSentence(kind, number) {
   return sentences[`${kind} ${number}`] ?? "";
 }
 
@@ -28,10 +30,10 @@ function sentenceOf(kind, number) {
  * @param {{number: number}} refused
  * @returns {string}
  */
-export function refusalOf(event, { number }) {
+export function explainRefusal(event, { number }) {
   const [kind, thread] = event;
   const who = { P: `P${thread} can't go on`, D: `P${thread}'s buffer can't drain`, E: `P${thread}'s cache can't give up its line` }[kind];
-  return `${who}: ${sentenceOf("end", number)}.`;
+  return `${who}: ${findSentence("end", number)}.`;
 }
 
 /**
@@ -45,7 +47,7 @@ export function showError(answer, panel, editor) {
   if (editor.isAlone && isInText(fault)) {
     const { row } = showFaultInEditor(fault, editor);
     panel.append(el("p", { class: "no-answer" }, `No answer: line ${row} of the text has a fault.`));
-  } else panel.append(el("p", { class: "notice", role: "alert" }, fault ? faultWords(fault, editor.text) : errorWords(answer)));
+  } else panel.append(el("p", { class: "notice", role: "alert" }, fault ? [describeFault(fault, editor.text), makeFaultLine(fault)] : describeError(answer)));
 }
 
 /** Returns whether a fault is one of the text of a test. */
@@ -58,9 +60,9 @@ function isInText(fault) {
  * @param {{error: string, refused?: object}} answer
  * @returns {(Node | string)[]}
  */
-function errorWords({ error, refused }) {
-  if (!refused) return sentence(error);
-  return sentence(`Event ${refused.at + 1} of the schedule, \`${refused.event}\`, is refused. ${refusalOf(refused.event, refused)}`);
+function describeError({ error, refused }) {
+  if (!refused) return renderSentence(error);
+  return renderSentence(`Event ${refused.at + 1} of the schedule, \`${refused.event}\`, is refused. ${explainRefusal(refused.event, refused)}`);
 }
 
 // Why a list is refused, by the name of the limit.
@@ -69,20 +71,25 @@ const LIMITS = {
   TooManyOrders: "For n conflicts lw counts 2^n orders, and here these are more than 1,048,576",
 };
 
+/** Returns lw's own line on a fault, in a line of its own: it is no part of the sentence before it. */
+function makeFaultLine({ line }) {
+  return el("div", { class: "fault-line small" }, "As lw prints it: ", el("code", {}, line));
+}
+
 /**
- * Returns a fault in words: its place, what is wrong, and lw's own line. `hint` is the page's explanation of it.
+ * Returns a fault in words: its place, and what is wrong. `hint` is the page's explanation of it.
  * @param {Fault} fault
  * @param {string} text
  * @param {Hint} [hint]
  * @returns {(Node | string)[]}
  */
-function faultWords(fault, text, hint = isInText(fault) ? hintOn(fault, text) : {}) {
-  const line = el("code", { class: "fault-line" }, fault.line);
-  if (fault.kind === "limit") return [`The list could take too long, so it is refused. ${LIMITS[fault.name]}. `, line];
+function describeFault(fault, text, hint = isInText(fault) ? explainFault(fault, text) : {}) {
+  if (fault.kind === "limit") return [`The list could take too long, so it is refused. ${LIMITS[fault.name]}.`];
   const { row, column } = hint.at ?? fault;
   const place = row ? el("b", {}, `Line ${row}, column ${column}: `) : "";
-  const cause = hint.words ? sentence(`${hint.words} `) : fault.name ? [fault.name, ": ", sentence(sentenceOf(fault.kind, fault.number)), ". "] : [];
-  return [place, ...cause, ...(isInText(fault) && !hint.at ? sentence(explainMissingRowEnd(fault, text)) : []), line];
+  const named = fault.name ? [fault.name, ": ", renderSentence(findSentence(fault.kind, fault.number)), ". "] : [];
+  const cause = hint.words ? renderSentence(`${hint.words} `) : named;
+  return [place, ...cause, ...(isInText(fault) && !hint.at ? renderSentence(explainMissingRowEnd(fault, text)) : [])];
 }
 
 /**
@@ -92,18 +99,33 @@ function faultWords(fault, text, hint = isInText(fault) ? hintOn(fault, text) : 
  * @returns {{row: number}}
  */
 function showFaultInEditor(fault, editor) {
-  const hint = hintOn(fault, editor.text);
+  const hint = explainFault(fault, editor.text);
   const marked = { ...fault, ...hint.at };
-  const { change } = hint;
+  const { change, also, command } = hint;
   fold(false);
   editor.mark(marked);
   const [file, title] = documents.find(([it]) => it === hint.document) ?? [];
   const read = file && el("a", { href: file, target: "reading" }, title);
-  const apply = change && button(change.title ?? `Change it to ${change.text}`, () => editor.replace(change), { class: "apply" });
-  byId("fault").replaceChildren(
-    el("p", { class: "notice" }, faultWords(fault, editor.text, hint), " ", read, apply, " ", button("Go to it", () => editor.goToFault(), { class: "go-to" })),
+  const makeApply = (it) => it && makeButton(it.title ?? `Change it to ${it.text}`, () => applyChange(it, editor), { class: "apply" });
+  const copyIt = command && makeButton("Copy the command", () => copy(command, findById("said")), { class: "apply" });
+  const goTo = makeButton("Go to it", () => editor.goToFault(), { class: "go-to" });
+  findById("fault").replaceChildren(
+    el("p", { class: "notice" }, describeFault(fault, editor.text, hint), " ", read, " ", makeApply(change), makeApply(also), copyIt, " ", goTo, makeFaultLine(fault)),
   );
   return marked;
+}
+
+/**
+ * Puts a proposed change into the text, and offers to undo it.
+ * @param {{text: string, done?: string}} change
+ * @param {Editor} editor
+ */
+function applyChange(change, editor) {
+  const before = editor.text;
+  editor.replace(change);
+  if (!change.done) return;
+  const undo = () => editor.replace({ begin: 0, end: editor.text.length, text: before });
+  findById("said").replaceChildren(`${change.done} `, makeButton("Undo", undo, { class: "link", id: "undo" }));
 }
 
 /**
@@ -112,6 +134,6 @@ function showFaultInEditor(fault, editor) {
  */
 export function clearFault(editor) {
   if (!editor.isAlone) return;
-  byId("fault").replaceChildren();
+  findById("fault").replaceChildren();
   editor.mark(null);
 }

@@ -1,14 +1,17 @@
 // Explains a fault of a text in a sentence for beginners: what is at its place, what lw expects there, and what may be meant, which a button puts
 // into the text. The sentence depends on the fault's name and on the token at its place; lw's own line is shown beside it. Not proved.
 
-import { explainAttOrder } from "./att_order.js";
-import { explainLacked, explainSpareFence } from "./instead.js";
-import { nearest } from "./nearest.js";
-import { explainCode, explainOtherFirstWord, otherRegister } from "./other_language.js";
-import { explainComment, explainMissingFront, explainTypes, findOtherLanguage } from "./other_tools.js";
+import { alignCells } from "./aligned.js";
+import { explainLacked, explainSpareFence, NO_CAS } from "./instead.js";
+import { findNearest } from "./nearest.js";
+import { CONSTANT, findRewriting, NEGATIVE, rewriteWhole } from "./notation.js";
+import { convertRegister, explainCode, explainOtherFirstWord, isAllIn, parseCells } from "./other_language.js";
+import { explainComment, explainMissingFront, findOtherLanguage } from "./other_tools.js";
+import { explainRaggedRows } from "./ragged.js";
 import { TEMPLATE } from "./template.js";
 import { readTest } from "./tests.js";
-import { beginsWithX86, withoutComments } from "./tokens.js";
+import { REGISTERS, WORD } from "./token_reader.js";
+import { beginsWithX86, blankComments } from "./tokens.js";
 
 const TOKEN = /0x[\da-fA-F]+|\d\w*|[A-Za-z_]\w*|:=|[!=]=|=>|<>|&&|\|\||\/\\|\\\/|[^]/uy;
 const STATEMENTS =
@@ -19,17 +22,17 @@ const INSTRUCTIONS =
   "`JMP L`, `MFENCE`, `XCHG [x],EAX` or `LOCK XADD [x],EAX`.";
 const MNEMONICS = ["MOV", "ADD", "CMP", "JE", "JNE", "JMP", "MFENCE", "XCHG", "LOCK", "XADD"];
 const MNEMONIC = new RegExp(`^(?:${MNEMONICS.join("|")})$`, "i");
-const REGISTERS = { X86: ["EAX", "EBX", "ECX", "EDX", "ESI", "EDI"], SRC: ["r0", "r1", "r2", "r3", "r4", "r5"] };
-const CONSTANT = "A constant is a whole number from 0 to 4294967295.";
 const QUESTIONS = ["exists", "forall"];
 const HEADS = ["SRC", "X86"];
-// How other notations write what connects the parts of a question, and how lw does.
-const CONNECTIVES = {
-  "&&": "/\\", "&": "/\\", and: "/\\", "||": "\\/", "|": "\\/", or: "\\/", "!": "~",
-};
 // The labels before an instruction in its cell.
 const LABELS = /^(?:\w+\s*:\s*)*$/;
-const QUESTION_OR_LIST = /~?\s*\b(?:exists|forall|locations|filter)\b/;
+const QUESTION_OR_LIST = /(?:[~!]|\bnot\b)?\s*\b(?:exists|forall|locations|filter)\b|\b(?:forbidden|never|allowed|required|always)\s*\(/i;
+// A line of assembly.
+const ASSEMBLY = /^(?:[.\w]+:\s*)*(?:(?:lock|rep)\s+)?(?:mov|x?add|sub|cmp|xchg|inc|dec|test|x?or|and|j[nmez]|[mls]fence|nop|pause)\w*(?:\s[^;|{}=]*)?$/i;
+// A load, with its register, which is first, or last in AT&T's order; and a register that is an operand.
+const LOAD = /^(?:[.\w]+:\s*)*mov[lq]?\s+(?:[re]([abcd]x|[sd]i)\s*,.*\[.*|[^$%,][^,]*,\s*%[re]([abcd]x|[sd]i))$/i;
+const OPERAND = /(?<!\[|\(%|\w)%?[er]([abcd]x|[sd]i)\b/gi;
+const MAX_THREADS = 4;
 // An instruction with the first of its two operands.
 const ONE_OPERAND = /\b(?:MOV|ADD|CMP|XCHG|XADD)\s+[\w[\]]+$/i;
 
@@ -39,77 +42,81 @@ const ONE_OPERAND = /\b(?:MOV|ADD|CMP|XCHG|XADD)\s+[\w[\]]+$/i;
  * @param {number} index
  * @returns {string}
  */
-export function tokenAt(text, index) {
+export function findToken(text, index) {
   TOKEN.lastIndex = index;
   return TOKEN.exec(text)?.[0] ?? "";
 }
 
-/** Returns the text at a fault's place, in words. */
-function wordsOfToken(token) {
+/** Returns a token in words, to begin a sentence. */
+function describeToken(token) {
   if (token === "") return "the end of the text";
   if (token === "\n") return "the end of the line";
   return `\`${token}\``;
 }
 
-/** The place of a fault: its token, what is before it in its cell and after it, the change of the text that is proposed, and where that is. */
-class Place {
+/**
+ * The place of a fault: its token, what is before it in its cell and after it in the text, the `change` of the text that is proposed, or null, and `at`,
+ * where the text is to be changed, or undefined if that is the fault's place.
+ */
+class FaultPlace {
   constructor(text, index) {
-    const token = tokenAt(text, index);
-    Object.assign(this, { text, index, token, tokenWords: wordsOfToken(token), change: null, at: undefined, isX86: beginsWithX86(text) });
-    Object.assign(this, { before: cellBefore(text, index), after: text.slice(index + token.length) });
+    const token = findToken(text, index);
+    Object.assign(this, { text, index, token, tokenWords: describeToken(token), change: null, at: undefined, isX86: beginsWithX86(text) });
+    Object.assign(this, { before: findCellBefore(text, index), after: text.slice(index + token.length) });
   }
 
   /**
-   * Proposes a text in place of the token, or of another part.
+   * Proposes a text in place of the token, or of another part: sets `change`.
    * @param {string} text
    * @param {number} [begin]
    * @param {number} [end]
    */
-  put(text, begin = this.index, end = this.index + this.token.length) {
+  proposeChange(text, begin = this.index, end = this.index + this.token.length) {
     this.change = { begin, end, text };
   }
 
   /**
-   * Says that the text is to be changed at an index, and not at the fault; there a `mark` is missing, if it is known.
+   * Sets `at`: the text is to be changed at an index, and not at the fault. Proposes the `mark` that is missing there, if it is known.
    * @param {number} index
    * @param {string} [mark]
    */
-  lacks(index, mark = "") {
+  markMissing(index, mark = "") {
     const front = this.text.slice(0, index).split("\n");
     this.at = { row: front.length, column: [...front.at(-1)].length + 1, index };
     if (mark) this.change = { begin: index, end: index, text: mark, title: `Put in the ${mark.trim()}` };
   }
 
-  /** Proposes the same, and returns a question that does. */
+  /** Proposes a text as `proposeChange` does. Returns the question that says so, to follow a sentence. */
   propose(text, ...part) {
-    this.put(text, ...part);
+    this.proposeChange(text, ...part);
     return ` Did you mean \`${text}\`?`;
   }
 
   /**
-   * Returns a question that proposes the nearest of some names to a word, by default the token, if one is near.
+   * Proposes the nearest of some names in place of a word, by default the token. Returns the question that says so; "" if no name is near.
    * @param {string[]} names
    * @param {string} [word]
    * @param {number} [begin]
    * @returns {string}
    */
-  meant(names, word = this.token, begin = this.index) {
-    const name = nearest(word, names);
+  proposeNearest(names, word = this.token, begin = this.index) {
+    const name = findNearest(word, names);
     return name === null ? "" : this.propose(name, begin, begin + word.length);
   }
 
   /**
-   * Returns a question that proposes a register of the test's language for the token: for one of the other language that of its number.
+   * Proposes a register of the test's language in place of the token: of one of the other language that with its number. Returns the question that says
+   * so, or "".
    * @returns {string}
    */
-  meantRegister() {
-    const other = otherRegister(this.token, this.isX86);
-    return other === null ? this.meant(REGISTERS[this.isX86 ? "X86" : "SRC"]) : this.propose(other);
+  proposeRegister() {
+    const other = convertRegister(this.token, this.isX86);
+    return other === null ? this.proposeNearest(REGISTERS[this.isX86 ? "X86" : "SRC"]) : this.propose(other);
   }
 }
 
-/** Returns the cell that a fault is in, as far as its place. */
-function cellBefore(text, index) {
+/** Returns the part of a cell that is before an index in it. */
+function findCellBefore(text, index) {
   return text.slice(Math.max(...["|", ";"].map((it) => text.lastIndexOf(it, index - 1))) + 1, index).trim();
 }
 
@@ -118,8 +125,8 @@ function cellBefore(text, index) {
  * @param {string} text
  * @returns {string | null}
  */
-function questionIn(text) {
-  const code = withoutComments(text);
+function findQuestion(text) {
+  const code = blankComments(text);
   const end = code.slice(code.lastIndexOf(";") + 1);
   return /^(?:\s*locations\s*\[[^\]]*\]|[^\][]*\])?\s*~?\s*(?:exists|forall)\b([^]*)$/.exec(end)?.[1] ?? null;
 }
@@ -129,40 +136,77 @@ function questionIn(text) {
  * @param {string} text
  * @returns {string | null}
  */
-function misspeltQuestion(text) {
+function findMisspeltQuestion(text) {
   const begin = /;\s*~?\s*([A-Za-z]+)\s*\([^;]*$/.exec(text)?.[1];
-  return begin && nearest(begin, QUESTIONS) ? begin : null;
+  return begin && findNearest(begin, QUESTIONS) ? begin : null;
+}
+
+/** Returns a sentence that says that the first word of the question is misspelt, and proposes the one that is meant; or "". `place.at` is then that word. */
+function explainMisspeltQuestion(place) {
+  const { text } = place;
+  const misspelt = findMisspeltQuestion(text);
+  if (!misspelt) return "";
+  const index = text.lastIndexOf(misspelt);
+  place.markMissing(index);
+  return `lw has no question of the name \`${misspelt}\`.${place.proposeNearest(QUESTIONS, misspelt, index)}`;
 }
 
 /**
  * Returns words on the missing part of the question if a text ends in it; or "" if it is not known.
- * @param {Place} place
+ * @param {FaultPlace} place
  * @returns {string}
  */
 function explainMissingInQuestion(place) {
   const { text } = place;
-  const misspelt = misspeltQuestion(text);
-  if (misspelt) {
-    place.lacks(text.lastIndexOf(misspelt));
-    return `lw has no question of the name \`${misspelt}\`.${place.meant(QUESTIONS, misspelt, text.lastIndexOf(misspelt))}`;
+  const misspelt = explainMisspeltQuestion(place);
+  if (misspelt) return misspelt;
+  const question = findQuestion(text);
+  const end = blankComments(text).trimEnd().length;
+  place.markMissing(end);
+  const comment = text.lastIndexOf("(*");
+  if (question?.includes("(*") && /^..\s*\w+\s*=/.test(text.slice(comment))) {
+    place.markMissing(comment);
+    place.proposeChange(text.slice(comment).replace(/\*(?=\s*[A-Za-z_])/g, ""), comment, text.length);
+    place.change.title = "Take out the *";
+    return "`(*` opens a comment: a location has no `*`.";
   }
-  const question = questionIn(text);
-  const end = withoutComments(text).trimEnd().length;
-  place.lacks(end);
   if (question === null || question.includes("(*")) return "";
   const missing = question.split("(").length - question.split(")").length;
   if (!/(?:=\s*\w+|\)|\btrue|\bfalse)\s*$/.test(question)) return "The question is not complete. It is for instance `exists (x=1)`.";
   if (missing < 1) return "";
-  place.lacks(end, ")".repeat(missing));
+  place.markMissing(end, ")".repeat(missing));
   return `The question lacks ${missing === 1 ? "a `)`" : `${missing} \`)\``} at its end.`;
+}
+
+/** Returns words with commas between them, and `and` before the last one. */
+function formatNames(words) {
+  return words.length === 1 ? words[0] : `${words.slice(0, -1).join(", ")} and ${words.at(-1)}`;
 }
 
 /** Returns a sentence that says that the test has no thread of the number at a place, or "" if that is not so. */
 function explainMissingThread({ token, after, text }) {
   const names = /^[ \t]*P0\b[^;]*(?=;)/m.exec(text)?.[0].split("|").map((_, thread) => `\`P${thread}\``);
   if (!names || !/^\d+$/.test(token) || !/^\s*:/.test(after) || Number(token) < names.length) return "";
-  const threads = names.length === 1 ? names[0] : `${names.slice(0, -1).join(", ")} and ${names.at(-1)}`;
-  return `There is no thread ${token}: the test has ${threads}.`;
+  return `There is no thread ${token}: the test has ${formatNames(names)}.`;
+}
+
+/**
+ * Returns a sentence that says that a register at a place has no thread before it, and proposes the only one whose code has it, or names those that have it;
+ * or "" if that is not so. A register of the other language is meant as that with its number, unless all code is in that language.
+ */
+function explainThreadlessRegister(place) {
+  const { text, index, token, isX86 } = place;
+  const own = isX86 ? token.toUpperCase() : token;
+  const isOther = isAllIn(isX86 ? "SRC" : "X86", text);
+  const converted = convertRegister(token, isX86);
+  const name = REGISTERS[isX86 ? "X86" : "SRC"].includes(own) ? own : isOther && converted ? token : converted;
+  if (!name || /:\s*$/.test(text.slice(0, index))) return "";
+  const pattern = new RegExp(`\\b(?:${name}|${token})\\b`, "i");
+  const threads = [...new Set(parseCells(text).flatMap(({ code, thread }) => (pattern.test(code) ? [thread] : [])))].sort();
+  const sites = threads.map((it) => `${it}:${name}`);
+  const begin = "A register has its thread before it outside of the code";
+  if (sites.length === 1) return `${begin}.${place.propose(sites[0])}`;
+  return sites.length ? `${begin}: \`${sites.join("` or `")}\`.` : `${begin}, as in \`0:${name}\`. No thread's code has ${name}.`;
 }
 
 /** Returns whether a text ends within the initial values. */
@@ -172,45 +216,35 @@ function isInBlock(text) {
 
 /**
  * Returns a sentence on a question or initial values that are written as in another notation, and proposes lw's; or "".
- * @param {Place} place
+ * @param {FaultPlace} place
  * @returns {string}
  */
 function explainNotation(place) {
   const { token, text, index } = place;
   const front = text.slice(0, index);
-  if (questionIn(`${front} `) === null && !isInBlock(front)) return "";
-  const thread = /\bP(\d)\s*$/i.exec(front);
-  const register = /^:\s*([A-Za-z]\w*)(?=\s*[=;])/.exec(text.slice(index));
-  if (thread && register) {
-    const site = place.propose(`${thread[1]}:${register[1]}`, thread.index, index + register[0].length);
-    return `The thread of a register is a number, without \`P\`.${site}`;
-  }
+  if (findQuestion(front) === null && !isInBlock(front)) return "";
   const negated = token === "!=" && /(?:\d\s*:\s*)?\[?\w+\]?\s*$/.exec(front);
-  if (negated) return `Another word is asked for with \`~\` (not).${place.propose(`~${negated[0].trim()}=`, negated.index, index + token.length)}`;
-  if (token === "=" && front.endsWith("=")) return `A question compares with one \`=\`.${place.propose("=", index - 1)}`;
-  const connective = Object.hasOwn(CONNECTIVES, token.toLowerCase()) && CONNECTIVES[token.toLowerCase()];
-  if (!connective) return "";
-  if (isInBlock(front)) return `Initial values have a \`;\` between them.${place.propose(";")}`;
-  return `In a question, and is \`/\\\`, or is \`\\/\`, not is \`~\`.${place.propose(connective)}`;
+  if (negated) return `A question has no \`!=\`: \`~x=1\` asks for another word than 1.${place.propose(`~${negated[0].trim()}=`, negated.index, index + token.length)}`;
+  return /^(?:&|and)/i.test(token) && isInBlock(front) ? `Initial values have a \`;\` between them.${place.propose(";")}` : "";
 }
 
 /**
  * Returns words on the fault of a text's first word, if that is at the place; or "".
- * @param {Place} place
+ * @param {FaultPlace} place
  * @returns {string}
  */
 function explainFirstWord(place) {
   if (place.text.slice(0, place.index).trim()) return "";
-  const meant = /86/.test(place.token) ? place.propose(HEADS[1]) : place.meant(HEADS);
+  const meant = /86/.test(place.token) ? place.propose(HEADS[1]) : place.proposeNearest(HEADS);
   return meant && `A test begins with \`SRC\` or \`X86\`.${meant}`;
 }
 
-/** Returns a sentence that says that the initial values have no end, or "" if that is not so. By `place.lacks` it sets where they should end. */
+/** Returns a sentence that says that the initial values have no end, or "" if that is not so. `place.at` is then where they should end. */
 function explainOpenBlock(place) {
-  const code = withoutComments(place.text);
+  const code = blankComments(place.text);
   if (!isInBlock(code)) return "";
   const front = /^([^]*\{[^]*?)\s*^[ \t]*P0\b/m.exec(code)?.[1];
-  if (front) place.lacks(front.length);
+  if (front) place.markMissing(front.length);
   return "The initial values lack a `}` at their end.";
 }
 
@@ -222,33 +256,40 @@ function explainThreadNames(place) {
 }
 
 /**
- * Returns a sentence that says that the list of locations before the question has no end, or "" if that is not so. By `place.lacks` it sets where
- * the list should end, and proposes `]` there.
+ * Returns a sentence that says that the list of locations before the question has no end, or "" if that is not so. `place.at` is then where the list
+ * should end, and `]` is proposed there.
  */
 function explainOpenList(place) {
-  const front = withoutComments(place.text.slice(0, place.index)).trimEnd();
+  const front = blankComments(place.text.slice(0, place.index)).trimEnd();
   if (!/^(?:exists|forall|~)$/.test(place.token) || !/\blocations\s*\[[^\]]*$/.test(front)) return "";
-  place.lacks(front.length, "]");
+  place.markMissing(front.length, "]");
   return "The list of locations lacks a `]` at its end.";
 }
 
-/** Returns a sentence that says what a constant is, if the one at a place is negative or no whole number; or "" if that is not so. */
-function explainConstant({ text, index }) {
-  return /(?:[=,$+]\s*|\b\d+)$/.test(text.slice(0, index)) && /^[-.]\s*\d/.test(text.slice(index)) ? CONSTANT : "";
+/**
+ * Returns a sentence that says what a constant is, if the one at a place is negative or no whole number; or "" if that is not so. Proposes the word that is
+ * a negative number.
+ */
+function explainConstant(place) {
+  const { text, index } = place;
+  const [number] = (/(?:[=,$+]\s*|\b\d+)$/.test(text.slice(0, index)) && /^[-.]\s*\d+/.exec(text.slice(index))) || [];
+  if (!number) return "";
+  const word = WORD - Number(number.slice(1));
+  return number[0] === "-" && word > 0 ? `${NEGATIVE}${place.propose(String(word % WORD), index, index + number.length)}` : CONSTANT;
 }
 
 /**
- * Returns the number of the last line of code before a fault if this line has no `;`; null if it has one, or a mark of an open comment, if there is
- * no header yet, or if the question is misspelt. `row` is the number of the fault's line.
+ * Returns the number of the last line of code before a fault if this line has no `;`; null if it has one, or a mark of a comment that is left open, if
+ * there is no header yet, or if the question is misspelt. `row` is the number of the fault's line.
  * @param {Fault} fault
  * @param {string} text
  * @returns {number | null}
  */
-function lineWithoutEnd({ row }, text) {
-  const front = withoutComments(text).split("\n", row - 1).join("\n");
+function findLineWithoutEnd({ row }, text) {
+  const front = blankComments(text).split("\n", row - 1).join("\n");
   const rows = front.split(QUESTION_OR_LIST)[0].trimEnd();
   const hasEnd = /(?:;|\(\*|\*\)).*$/.test(rows);
-  return !/^\s*P0\b/m.test(rows) || hasEnd || misspeltQuestion(text) ? null : rows.split("\n").length;
+  return !/^\s*P0\b/m.test(rows) || hasEnd || findMisspeltQuestion(text) ? null : rows.split("\n").length;
 }
 
 /**
@@ -258,19 +299,19 @@ function lineWithoutEnd({ row }, text) {
  * @returns {string}
  */
 export function explainMissingRowEnd(fault, text) {
-  const line = lineWithoutEnd(fault, text);
+  const line = findLineWithoutEnd(fault, text);
   return line === null ? "" : `Line ${line} has no \`;\` at its end: perhaps that is the fault. `;
 }
 
 /**
- * Returns where in a text each row ends that has no `;`, from the header on, if the row before a fault has none: before the comments after it.
+ * Returns the indices at which rows without `;` end, before their comments; none if the row before a fault has its `;`.
  * @param {Fault} fault
  * @param {string} text
  * @returns {number[]}
  */
-function placesOfMissingEnds(fault, text) {
-  if (lineWithoutEnd(fault, text) === null) return [];
-  const code = withoutComments(text).split(QUESTION_OR_LIST, 1)[0];
+function listMissingEnds(fault, text) {
+  if (findLineWithoutEnd(fault, text) === null) return [];
+  const code = blankComments(text).split(QUESTION_OR_LIST, 1)[0];
   const first = code.slice(0, code.search(/^\s*P0\b/m)).trimEnd().split("\n").length;
   let begin = 0;
   return code.split("\n").flatMap((line, at) => {
@@ -287,8 +328,8 @@ function placesOfMissingEnds(fault, text) {
  * @param {string} text
  * @returns {Hint | null}
  */
-function hintOnRowsWithoutEnd(fault, text) {
-  const ends = placesOfMissingEnds(fault, text);
+function explainRowsWithoutEnd(fault, text) {
+  const ends = listMissingEnds(fault, text);
   if (!ends.length) return null;
   const [begin, end] = [ends[0], ends.at(-1)];
   const withEnds = ends.map((it, at) => `${text.slice(ends[at - 1] ?? begin, it)} ;`).join("");
@@ -305,40 +346,90 @@ function hintOnRowsWithoutEnd(fault, text) {
   return { words, change: { begin, end, text: withEnds, title }, at };
 }
 
+/** Returns a hint that a `;` is within a row, after `LOCK` or before the end of a cell, with the text without it, if rows are ragged by it; otherwise null. */
+function explainSpareEnds(name, text) {
+  const begin = text.search(/\bP0\b/);
+  const rest = text.slice(begin);
+  const mended = rest.replace(/\b(lock|rep)\s*;/gi, "$1").replace(/;(?=[ \t]*[|;])/g, "");
+  if (!/^(?:Ragged|Unterminated)$/.test(name) || mended === rest || blankComments(text) !== text) return null;
+  return { words: "Only a row's end has a `;`.", change: { begin, end: text.length, text: mended, title: "Take out the others" } };
+}
+
+/**
+ * Returns the code of the threads in a text of instructions, each a list of lines: a blank line begins the next thread, unless a jump leaves its thread then,
+ * or there are more threads than a test has.
+ * @param {string} text
+ * @returns {string[][]}
+ */
+function splitThreads(text) {
+  const listLines = (part) => part.split("\n").map((it) => it.trim()).filter((it) => it && !/^(?:ret\w*|\.[^:]*)$/.test(it));
+  const threads = text.replace(/;[ \t]*$/gm, "").split(/\n\s*\n/).map(listLines).filter((it) => it.length);
+  const listLabels = (code, pattern) => code.flatMap((it) => [...it.matchAll(pattern)].map(([, label]) => label));
+  const isLeft = (code) => listLabels(code, /\bj\w+\s+([.\w]+)$/gi).some((it) => !listLabels(code, /([.\w]+)\s*:/g).includes(it));
+  return threads.length > MAX_THREADS || threads.some(isLeft) ? [threads.flat()] : threads;
+}
+
+/**
+ * Returns the end of a test of some threads of instructions: it asks for 0 in the registers that the last loads write, if each thread ends with a load, and
+ * lists the other registers; locations, if there are none.
+ * @param {string[][]} threads
+ * @returns {{list: string, question: string, isAsked: boolean}}
+ */
+function makeQuestion(threads) {
+  const loads = threads.map((it) => LOAD.exec(it.at(-1)));
+  const asked = loads.every(Boolean) ? loads.map(([, first, last], thread) => `${thread}:E${(first ?? last).toUpperCase()}`) : [];
+  const registers = threads.flatMap((it, thread) => [...it.join("\n").matchAll(OPERAND)].map(([, register]) => `${thread}:E${register.toUpperCase()}`));
+  const locations = registers.length ? [] : [...threads.join("\n").matchAll(/\[(?:\s*rip\s*\+)?\s*(\w+)\s*\]/g)].map(([, it]) => it);
+  const listed = [...new Set([...registers, ...locations])].filter((it) => !asked.includes(it));
+  const question = asked.length ? asked.map((it) => `${it}=0`).join(" /\\ ") : "true";
+  return { list: listed.length ? `locations [${listed.map((it) => `${it};`).join(" ")}]\n` : "", question, isAsked: asked.length > 0 };
+}
+
+/** Returns a sentence that says that a text has only instructions, and proposes to make a test of them; or "". */
+function explainAssembly(place) {
+  const threads = splitThreads(place.text);
+  if (!threads.length || !threads.flat().every((it) => ASSEMBLY.test(it))) return "";
+  const names = threads.map((_, thread) => `P${thread}`);
+  const rows = Array.from({ length: Math.max(...threads.map((it) => it.length)) }, (_, row) => threads.map((it) => it[row] ?? ""));
+  const { list, question, isAsked } = makeQuestion(threads);
+  const made = `X86 Mine\n{}\n${[names, ...rows].map((it) => ` ${it.join(" | ")} ;\n`).join("")}${list}exists (${question})\n`;
+  const { text, words } = rewriteWhole(made);
+  place.proposeChange(threads.length > 1 ? alignCells(text) : text, 0, place.text.length);
+  place.change.title = threads.length > 1 ? `Make ${formatNames(names)} of them` : "Make it P0 of a test";
+  const division = threads.length > 1 ? " A blank line begins the next thread." : "";
+  const asked = isAsked ? " The question is a guess: change it to yours." : " The question `true` holds always: look at the list of states.";
+  return `These are instructions without a test around them.${division}${asked} ${words}`.trim();
+}
+
 /** Returns a sentence that says that a text is empty, and proposes a small test in its place; or "" if that is not so. */
 function explainEmptyText(place) {
   if (place.text.trim()) return "";
-  place.put(TEMPLATE, 0, place.text.length);
+  place.proposeChange(TEMPLATE, 0, place.text.length);
   place.change.title = "Begin with a small test";
   return "There is no text.";
 }
 
 /**
  * Returns words on the fault of the form of a statement of a source test.
- * @param {Place} place
+ * @param {FaultPlace} place
  * @returns {string}
  */
 function explainSourceForm(place) {
   const { token, before, index, text } = place;
   const isEnd = token === ";" || token === "|";
-  if (token === "=" || token === "==") {
-    const isBranch = /^if\b/.test(before);
-    place.put(isBranch ? "=" : ":=");
-    return isBranch ? "A branch compares with one `=`: `if r0 = 1 goto L`." : "Write `:=` in place of it.";
-  }
-  const other = token === ":=" ? otherRegister(before, false) : null;
+  const other = token === ":=" ? convertRegister(before, false) : null;
   if (other !== null) {
     const begin = text.lastIndexOf(before, index);
     return `\`${before}\` is a register of x86.${place.propose(other, begin, begin + before.length)}`;
   }
-  if (isEnd && /^mfence$/i.test(before)) return "A source test has no fences: the compiler adds them.";
+  if (/\b(?:cas|cmpxchg|compare_exchange\w*)\b/i.test(`${before} ${token}`)) return NO_CAS.SRC;
   if (isEnd) return `The statement before it is not complete. ${STATEMENTS}`;
   return token === "+" ? "A sum goes into a register first: `r0 := r1 + 1`, then `x := r0`." : STATEMENTS;
 }
 
 /**
  * Returns words on the fault of the form of an instruction.
- * @param {Place} place
+ * @param {FaultPlace} place
  * @returns {string}
  */
 function explainX86Form(place) {
@@ -354,15 +445,15 @@ function explainX86Form(place) {
   if (token === "[") return "Only `MOV`, `XCHG` and `LOCK XADD` take a location.";
   if (token === "$") return "What is written comes first: `MOV [x],$1`.";
   if (token === ";" || token === "|") return `The instruction before it is not complete. ${INSTRUCTIONS}`;
-  if (/\block$/i.test(before)) return `\`LOCK\` comes before \`XADD\` or \`XCHG\`.${place.meant(["XADD", "XCHG"])}`;
+  if (/\block$/i.test(before)) return `\`LOCK\` comes before \`XADD\` or \`XCHG\`.${place.proposeNearest(["XADD", "XCHG"])}`;
   if (!LABELS.test(before) || MNEMONIC.test(token)) return INSTRUCTIONS;
   const spare = explainSpareFence(place);
   if (spare) return spare;
-  return `lw has no instruction of this name.${place.meant(MNEMONICS)} ${INSTRUCTIONS}`;
+  return `lw has no instruction of this name.${place.proposeNearest(MNEMONICS)} ${INSTRUCTIONS}`;
 }
 
-/** Returns a question that proposes the location of a name that lacks its brackets, in an instruction that takes a location there; or "". */
-function meantLocation(place) {
+/** Proposes brackets around a name, in an instruction that takes a location there. Returns the question that says so, or "". */
+function proposeBrackets(place) {
   const { isX86, before, token, after } = place;
   const isLocation = isX86 && /\b(?:MOV|XCHG|XADD)(?:\s+\w+\s*,)?$/i.test(before) && /^(?!r\d)[A-Za-z_]\w*$/i.test(token) && /^\s*[,;|\n]/.test(after);
   return isLocation ? place.propose(`[${token}]`) : "";
@@ -381,8 +472,10 @@ const SENTENCES = {
     explainComment(place) ||
     explainOpenBlock(place) ||
     explainMissingFront(place) ||
-    explainTypes(place) ||
+    explainAssembly(place) ||
+    explainLacked(place) ||
     explainConstant(place) ||
+    explainMisspeltQuestion(place) ||
     explainThreadNames(place) ||
     explainNotation(place) ||
     explainFirstWord(place) ||
@@ -392,10 +485,11 @@ const SENTENCES = {
   "text Name": (place) =>
     explainOpenList(place) ||
     explainMissingThread(place) ||
-    (otherRegister(place.token, place.isX86) !== null && explainOtherFirstWord(place)) ||
+    (convertRegister(place.token, place.isX86) !== null && explainOtherFirstWord(place)) ||
+    explainThreadlessRegister(place) ||
     `${place.tokenWords} can't be a name here. A question names a location, as \`x=1\`, or a register with its thread, as ` +
-    `\`${place.isX86 ? "0:EAX=1" : "0:r0=1"}\`.${place.meantRegister()}`,
-  "text Ragged": () => "This row has too few or too many cells: it needs one for each thread, with `|` between them. A cell may be empty.",
+    `\`${place.isX86 ? "0:EAX=1" : "0:r0=1"}\`.${place.proposeRegister()}`,
+  "text Ragged": () => "This row has too few or too many cells: it needs one for each thread, with `|` between them and `;` only at its end. A cell may be empty.",
   "text TooManyThreads": () => "A test has four threads at most.",
   "text TooManyRows": () => "A test has 64 rows at most.",
   "text TooManyLocations": () => "A test has eight locations at most.",
@@ -408,12 +502,13 @@ const SENTENCES = {
     `${place.tokenWords} does not fit here. ${explainLacked(place) || explainCode(place) || (place.isX86 ? explainX86Form(place) : explainSourceForm(place))}`,
   "cell Register": (place) =>
     explainCode(place) ||
+    (!place.isX86 && explainLacked(place)) ||
     `${place.tokenWords} is no register, and one is needed here: ${place.isX86 ? "`EAX`, `EBX`, `ECX`, `EDX`, `ESI` or `EDI`" : "`r0` to `r5`"}.` +
-    `${place.meantRegister() || meantLocation(place)} ` +
+    `${place.proposeRegister() || proposeBrackets(place)} ` +
     (place.isX86 ? "A location has brackets: `[x]`." : "A location is loaded into a register first: `r0 := y`."),
   "cell LabelMissing": (place) =>
     `The thread has no label ${place.tokenWords} to jump to.` +
-    place.meant([...place.text.matchAll(/([A-Za-z_]\w*)\s*:(?!=)/g)].map(([, label]) => label)),
+    place.proposeNearest([...place.text.matchAll(/([A-Za-z_]\w*)\s*:(?!=)/g)].map(([, label]) => label)),
   "cell LabelTwice": ({ tokenWords }) => `The thread has the label ${tokenWords} already.`,
   "cell Backward": ({ tokenWords }) => `The jump to ${tokenWords} goes back. Jumps go forward only: a loop is written out as often as it is tried.`,
   "cell TooMany": ({ isX86 }) =>
@@ -422,17 +517,23 @@ const SENTENCES = {
 
 /**
  * Returns the explanation of a text's fault, a `Hint`: `words`, a sentence in which code is between backquotes, or null if the fault is not known;
- * the `document` on it, if there is one; the proposed `change`, a text with the `begin` and the `end` of the part that it replaces, and a `title` if
- * the text says little, or null; and where the text is to be changed (`at`), if that is not the place of the fault.
+ * the `document` on it and the `command` to call, if there are some; the proposed `change`, a text with the `begin` and the `end` of the part that it replaces, and a `title` if
+ * the text says little, or null; `also` another one, if two are likely; and where the text is to be changed (`at`), if that is not the place of the fault.
  * @param {Fault} fault
  * @param {string} text
- * @returns {{words: string | null, document?: string, change: {begin: number, end: number, text: string, title?: string} | null, at?: object}}
+ * @returns {{words: string | null, document?: string, command?: string, change: {begin: number, end: number, text: string, title?: string} | null, also?: object, at?: object}}
  */
-export function hintOn(fault, text) {
+export function explainFault(fault, text) {
   const { kind, name, index } = fault;
-  const place = new Place(text, index);
+  const place = new FaultPlace(text, index);
+  const rewriting = findRewriting(text, index);
   const other = kind === "text" && findOtherLanguage(place);
+  const choice = rewriting?.also ? " The other button makes x86 code of the rows, which may have more states." : "";
+  if (rewriting?.isWhole && (rewriting.count > 1 || other)) return { ...rewriting, words: rewriting.words + choice };
   if (other) return { ...other, change: null };
-  const explain = () => ({ words: explainAttOrder(place) || (SENTENCES[`${kind} ${name}`]?.(place) ?? null), change: place.change, at: place.at });
-  return hintOnRowsWithoutEnd(fault, text) ?? explain();
+  const rows = explainSpareEnds(name, text) ?? explainRowsWithoutEnd(fault, text) ?? (/^(?:Ragged|Form|Unexpected)$/.test(name) ? explainRaggedRows(text) : null);
+  if (rows) return rows;
+  const words = SENTENCES[`${kind} ${name}`]?.(place) ?? null;
+  if (rewriting && (rewriting.count !== 1 || !place.change || rewriting.isBetter)) return rewriting;
+  return { words, change: place.change, at: place.at };
 }

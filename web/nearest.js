@@ -9,7 +9,7 @@ const SHORT = 4;
  * @param {string} other
  * @returns {number}
  */
-function changesBetween(word, other) {
+function countChanges(word, other) {
   let [before, row] = [[], Array.from({ length: other.length + 1 }, (_, at) => at)];
   for (let i = 1; i <= word.length; i += 1) {
     const next = [i];
@@ -29,9 +29,9 @@ function changesBetween(word, other) {
  * @param {string[]} names
  * @returns {string | null}
  */
-export function nearest(word, names) {
+export function findNearest(word, names) {
   const limit = word.length < 2 ? 0 : word.length <= SHORT ? 1 : 2;
-  const candidates = names.map((name) => ({ name, changes: changesBetween(word.toUpperCase(), name.toUpperCase()) }));
+  const candidates = names.map((name) => ({ name, changes: countChanges(word.toUpperCase(), name.toUpperCase()) }));
   const least = Math.min(...candidates.map((it) => it.changes));
   const best = candidates.filter((it) => it.changes === least);
   return least > 0 && least <= limit && best.length === 1 ? best[0].name : null;

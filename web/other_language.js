@@ -1,20 +1,25 @@
 // Finds code in another language than the first word of its text: source statements in an x86 test, and instructions in a source test. Not proved.
+//
+// A `CodeCell` of a text has its `code`, without the blanks around it, its `thread`, and the indices at which the cell begins (`front`), the code in it
+// (`begin`), and the `|` or `;` after it is (`end`).
 
 import { REGISTERS } from "./token_reader.js";
-import { findFirstWord, withoutComments } from "./tokens.js";
+import { blankComments, findFirstWord } from "./tokens.js";
 
 const LABELS = "(?:\\w+\\s*:(?!=)\\s*)*";
+const ONLY_LABELS = new RegExp(`^${LABELS}$`);
 // How code of each language begins, after its labels.
 const CODE = {
-  SRC: new RegExp(`^${LABELS}(?:\\w+\\s*:=|if\\b|goto\\b)`),
+  SRC: new RegExp(`^${LABELS}(?:\\w+\\s*:=|\\w+\\s*=[\\w\\s+-]*$|if\\b|goto\\b)`),
   X86: new RegExp(`^${LABELS}(?:MOV|ADD|CMP|JE|JNE|JMP|XCHG|LOCK|XADD)\\b`, "i"),
 };
-const END_OF_ROWS = /;\s*(?:locations|filter|~?\s*exists|forall)\b/;
+const END_OF_ROWS = /;\s*(?:(?:locations|filter|(?:[~!]|not\b)?\s*exists|forall)\b|(?:forbidden|never|allowed|required|always)\s*\()/i;
 const SAID = {
   SRC: "This is a statement of a source test, and the text's first word is `X86`.",
   X86: "This is an x86 instruction, and the text's first word is `SRC`.",
 };
-const SAID_OF_ALL = {
+/** The sentences on code that is all in a language, and not in that of its text. */
+export const SAID_OF_ALL = {
   SRC: "All code is that of a source test, and the text's first word is `X86`.",
   X86: "All code is x86 code, and the text's first word is `SRC`.",
 };
@@ -25,7 +30,7 @@ const SAID_OF_ALL = {
  * @param {boolean} isX86
  * @returns {string | null}
  */
-export function otherRegister(word, isX86) {
+export function convertRegister(word, isX86) {
   const [own, other] = isX86 ? [REGISTERS.X86, REGISTERS.SRC] : [REGISTERS.SRC, REGISTERS.X86];
   return own[other.indexOf(isX86 ? word : word.toUpperCase())] ?? null;
 }
@@ -36,10 +41,10 @@ export function otherRegister(word, isX86) {
  * @param {string} word
  * @returns {string | null}
  */
-function valueIn(language, word) {
+function convertValue(language, word) {
   const number = /^\$?(\d+)$/.exec(word)?.[1];
   if (number) return language === "X86" ? `$${number}` : number;
-  return otherRegister(word, language === "X86");
+  return convertRegister(word, language === "X86");
 }
 
 /**
@@ -47,10 +52,10 @@ function valueIn(language, word) {
  * @param {string} cell
  * @returns {string | null}
  */
-function inX86(cell) {
+export function convertToX86(cell) {
   const [, to, from] = /^(\w+)\s*:=\s*(\w+)$/.exec(cell) ?? [];
   if (!to) return null;
-  const [register, value] = [otherRegister(to, true), valueIn("X86", from)];
+  const [register, value] = [convertRegister(to, true), convertValue("X86", from)];
   if (register === null) return value && `MOV [${to}],${value}`;
   return `MOV ${register},${value ?? `[${from}]`}`;
 }
@@ -60,21 +65,21 @@ function inX86(cell) {
  * @param {string} cell
  * @returns {string | null}
  */
-function inSource(cell) {
+function convertToSource(cell) {
   const [, store, stored] = /^MOV\s+\[(\w+)\]\s*,\s*(\$?\w+)$/i.exec(cell) ?? [];
-  if (store) return valueIn("SRC", stored) && `${store} := ${valueIn("SRC", stored)}`;
+  if (store) return convertValue("SRC", stored) && `${store} := ${convertValue("SRC", stored)}`;
   const [, to, load, from] = /^MOV\s+(\w+)\s*,\s*(?:\[(\w+)\]|(\$?\w+))$/i.exec(cell) ?? [];
-  const [register, value] = [to && otherRegister(to, false), load ?? (from && valueIn("SRC", from))];
+  const [register, value] = [to && convertRegister(to, false), load ?? (from && convertValue("SRC", from))];
   return register && value ? `${register} := ${value}` : null;
 }
 
 /**
  * Returns the cells of the rows of code of a text, also the empty ones; none if the text has no header or no question after the rows.
  * @param {string} text
- * @returns {Cell[]}
+ * @returns {CodeCell[]}
  */
-export function cellsOf(text) {
-  const code = withoutComments(text);
+export function parseCells(text) {
+  const code = blankComments(text);
   let begin = code.indexOf(";", code.search(/\bP0\b/)) + 1;
   let thread = 0;
   const rows = code.slice(begin, begin + code.slice(begin).search(END_OF_ROWS) + 1);
@@ -94,7 +99,7 @@ export function cellsOf(text) {
  * @returns {boolean}
  */
 export function isAllIn(language, text) {
-  const cells = cellsOf(text).map(({ code }) => code).filter(Boolean);
+  const cells = parseCells(text).map(({ code }) => code).filter((it) => !ONLY_LABELS.test(it));
   const isInLanguage = (it) => CODE[language].test(it) || (language === "X86" && /^MFENCE$/i.test(it));
   return cells.length > 0 && cells.every(isInLanguage);
 }
@@ -102,7 +107,7 @@ export function isAllIn(language, text) {
 /**
  * Returns a sentence that says that all code of a text is in the other language than its first word says, and proposes the other first word; or ""
  * if that is not so.
- * @param {Place} place
+ * @param {FaultPlace} place
  * @returns {string}
  */
 export function explainOtherFirstWord(place) {
@@ -118,7 +123,7 @@ export function explainOtherFirstWord(place) {
  * @param {number} index
  * @returns {{begin: number, code: string}}
  */
-export function cellAt(text, index) {
+export function findCell(text, index) {
   const begin = Math.max(...["|", ";"].map((it) => text.lastIndexOf(it, index - 1))) + 1;
   const cell = text.slice(begin, begin + text.slice(begin).search(/[|;]|$/));
   const code = cell.trim();
@@ -128,17 +133,17 @@ export function cellAt(text, index) {
 /**
  * Returns a sentence that says that the code at a fault's place is in the other language, or "" if that is not so. It proposes the other first word
  * if all code is in the other language, and otherwise the same code in the language of the test.
- * @param {Place} place
+ * @param {FaultPlace} place
  * @returns {string}
  */
 export function explainCode(place) {
   const { text, index, isX86 } = place;
   const other = isX86 ? "SRC" : "X86";
-  const { begin: start, code } = cellAt(text, index);
+  const { begin: start, code } = findCell(text, index);
   if (!CODE[other].test(code)) return "";
   const proposal = explainOtherFirstWord(place);
   if (proposal) return proposal;
-  const translated = isX86 ? inX86(code) : inSource(code);
+  const translated = isX86 ? convertToX86(code) : convertToSource(code);
   if (translated === null) return SAID[other];
   return `${SAID[other]}${place.propose(translated, start, start + code.length)}`;
 }

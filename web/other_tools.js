@@ -3,29 +3,63 @@
 
 import { isAllIn } from "./other_language.js";
 import { readTest } from "./tests.js";
-import { withoutComments } from "./tokens.js";
+import { blankComments } from "./tokens.js";
 
 const HERE = "Here only `SRC` and `X86` tests are read.";
-const OF_C = `${HERE} \`tools/from_c.py\` compiles programs and herd's tests in C, and converts the result.`;
 const OF_HERD = `${HERE} \`tools/from_herd.py\` converts tests of herd for X86 and X86_64.`;
 const OF_OTHERS = `${HERE} They are of x86 processors, and no tool of lw converts tests of others.`;
 const OTHERS = /^(?:AArch64|ARM|PPC|RISCV|MIPS)$/i;
 const C = /^\s*(?:C\s|#\s*(?:include|define)\b|\/\/[^\n]*\n\s*#|(?:extern\s+|static\s+|volatile\s+|_Atomic\s+)*(?:atomic_\w+|std::\w+|int|void|uint\d+_t)\s)/;
-const NO_TYPES = "The initial values have no types.";
+const OF_C = "`tools/from_c.py` compiles programs in C, C++ and Rust, and herd's tests in C";
+const OF_PROGRAM = " For that its threads are functions `P0`, `P1` and so on without parameters, and its last line asks, as `// lw: exists (0:r0=0)` does.";
+// How a program in Rust begins, what only C++ has, and how a thread in C begins.
+const RUST = /^\s*(?:use|fn|pub|static\s+\w+\s*:|#!?\[)/;
+const CPP = /\bstd::|<atomic>/;
+const THREAD_IN_C = /^(?:X86|SRC)\s+(?:[^{]*\{[^}]*\})?\s*P0\s*[({]/;
+/** The sentence on the types of initial values. */
+export const NO_TYPES = "The initial values have no types.";
 // Words that declare the type of a location.
 const TYPES = "(?:(?:const|volatile|unsigned|signed|_Atomic|atomic_\\w+|u?int\\d*|long|short|char|bool|[A-Za-z]\\w*_t)\\s+)+";
 const ENTRY = new RegExp(`^(?:(${TYPES}))?((?:\\d\\s*:\\s*)?\\w+)(?:\\s*=\\s*(\\d\\w*))?$`);
 const TYPED = new RegExp(`(?:[{;]|^)\\s*${TYPES}(?:\\d\\s*:\\s*)?\\w`);
 
 /**
- * Returns words on the first word of a text, if it is that of another language, and the document that says what converts it; or null.
- * @param {Place} place
- * @returns {{words: string, document: string} | null}
+ * Returns a hint on a program, that `words` say begins here: the `command` that prints its test, which a file of a likely name has.
+ * @param {string} words
+ * @param {string} text
+ * @returns {{words: string, document: string, command: string}}
+ */
+function explainProgram(words, text) {
+  const name = /^\s*(?:C|X86|SRC)\s+([\w+.-]+)/.exec(text)?.[1] ?? "mine";
+  const file = `${name}.${RUST.test(text) ? "rs" : CPP.test(text) ? "cc" : "c"}`;
+  const command = `python3 tools/from_c.py --show ${file}`;
+  const once = /_ONCE\b/.test(text) ? " (In place of `READ_ONCE(*x)` it takes `atomic_load_explicit(x, memory_order_relaxed)`.)" : "";
+  const form = /^\s*(?:C|X86|SRC)\s/.test(text) ? "" : OF_PROGRAM;
+  const how = `${OF_C}: save this as \`${file}\`, then \`${command}\` prints a test for this page.${form}${once}`;
+  return { words: `${words} ${HERE} ${how}`, document: "from-c.html", command };
+}
+
+/**
+ * Returns a sentence that says that code calls a function of C.
+ * @param {string} code
+ * @returns {string}
+ */
+export function explainCall(code) {
+  return `\`${code}\` is a call in C, and no instruction. ${OF_C}.`;
+}
+
+/**
+ * Returns words on the first word of a text, if it is that of another language, the document that says what converts it, and the command that does so, if it
+ * is known; or null.
+ * @param {FaultPlace} place
+ * @returns {{words: string, document: string, command?: string} | null}
  */
 export function findOtherLanguage({ text, index, token }) {
-  if (withoutComments(text.slice(0, index)).trim()) return null;
+  if (THREAD_IN_C.test(text)) return explainProgram("The threads are functions in C: the first word is `C` then.", text);
+  if (blankComments(text.slice(0, index)).trim()) return null;
   const rest = text.slice(index);
-  if (C.test(rest)) return { words: `This begins as a program or a test in C does. ${OF_C}`, document: "from-c.html" };
+  if (C.test(rest)) return explainProgram("This begins as a program or a test in C does.", rest);
+  if (RUST.test(rest)) return explainProgram("This begins as a program in Rust does.", rest);
   if (OTHERS.test(token)) return { words: `\`${token}\` is the language of another processor in herd's tests. ${OF_OTHERS}`, document: "from-herd.html" };
   if (/^X86_64$/i.test(token) && !isRead(rest.replace(/^\w+/, "X86"))) {
     return { words: `\`X86_64\` is a language of herd's tests. ${OF_HERD}`, document: "from-herd.html" };
@@ -33,8 +67,12 @@ export function findOtherLanguage({ text, index, token }) {
   return null;
 }
 
-/** Returns whether a text is read as a test. */
-function isRead(text) {
+/**
+ * Returns whether a text is read as a test.
+ * @param {string} text
+ * @returns {boolean}
+ */
+export function isRead(text) {
   try {
     readTest(text);
     return true;
@@ -44,18 +82,16 @@ function isRead(text) {
 }
 
 /**
- * Returns a sentence that says what comments are, if a place begins one of another language, or that a constant has no `#`; or "". It proposes lw's for all of
- * these comments from there on, or the constant.
- * @param {Place} place
+ * Returns a sentence that says what comments are, if a place begins one of another language; or "". It proposes lw's for all of these comments from there
+ * on.
+ * @param {FaultPlace} place
  * @returns {string}
  */
 export function explainComment(place) {
   const { text, index } = place;
   const rest = text.slice(index);
   // In ARM's assembly a constant is `#1`.
-  const number = /^#(\d+)/.exec(rest)?.[1];
-  if (number) return `A constant has no \`#\` before it.${place.propose(place.isX86 ? `$${number}` : number, index, index + number.length + 1)}`;
-  const mark = /^(?:\/\/|\/\*|#)/.exec(rest)?.[0];
+  const mark = /^(?:\/\/|\/\*|#(?!\d))/.exec(rest)?.[0];
   if (!mark) return "";
   const pattern = mark === "/*" ? /\/\*([^]*?)\*\// : new RegExp(`${mark}${mark === "#" ? "(?!\\d)" : ""}[ \\t]?(.*)`);
   // lw's own comments stay as they are.
@@ -63,7 +99,7 @@ export function explainComment(place) {
   const comments = [...rest.matchAll(either)].filter(([, inner]) => inner !== undefined);
   if (comments.length && !comments.some(([, inner]) => /\(\*|\*\)/.test(inner))) {
     const mended = rest.replace(either, (whole, inner) => (inner === undefined ? whole : `(* ${inner.trim()} *)`));
-    place.put(mended, index, text.length);
+    place.proposeChange(mended, index, text.length);
     place.change.title = comments.length === 1 ? "Change this comment" : `Change ${comments.length} comments`;
   }
   return "Comments are `(*` and `*)`.";
@@ -71,54 +107,46 @@ export function explainComment(place) {
 
 /**
  * Returns a sentence that says that a text has no first line, or no name or no initial values, if that is so at a place; or "". It proposes to put them in.
- * @param {Place} place
+ * @param {FaultPlace} place
  * @returns {string}
  */
 export function explainMissingFront(place) {
   const { text, index, token } = place;
-  const front = withoutComments(text.slice(0, index));
+  const front = blankComments(text.slice(0, index));
   // Before a block a thread's name is read as that of a note, and the fault is after it.
   const hasThreads = token === "P0" || (/\bP0\s*$/.test(front) && /^[|;]$/.test(token));
   const begin = text.lastIndexOf("\n", hasThreads && token !== "P0" ? front.lastIndexOf("P0") : index - 1) + 1;
   if (!front.trim() && /^(?:\{|P0)$/.test(token)) {
     const language = isAllIn("SRC", text) ? "SRC" : "X86";
-    place.put(`${language} Mine\n${token === "{" ? "" : "{}\n"}`, begin, begin);
+    place.proposeChange(`${language} Mine\n${token === "{" ? "" : "{}\n"}`, begin, begin);
     place.change.title = "Put in a first line";
     return `The first line is missing: \`SRC\` or \`X86\`, and a name.`;
   }
   const [, word] = /^\s*(SRC|X86)\s+\{\S*\s/.exec(front) ?? [];
   if (word && hasThreads) {
     const end = front.indexOf(word) + word.length;
-    place.put(" Mine", end, end);
+    place.proposeChange(" Mine", end, end);
     place.change.title = "Put in a name";
     return `The test has no name: it is after \`${word}\`.`;
   }
   if (!hasThreads || front.includes("{")) return "";
-  place.put("{}\n", begin, begin);
+  place.proposeChange("{}\n", begin, begin);
   place.change.title = "Put in {}";
   return "The initial values are missing before the threads: they are `{}` if all are 0.";
 }
 
 /**
- * Returns a sentence that says that initial values have no types, if they have some at a place; or "". It proposes them without, if that is exact.
- * @param {Place} place
- * @returns {string}
+ * Returns a block of initial values without its types; "" if that is not exact, and null if it has none.
+ * @param {string} block
+ * @returns {string | null}
  */
-export function explainTypes(place) {
-  const code = withoutComments(place.text);
-  const begin = code.indexOf("{");
-  const end = code.indexOf("}", begin);
-  if (begin < 0 || end < 0 || place.index < begin || place.index > end || !TYPED.test(code.slice(begin, end))) return "";
-  const parts = code.slice(begin + 1, end).split(";").map((it) => it.trim()).filter(Boolean);
-  const entries = parts.map((it) => ENTRY.exec(it));
-  if (place.text.slice(begin, end) !== code.slice(begin, end) || entries.includes(null)) return NO_TYPES;
+export function rewriteTypes(block) {
+  if (!TYPED.test(block)) return null;
+  const entries = block.slice(1, -1).split(";").map((it) => it.trim()).filter(Boolean).map((it) => ENTRY.exec(it));
+  if (entries.includes(null)) return "";
   const given = entries.filter(([, , , value]) => value !== undefined).map(([, , site, value]) => [site, value]);
-  if (new Map(given).size === given.length) {
-    // A location that is declared without a value begins with 0, unless another entry has its value.
-    const values = new Map([...entries.map(([, , site]) => [site, "0"]), ...given]);
-    place.put(`{ ${[...values].map((it) => it.join("=")).join("; ")} }`, begin, end + 1);
-    place.change.title = "Take out the types";
-  }
-  return NO_TYPES;
+  if (new Map(given).size !== given.length) return "";
+  // A location that is declared without a value begins with 0, unless another entry has its value.
+  const values = new Map([...entries.map(([, , site]) => [site, "0"]), ...given]);
+  return `{ ${[...values].map((it) => it.join("=")).join("; ")} }`;
 }
-

@@ -24,6 +24,7 @@ export function isReserved(name) {
 /** Reads tokens for a test, whose table of locations grows by what is read. */
 export class TokenReader {
   /**
+   * Makes a reader of tokens, at the first of them.
    * @param {Test} test
    * @param {Token[]} tokens
    */

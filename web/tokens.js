@@ -46,12 +46,22 @@ function skipComment(text, offset) {
 }
 
 /**
- * Returns a text with spaces in place of its comments, whose ends of lines stay. Of nested comments it leaves the end of the outer one.
+ * Returns a text of the same length with blanks in place of its comments, whose ends of lines stay. A comment that is left open stays as it is.
  * @param {string} text
  * @returns {string}
  */
-export function withoutComments(text) {
-  return text.replace(/\(\*[^]*?\*\)/g, (it) => it.replace(/./g, " "));
+export function blankComments(text) {
+  let [blanked, offset] = ["", 0];
+  try {
+    for (let opens = text.indexOf("(*"); opens >= 0; opens = text.indexOf("(*", offset)) {
+      const end = skipComment(text, opens);
+      blanked += text.slice(offset, opens) + text.slice(opens, end).replace(/./g, " ");
+      offset = end;
+    }
+  } catch {
+    // The last comment is left open.
+  }
+  return blanked + text.slice(offset);
 }
 
 /**
@@ -144,11 +154,11 @@ export function parseHeading(text) {
 }
 
 /**
- * Returns the name of a test, or other words if its text has no heading.
+ * Returns the name of a test, or "A test" if its text has no heading.
  * @param {string} text
  * @returns {string}
  */
-export function nameOf(text) {
+export function parseName(text) {
   try {
     return parseHeading(text).name;
   } catch {
