@@ -1,24 +1,24 @@
 // Shows a test beside its compiled program, with its fences and without; and below each its list, as it comes, with a film to each state.
 
 import { ask } from "./ask.js";
-import { button, el, plainMark, sentence } from "./dom.js";
+import { el, makeButton, makePlainMark, renderSentence } from "./dom.js";
 import { Film } from "./film.js";
 import * as guess from "./guess.js";
-import { mappedNames } from "./register_names.js";
-import { leftOut } from "./reports.js";
-import { isTooLong, searchOffer } from "./search.js";
+import { describeMapping } from "./register_names.js";
+import { describeLeftOut } from "./reports.js";
+import { isTooLong, makeSearchOffer } from "./search.js";
 import { Strip } from "./strip.js";
-import { codeNodes, tintsOf } from "./tint.js";
+import { findTints, renderCode } from "./tint.js";
 import { showError, clearFault } from "./errors.js";
 
-// Of how many rows and threads at most a code is shown large.
+// The largest numbers of rows and threads of a code that is shown large.
 const [MAX_ROWS, MAX_THREADS] = [6, 2];
 
 /** The panel that shows what a test is compiled to, with the lists of states. */
 export class Compile {
-  /** Fills the panel. It calls `take` with a text for the editor. `openSource` returns a button for the source form of an x86 test, or null. */
-  constructor(panel, editor, take, openSource) {
-    Object.assign(this, { editor, take, openSource });
+  /** Fills the panel. It calls `take` with a text for the editor. `makeSourceButton` returns a button that opens the source form of an x86 test, or null. */
+  constructor(panel, editor, take, makeSourceButton) {
+    Object.assign(this, { editor, take, makeSourceButton });
     this.place = el("div", {});
     this.film = new Film(editor);
     panel.append(this.place, this.film.place);
@@ -51,62 +51,62 @@ export class Compile {
     if (!answer) return;
     this.place.replaceChildren();
     if (!answer.compiled) return showError(answer, this.place, this.editor);
-    this.tints = tintsOf(text);
-    const lists = this.listsOf(answer, text);
-    const codes = this.codesOf(answer);
+    this.tints = findTints(text);
+    const lists = this.makeLists(answer, text);
+    const codes = this.makeCodes(answer);
     const columns = lists.map((it, index) => el("div", {}, codes[index], it.place));
-    this.place.append(this.wordsOn(answer), el("div", { class: "columns" }, columns));
+    this.place.append(this.describeAnswer(answer), el("div", { class: "columns" }, columns));
     const [bare, compiled] = ["bare", "compiled"].map((name) => lists.find((it) => it.name === name));
     await Promise.all(lists.map((it) => it.ask({ timeout, onList: () => bare?.markWhatIsNewTo(compiled) })));
   }
 
   /** Returns the words on the shown texts. */
-  wordsOn(answer) {
+  describeAnswer(answer) {
     const number = answer.fences.length;
-    if (answer.language === "X86") return this.wordsOnX86(number);
+    if (answer.language === "X86") return this.describeX86(number);
     const fences = number === 0 ? "No fence is needed." : number === 1 ? "There is one fence." : `There are ${number} fences.`;
     const texts = number ? "The source test, what it is compiled to, and that without its fences." : "The source test, and what it is compiled to.";
-    return el("p", { role: "status" }, texts, " ", fences, " ", sentence(mappedNames(answer.compiled)));
+    return el("p", { role: "status" }, texts, " ", fences, " ", renderSentence(describeMapping(answer.compiled)));
   }
 
   /** Returns the words on an x86 test with a number of fences: nothing is compiled, and what there is instead. */
-  wordsOnX86(number) {
+  describeX86(number) {
     const shown = number ? "here it is with its fences and without them" : "here are its code and its list";
-    const source = this.openSource();
+    const source = this.makeSourceButton();
     const other = source ? [" Its source form is compiled: ", source, "."] : "";
     return el("p", { role: "status" }, `This test is x86 already, so nothing is compiled: ${shown}.`, other);
   }
 
   /** Returns the code of each text: of the source, of what it is compiled to, and of that without its fences. */
-  codesOf(answer) {
+  makeCodes(answer) {
     const isSource = answer.language === "SRC";
     const compiled = answer.fences.length ? "x86, with its fences" : "x86, no fence needed";
-    const codes = [this.code(isSource ? compiled : "x86, as it is", answer.cells, answer.compiled)];
-    if (isSource) codes.unshift(this.code("Source", answer.cells_of_source));
-    if (answer.fences.length) codes.push(this.code(["x86, without fences ", plainMark()], answer.bare_cells, answer.bare));
+    const codes = [this.makeCode(isSource ? compiled : "x86, as it is", answer.cells, answer.compiled)];
+    if (isSource) codes.unshift(this.makeCode("Source", answer.cells_of_source));
+    if (answer.fences.length) codes.push(this.makeCode(["x86, without fences ", makePlainMark()], answer.bare_cells, answer.bare));
     return codes;
   }
 
   /** Returns the code of all threads, each a column; a fence is marked. */
-  code(title, cells, text = null) {
+  makeCode(title, cells, text = null) {
     const height = Math.max(...cells.map((it) => it.length), 0);
-    const rows = Array.from({ length: height }, (_, at) => el("tr", {}, cells.map((column, thread) => cellOf(column[at], this.tints, thread))));
+    const rows = Array.from({ length: height }, (_, at) => el("tr", {}, cells.map((column, thread) => makeCell(column[at], this.tints, thread))));
     const head = el("tr", {}, cells.map((_, thread) => el("th", { scope: "col" }, el("span", { class: `thr thr-${thread}` }, `P${thread}`))));
     const isTight = height > MAX_ROWS || cells.length > MAX_THREADS;
     const code = el("table", { class: isTight ? "code tight" : "code" }, el("caption", {}, title), el("thead", {}, head), el("tbody", {}, rows));
-    const take = text && button("Take into the editor", () => this.take(text), { class: "take" });
+    const take = text && makeButton("Take into the editor", () => this.take(text), { class: "take" });
     return el("div", {}, el("div", { class: "wide" }, code), take);
   }
 
   /** Returns the list of each text, in the order of their codes. */
-  listsOf({ language, compiled, bare, fences }, text) {
+  makeLists({ language, compiled, bare, fences }, text) {
     const isSource = language === "SRC";
     const { editor } = this;
     const watch = (of, run = null) => ({ text: shown, isSearched }, line) => this.film.show(line, { text: shown, of, run, search: isSearched });
     const [title, asItIs] = isSource ? [fences.length ? "With fences" : "Compiled", "of the compiled program "] : ["As it is", ""];
     const lists = [new List("compiled", title, compiled, { editor, watch: watch([asItIs]) })];
     if (isSource) lists.unshift(new List("source", "By interleaving", text, { editor, watch: watch([], "source") }));
-    const without = ["of the program without fences ", plainMark(), " "];
+    const without = ["of the program without fences ", makePlainMark(), " "];
     if (fences.length) lists.push(new List("bare", "Without fences", bare, { editor, watch: watch(without) }));
     return lists;
   }
@@ -142,7 +142,7 @@ class List {
   fail(answer, place, onList) {
     showError(answer, place, this.editor);
     const search = () => this.ask({ onList, search: true });
-    if (isTooLong(answer)) place.append(searchOffer(search, this.editor.id(`search-${this.name}`)));
+    if (isTooLong(answer)) place.append(makeSearchOffer(search, this.editor.makeId(`search-${this.name}`)));
   }
 
   /** Draws the list of states. */
@@ -151,8 +151,8 @@ class List {
     this.strip.wide = this.place.closest("[role=tabpanel]");
     const states = report.number === 1 ? "1 state" : `${report.number.toLocaleString("en")} states`;
     const title = el("h3", {}, `${this.title}: ${states}${isSearched ? ", by a search" : ""}`);
-    this.place.replaceChildren(title, this.strip.place, leftOut(report) ?? "");
-    this.strip.show(report, tintsOf(this.text), null);
+    this.place.replaceChildren(title, this.strip.place, describeLeftOut(report) ?? "");
+    this.strip.show(report, findTints(this.text), null);
   }
 
   /** Marks the states that are not in another list, if both are there and the other is whole. */
@@ -165,8 +165,8 @@ class List {
 }
 
 /** Returns a cell of the code. A fence is marked, and not only by its colour. */
-function cellOf(cell, tints, thread) {
-  const text = codeNodes(cell?.text ?? "", tints, thread);
+function makeCell(cell, tints, thread) {
+  const text = renderCode(cell?.text ?? "", tints, thread);
   if (!cell || !/MFENCE$/.test(cell.text)) return el("td", {}, text);
   return el("td", { class: "fence" }, text, " ", el("span", { class: "badge" }, "fence"));
 }

@@ -14,7 +14,7 @@ function listSuccessors(statement, position) {
 }
 
 /**
- * Returns the positions of the loads that some way through a thread reaches from a store, with nothing between that waits for it.
+ * Returns the positions of the loads that some path through a thread reaches from a store, with nothing between that waits for it.
  * @param {Statement[]} statements
  * @returns {Set<number>}
  */

@@ -14,7 +14,7 @@ const FENCE = /\bMFENCE$/;
  * @param {function(number, number, boolean): void} act
  * @returns {Element | null}
  */
-export function fenceButton({ text, at }, cells, thread, act) {
+export function makeFenceButton({ text, at }, cells, thread, act) {
   const isFence = FENCE.test(text);
   const before = cells.find((it) => it.at === at - 1 && !it.text.endsWith(":"))?.text ?? "";
   if (text.endsWith(":") || (!isFence && (at === 0 || FENCE.test(before)))) return null;

@@ -1,49 +1,30 @@
 // Puts fences into the text of an x86 test, and takes them out again: nothing else of the text changes. A fence goes into a row of its own, or
 // into an empty cell right before its place. The new text is read again, and is used only if it is the test that was wanted. Not proved.
 //
-// A `TextCell` has the offsets of its `begin` and its `end`, its `labels` and its `instruction`.
+// A `TextCell` has the offsets of its `begin` and its `end`, its `labels` and its `instruction`. A `Place` is that of fencing.js.
 
 import { insertFences } from "./fencing.js";
 import { removeFences } from "./sparing.js";
 import { readTest } from "./tests.js";
+import { blankComments } from "./tokens.js";
 
 const FENCE = "MFENCE";
 const END_OF_ROWS = /^\s*(?:locations|exists|forall|filter|~)/;
 
 /**
- * Returns a text in which blanks take the place of comments, of the same length.
- * @param {string} text
- * @returns {string}
- */
-export function withoutComments(text) {
-  let [depth, blanked] = [0, ""];
-  for (let index = 0; index < text.length; index += 1) {
-    const mark = text.slice(index, index + 2);
-    if (mark === "(*") depth += 1;
-    blanked += depth > 0 && text[index] !== "\n" ? " " : text[index];
-    if (depth > 0 && (mark === "(*" || mark === "*)")) {
-      blanked += " ";
-      index += 1;
-      if (mark === "*)") depth -= 1;
-    }
-  }
-  return blanked;
-}
-
-/**
- * Returns the rows of a test below its header: the start and end of each, and its cells, each with its place, labels and instruction.
+ * Returns the rows of a test below its header: the offsets of the start and the end of each, and its cells.
  * @param {string} text
  * @returns {{begin: number, end: number, cells: TextCell[]}[]}
  */
-function rowsInText(text) {
-  const code = withoutComments(text);
+function parseRows(text) {
+  const code = blankComments(text);
   const rows = [];
   let begin = code.indexOf(";", code.indexOf("P0", code.indexOf("}"))) + 1;
   while (begin > 0 && !END_OF_ROWS.test(code.slice(begin))) {
     const end = code.indexOf(";", begin);
     if (end < 0) break;
-    const line = beginOfLine(code, begin, end);
-    rows.push({ begin: line, end, cells: cellsBetween(code, line, end) });
+    const line = findLineBegin(code, begin, end);
+    rows.push({ begin: line, end, cells: parseCells(code, line, end) });
     begin = end + 1;
   }
   return rows;
@@ -56,19 +37,19 @@ function rowsInText(text) {
  * @param {number} end
  * @returns {number}
  */
-function beginOfLine(code, begin, end) {
+function findLineBegin(code, begin, end) {
   const first = begin + /^\s*/.exec(code.slice(begin, end))[0].length;
   return Math.max(begin, code.lastIndexOf("\n", first - 1) + 1);
 }
 
 /**
- * Returns the cells of a row, each with its offsets, its labels and its instruction.
+ * Returns the cells of the row between two offsets.
  * @param {string} code
  * @param {number} begin
  * @param {number} end
  * @returns {TextCell[]}
  */
-function cellsBetween(code, begin, end) {
+function parseCells(code, begin, end) {
   let at = begin;
   return code.slice(begin, end).split("|").map((raw) => {
     const [, labels, instruction] = /^\s*((?:\w+\s*:\s*)*)([^]*?)\s*$/.exec(raw);
@@ -79,14 +60,14 @@ function cellsBetween(code, begin, end) {
 }
 
 /**
- * Returns the row and the cell of an instruction, by its thread and its number; undefined if there is none.
+ * Returns the row and the cell of an instruction, by its thread and its position; undefined if there is none.
  * @param {{cells: TextCell[]}[]} rows
  * @param {Place} place
  * @returns {{row: number, cell: TextCell} | undefined}
  */
-function placeInText(rows, [thread, number]) {
+function findCell(rows, [thread, position]) {
   const filled = rows.flatMap(({ cells }, row) => (cells[thread]?.instruction ? [{ row, cell: cells[thread] }] : []));
-  return filled[number];
+  return filled[position];
 }
 
 /** Returns a text in which another text takes the place of a cell. */
@@ -111,8 +92,8 @@ function padCell(inner, { begin, end }) {
  * @returns {string}
  */
 function insertFence(text, place) {
-  const rows = rowsInText(text);
-  const { row, cell } = placeInText(rows, place);
+  const rows = parseRows(text);
+  const { row, cell } = findCell(rows, place);
   const [thread] = place;
   const labelled = `${cell.labels.trim()} ${FENCE}`.trim();
   const unlabelled = cell.labels ? replaceCell(text, cell, padCell(cell.instruction, cell)) : text;
@@ -131,9 +112,9 @@ function insertFence(text, place) {
  * @returns {string}
  */
 function removeFence(text, place) {
-  const rows = rowsInText(text);
+  const rows = parseRows(text);
   const [thread] = place;
-  const { row, cell } = placeInText(rows, place);
+  const { row, cell } = findCell(rows, place);
   const below = rows[row + 1]?.cells[thread];
   const isMoved = Boolean(cell.labels && below?.instruction);
   const relabelled = isMoved ? replaceCell(text, below, padCell(`${cell.labels.trim()} ${below.labels}${below.instruction}`, below)) : text;
@@ -163,21 +144,21 @@ function applyChanges(text, places, change, changeTest) {
 }
 
 /**
- * Returns the text of an x86 test with fences before some instructions, each a thread and a number; null if that can't be done.
+ * Returns the text of an x86 test with fences before some instructions, each a thread and a position; null if that can't be done.
  * @param {string} text
  * @param {Place[]} places
  * @returns {string | null}
  */
-export function textWithFences(text, places) {
+export function insertFencesInText(text, places) {
   return applyChanges(text, places, insertFence, (test) => insertFences(test, places));
 }
 
 /**
- * Returns the text of an x86 test without one of its fences, by its thread and number; null if that can't be done.
+ * Returns the text of an x86 test without one of its fences, by its thread and position; null if that can't be done.
  * @param {string} text
  * @param {Place} place
  * @returns {string | null}
  */
-export function textWithoutFence(text, place) {
+export function removeFenceFromText(text, place) {
   return applyChanges(text, [place], removeFence, (test) => removeFences(test, [place]));
 }

@@ -2,15 +2,19 @@
 // without it. That does not show that a test with all its fences is right, so the table says in how many states the condition holds.
 
 import { ask } from "./ask.js";
-import { button, el, plainMark, sentence } from "./dom.js";
-import { textWithFences } from "./fence_edit.js";
-import { Film, watchButton } from "./film.js";
+import { el, makeButton, makePlainMark, renderSentence } from "./dom.js";
+import { insertFencesInText } from "./fence_edit.js";
+import { Film, makeWatchButton } from "./film.js";
 import * as guess from "./guess.js";
-import { mappedNames } from "./register_names.js";
-import { isTooLong, searchOffer } from "./search.js";
+import { describeMapping } from "./register_names.js";
+import { isTooLong, makeSearchOffer } from "./search.js";
 import { showError, clearFault } from "./errors.js";
+import { blankComments } from "./tokens.js";
 
 const MAX_SHOWN = 4;
+// The search for further fences that nobody has asked for: how many lists it may make, and after how many milliseconds it begins no further one.
+const AT_ONCE = { lists: 16, milliseconds: 1000 };
+const REACHABLE = "What is asked about is reachable with all locks. Once fences forbid it, a lock that changes nothing here may be needed: ask again then.";
 const BY_CLICK = "In Watch and By hand “+ fence” puts a fence between two instructions, where the pointer is, and “✕ fence” takes it out.";
 
 /** The panel that shows which fences matter. */
@@ -20,12 +24,13 @@ export class Fences {
     Object.assign(this, { editor, take });
     this.place = el("div", {});
     this.more = el("div", { class: "more-fences" });
+    this.locks = el("div", { class: "locks" });
     this.film = new Film(editor);
     this.everything = el("input", { type: "checkbox", id: "everything", change: () => this.ask() });
     const words = " Compare all registers and locations, not only those of the question";
     this.choice = el("p", { class: "row" }, el("label", {}, this.everything, words));
     this.hint = el("p", { class: "small by-click" }, BY_CLICK);
-    panel.append(this.place, this.more, this.choice, this.hint, this.film.place);
+    panel.append(this.place, this.more, this.locks, this.choice, this.hint, this.film.place);
   }
 
   /** Removes what is shown. */
@@ -33,6 +38,7 @@ export class Fences {
     this.askedOf = null;
     this.place.replaceChildren();
     this.more.replaceChildren();
+    this.locks.replaceChildren();
     this.hint.hidden = true;
     this.film.clear();
   }
@@ -58,18 +64,69 @@ export class Fences {
     this.place.replaceChildren();
     if (!answer.table) return this.fail(answer);
     this.isSearched = search;
-    this.choice.hidden = !answer.table.rows.length;
+    this.choice.hidden = !answer.table.rows.length && !hasExchange(this.editor.text);
     this.hint.hidden = answer.language === "SRC";
-    this.place.append(...this.parts(answer));
-    if (!answer.table.answered_by.includes("plain")) this.offerMore(answer);
+    this.place.append(...this.makeParts(answer));
+    if (answer.table.answered_by.includes("plain")) return;
+    this.offerExchanges(answer);
+    this.offerMore(answer);
   }
 
-  /** Offers to find where further fences would forbid what an x86 test asks about, unless that is forbidden. */
-  offerMore({ language, table, condition }) {
+  /** Shows which exchanges need their lock, if there are some; a button offers to look for that if it takes many lists. */
+  async offerExchanges(shown) {
+    if (!hasExchange(this.editor.text)) return;
+    const offer = makeButton("Which exchanges need their lock?", () => this.showExchanges(shown), { class: "main find-locks" });
+    const answer = await this.askExchanges({ limit: AT_ONCE });
+    if (answer) this.locks.replaceChildren(...(answer.exchanges ? this.makePartsOfExchanges(answer.exchanges, shown) : [offer]));
+  }
+
+  /** Shows which exchanges need their lock. */
+  async showExchanges(shown) {
+    const answer = await this.askExchanges({}, { place: this.locks });
+    if (!answer) return;
+    this.locks.replaceChildren();
+    if (!answer.exchanges) return showError(answer, this.locks, this.editor);
+    this.locks.append(...this.makePartsOfExchanges(answer.exchanges, shown));
+  }
+
+  /** Asks which exchanges need their lock, within a limit, if there is one. */
+  askExchanges(limit, options) {
+    const fields = { text: this.editor.text, everything: this.everything.checked, search: this.isSearched, ...limit };
+    return ask(this.editor, "exchanges", fields, options);
+  }
+
+  /** Returns the table of exchanges, each with the states that are new without its lock, and what follows from it. */
+  makePartsOfExchanges(exchanges, { condition, table }) {
+    if (!exchanges.length) return [];
+    const by = this.everything.checked ? "by all registers and locations" : ["by the question ", el("code", {}, condition)];
+    const head = el("tr", {}, ["Exchange", "Without its lock", "States that are new then"].map((it) => el("th", { scope: "col" }, it)));
+    const rows = exchanges.map(({ place, words, added, text }) => {
+      const name = place.replace(/ at \d+,/, ",");
+      const effect = words ? `as ${words} it ${formatAdded(added)}` : "not tried, since no register is free";
+      const of = [`with ${words} in place of ${name} `, makePlainMark(), " "];
+      const watch = (line) => makeWatchButton(line, () => this.film.show(line, { text, of, search: this.isSearched }));
+      return el("tr", {}, el("th", { scope: "row" }, name), el("td", {}, effect), el("td", {}, makeStateLines(added ?? [], watch)));
+    });
+    return [
+      el("p", {}, "Which exchanges need their lock, ", by, "? One after another is tried without it."),
+      el("div", { class: "wide" }, el("table", {}, el("thead", {}, head), el("tbody", {}, rows))),
+      table.positive === (condition.startsWith("forall") ? table.states : 0) ? "" : el("p", { class: "notice" }, REACHABLE),
+      el("p", { class: "small" }, renderSentence("The page's own code writes the texts without a lock, as `tools/fences.py --exchanges` does "), makePlainMark(),
+        ". The lists come from lw."),
+    ];
+  }
+
+  /**
+   * Shows where further fences would forbid what an x86 test asks about, unless that is forbidden; a button offers to look for them if that takes
+   * many lists.
+   */
+  async offerMore({ language, table, condition }) {
     const isForall = condition.startsWith("forall");
     if (language === "SRC" || table.positive === (isForall ? table.states : 0)) return;
     const words = isForall ? "Which fences would make it hold always?" : "Which fences would forbid it?";
-    this.more.replaceChildren(button(words, () => this.showMore(isForall), { class: "main find-fences" }));
+    const offer = makeButton(words, () => this.showMore(isForall), { class: "main find-fences" });
+    const answer = await ask(this.editor, "more fences", { text: this.editor.text, search: this.isSearched, limit: AT_ONCE });
+    if (answer) this.more.replaceChildren(...(answer.fenced ? this.makePartsOfMore(answer.fenced, isForall) : [offer]));
   }
 
   /** Shows the fewest further fences that would forbid what a test asks about. */
@@ -79,69 +136,76 @@ export class Fences {
     if (!answer) return;
     this.more.replaceChildren();
     if (!answer.fenced) return showError(answer, this.more, this.editor);
-    this.more.append(...this.partsOfMore(answer.fenced, isForall));
+    this.more.append(...this.makePartsOfMore(answer.fenced, isForall));
   }
 
   /** Returns the words on the sets of places for fences. */
-  partsOfMore({ sets, more }, isForall) {
+  makePartsOfMore({ sets, more }, isForall) {
     const goal = isForall ? "make the condition hold in every state" : "forbid it";
-    if (!sets.length) return [el("p", { class: "next-step" }, el("b", {}, `No further MFENCE would ${goal}.`))];
+    // With all fences that may help a test's states are those of interleaving.
+    const why = isForall ? "interleaving already ends in a state in which it does not hold" : "interleaving already ends in such a state";
+    if (!sets.length) return [el("p", { class: "next-step" }, el("b", {}, `No further MFENCE would ${goal}:`), ` ${why}.`)];
     const rows = sets.map(({ places, text, states }) => {
       const placeWords = places.map((it) => it.replace(/^(P\d) at \d+, before (.*)$/, "in $1 before `$2`")).join(" and ");
       const several = `it holds in ${isForall ? "all" : "none of"} ${states} states`;
       const result = states === 1 ? `it ${isForall ? "holds" : "does not hold"} in the only state` : several;
-      const tryIt = () => this.take(fencedText(this.editor.text, { places, text }));
-      return el("li", {}, `An MFENCE `, sentence(placeWords), `: ${result}. `, button("Try it", tryIt, { class: "take" }));
+      const tryIt = () => this.take(insertFenceSet(this.editor.text, { places, text }));
+      return el("li", {}, `An MFENCE `, renderSentence(placeWords), `: ${result}. `, makeButton("Try it", tryIt, { class: "take" }));
     });
     const others = more ? [el("p", { class: "small" }, `And ${more} other sets of as many fences.`)] : [];
     const head = el("p", { class: "next-step" }, el("b", {}, `The fewest fences that ${goal}:`));
-    const note = el("p", { class: "small" }, "The page itself puts the fences into the text ", plainMark(), ". The lists come from lw.");
+    const note = el("p", { class: "small" }, "The page itself puts the fences into the text ", makePlainMark(), ". The lists come from lw.");
     return [head, el("ul", { class: "fence-sets" }, rows), ...others, note];
   }
 
   /** Says why there is no table, and offers a search if it would take too long. */
   fail(answer) {
     showError(answer, this.place, this.editor);
-    if (isTooLong(answer)) this.place.append(this.offer());
+    if (isTooLong(answer)) this.place.append(this.makeOffer());
   }
 
   /** Returns the button that asks again, by a search. */
-  offer() {
-    return searchOffer(() => this.show(null, true), this.editor.id("search-fences"));
+  makeOffer() {
+    return makeSearchOffer(() => this.show(null, true), this.editor.makeId("search-fences"));
   }
 
   /** Returns the parts of an answer: the table of fences, and what follows from it. */
-  parts(answer) {
+  makeParts(answer) {
     const { table, condition, texts } = answer;
     const by = this.everything.checked ? "by all registers and locations?" : ["by the question ", el("code", {}, condition), "?"];
     const head = el("tr", {}, ["Fence", "If only it is left out", "States that are new then"].map((it) => el("th", { scope: "col" }, it)));
-    const names = fenceNames(table);
-    const rows = table.rows.map((it, index) => this.rowOf(names[index], it, texts[index]));
+    const names = listFenceNames(table);
+    const rows = table.rows.map((it, index) => this.makeRow(names[index], it, texts[index]));
     const shown = el("table", {}, el("thead", {}, head), el("tbody", {}, rows));
     const isSource = answer.language === "SRC";
-    const verdict = el("p", { class: "verdict", role: "status" }, el("strong", {}, verdictOnTable(answer, names)));
+    const verdict = el("p", { class: "verdict", role: "status" }, el("strong", {}, describeTable(answer, names)));
     const isPlain = table.answered_by.includes("plain");
     const byPage = "lw refuses some lists by their count of orders; these come from the page's own interpreter ";
-    const lists = isPlain ? [byPage, plainMark(), "."] : [`All lists come from lw${this.isSearched ? ", by a search" : ""}.`];
-    const search = isPlain ? this.offer() : "";
+    const lists = isPlain ? [byPage, makePlainMark(), "."] : [`All lists come from lw${this.isSearched ? ", by a search" : ""}.`];
+    const search = isPlain ? this.makeOffer() : "";
     if (!table.rows.length) return [verdict, isPlain || this.isSearched ? el("p", { class: "small" }, ...lists) : "", search];
     return [
       el("p", {}, `Which fences of ${isSource ? "the compiled program" : "the test"} are needed, `, by,
-        isSource ? [" ", sentence(mappedNames(JSON.stringify([condition, table])))] : ""),
+        isSource ? [" ", renderSentence(describeMapping(JSON.stringify([condition, table])))] : ""),
       el("div", { class: "wide" }, shown),
       verdict,
-      el("p", { class: "small" }, "The page's own code takes the fences out of the text, which is ", plainMark(), ". ", ...lists),
+      el("p", { class: "small" }, "The page's own code takes the fences out of the text, which is ", makePlainMark(), ". ", ...lists),
       search,
     ];
   }
 
   /** Returns the row of a fence, by its name, given the text without it. */
-  rowOf(name, { added }, text) {
-    const effect = added.length ? `adds ${added.length} state${added.length === 1 ? "" : "s"}` : "changes nothing";
-    const of = [`without the fence of ${name} `, plainMark(), " "];
-    const watch = (line) => watchButton(line, () => this.film.show(line, { text, of, search: this.isSearched }));
-    return el("tr", {}, el("th", { scope: "row" }, name), el("td", {}, effect), el("td", {}, shownLines(added, watch)));
+  makeRow(name, { added }, text) {
+    const effect = formatAdded(added);
+    const of = [`without the fence of ${name} `, makePlainMark(), " "];
+    const watch = (line) => makeWatchButton(line, () => this.film.show(line, { text, of, search: this.isSearched }));
+    return el("tr", {}, el("th", { scope: "row" }, name), el("td", {}, effect), el("td", {}, makeStateLines(added, watch)));
   }
+}
+
+/** Returns whether a text has an exchange, or a source statement that is compiled to one. */
+function hasExchange(text) {
+  return /\b(?:xchg|xadd|swap|fetchadd)\b/i.test(blankComments(text));
 }
 
 /** Returns the place of a fence, a thread and an index in its code, that words such as `P0 at 1, before ..` name. */
@@ -156,8 +220,8 @@ function parsePlace(words) {
  * @param {{places: string[], text: string}} set
  * @returns {string}
  */
-export function fencedText(text, set) {
-  return textWithFences(text, set.places.map(parsePlace)) ?? set.text;
+export function insertFenceSet(text, set) {
+  return insertFencesInText(text, set.places.map(parsePlace)) ?? set.text;
 }
 
 /** Returns states that two programs have in common, in words. */
@@ -172,7 +236,7 @@ function formatHolding({ states, positive }, several = `${states} states`, one =
 }
 
 /** Returns the page's names of the fences: by the instruction after each, since their numbers count instructions from 0. */
-function fenceNames({ rows }) {
+function listFenceNames({ rows }) {
   const names = rows.map(({ place }) => place.replace(/^(P\d) at \d+$/, "$1, at its end").replace(/ at \d+/, ""));
   return names.map((name, index) => {
     const alike = names.filter((it) => it === name).length;
@@ -184,7 +248,7 @@ function fenceNames({ rows }) {
  * Returns, as children for `el`, the sentence on which fences are enough for the states that exist with all of them, and in how many of these states the
  * condition holds. `names` are those of the fences, in the order of the rows.
  */
-function verdictOnTable({ table, language }, names) {
+function describeTable({ table, language }, names) {
   const { rows, enough, states } = table;
   const program = language === "SRC" ? "the compiled program" : "the test";
   const isOne = rows.length === 1;
@@ -203,8 +267,13 @@ function verdictOnTable({ table, language }, names) {
   return [`${needed} ${program} ends in more states. With ${isOne ? "it" : "all"} ${formatHolding(table)}`];
 }
 
+/** Returns how many states are new, in words. */
+function formatAdded(added) {
+  return added.length ? `adds ${added.length} state${added.length === 1 ? "" : "s"}` : "changes nothing";
+}
+
 /** Returns the first states of some lines, each with its button to watch a run, and how many others there are. */
-function shownLines(lines, watch) {
+function makeStateLines(lines, watch) {
   const shown = lines.slice(0, MAX_SHOWN).map((it) => el("div", {}, el("code", {}, it), " ", watch(it)));
   return lines.length > MAX_SHOWN ? [...shown, `and ${lines.length - MAX_SHOWN} others`] : shown;
 }

@@ -17,13 +17,13 @@ const MAX_SETS = 6;
  * @param {number} position
  * @returns {number[]}
  */
-function listSuccessors({ kind, target }, position) {
+export function listSuccessors({ kind, target }, position) {
   if (target === undefined) return [position + 1];
   return kind === "jmp" ? [target] : [position + 1, target];
 }
 
 /**
- * Returns the positions that some way reaches from a store, with nothing between that waits for it.
+ * Returns the positions that some path reaches from a store, with nothing between that waits for it.
  * @param {Statement[]} code
  * @returns {number[]}
  */
@@ -40,7 +40,7 @@ function findPositionsAfterStores(code) {
 }
 
 /**
- * Returns the positions of the loads that are the first ones from a position on, on some way with nothing before them that waits.
+ * Returns the positions of the loads that some path reaches from a position, this one included, as its first load, with nothing before it that waits.
  * @param {Statement[]} code
  * @param {number} position
  * @returns {number[]}
@@ -52,15 +52,25 @@ function findNextLoads(code, position) {
 }
 
 /**
- * Returns all places where a fence may help: a thread, and the index of the instruction after the fence.
+ * Returns whether a fence may help before an instruction, which a waiting store precedes: it is a load, or a branch to several next loads.
+ * @param {Statement[]} code
+ * @param {number} position
+ * @returns {boolean}
+ */
+function isFencePlace(code, position) {
+  const isBranch = ["je", "jne"].includes(code[position].kind);
+  return code[position].kind === "load" || (isBranch && findNextLoads(code, position).length > 1);
+}
+
+/**
+ * Returns all places where a fence may help, each a thread and the index of the instruction after the fence: before a load after a store; and before a
+ * branch that several such loads follow, since one fence there orders all of them.
  * @param {Test} test
  * @returns {Place[]}
  */
 export function listFencePlaces(test) {
-  const isBranch = (code, position) => ["je", "jne"].includes(code[position].kind) && findNextLoads(code, position).length > 1;
-  const isPlace = (code, position) => code[position].kind === "load" || isBranch(code, position);
   return test.threads.flatMap((code, thread) => findPositionsAfterStores(code)
-    .filter((position) => isPlace(code, position))
+    .filter((position) => isFencePlace(code, position))
     .map((position) => [thread, position]));
 }
 
@@ -73,9 +83,9 @@ export function listFencePlaces(test) {
 export function insertFences(test, places) {
   const threads = test.threads.map((code, thread) => {
     const added = places.filter(([otherThread]) => otherThread === thread).map(([, position]) => position);
-    const moved = (target) => target + added.filter((position) => position < target).length;
+    const shiftTarget = (target) => target + added.filter((position) => position < target).length;
     return code.flatMap((instruction, index) => {
-      const kept = instruction.target === undefined ? instruction : { ...instruction, target: moved(instruction.target) };
+      const kept = instruction.target === undefined ? instruction : { ...instruction, target: shiftTarget(instruction.target) };
       return added.includes(index) ? [{ kind: "mfence" }, kept] : [kept];
     });
   });
@@ -89,10 +99,10 @@ export function insertFences(test, places) {
  * @param {number} [begin]
  * @returns {Generator<Place[]>}
  */
-function* combinations(items, size, begin = 0) {
+function* listCombinations(items, size, begin = 0) {
   if (size === 0) yield [];
   for (let index = begin; size > 0 && index + size <= items.length; index += 1) {
-    for (const others of combinations(items, size - 1, index + 1)) yield [items[index], ...others];
+    for (const others of listCombinations(items, size - 1, index + 1)) yield [items[index], ...others];
   }
 }
 
@@ -103,30 +113,30 @@ function* combinations(items, size, begin = 0) {
  * @returns {Place[][]}
  */
 export function findSmallestSets(fences, isEnough) {
-  const inOrder = (chosen) => fences.filter((it) => chosen.includes(it));
-  if (!isEnough(inOrder(fences))) return [];
+  const sortSet = (chosen) => fences.filter((it) => chosen.includes(it));
+  if (!isEnough(sortSet(fences))) return [];
   const needed = fences.filter((it) => !isEnough(fences.filter((other) => other !== it)));
   if (isEnough(needed)) return [needed];
   const others = fences.filter((it) => !needed.includes(it));
   const tooFew = [];
   for (let size = 1; size <= others.length; size += 1) {
     const sets = [];
-    for (const added of combinations(others, size)) {
-      const candidate = inOrder([...needed, ...added]);
+    for (const added of listCombinations(others, size)) {
+      const candidate = sortSet([...needed, ...added]);
       if (tooFew.some((known) => candidate.every((it) => known.includes(it)))) continue;
       if (isEnough(candidate)) sets.push(candidate);
-      else tooFew.push(growInsufficientSet(candidate, others, inOrder, isEnough));
+      else tooFew.push(growInsufficientSet(candidate, others, sortSet, isEnough));
     }
     if (sets.length) return sets;
   }
   return [];
 }
 
-/** Returns an insufficient set, to which each of the others is added that leaves it insufficient. `inOrder` sorts a set. */
-function growInsufficientSet(fences, others, inOrder, isEnough) {
+/** Returns an insufficient set, to which each of the others is added that leaves it insufficient. `sortSet` returns a set in its order. */
+function growInsufficientSet(fences, others, sortSet, isEnough) {
   let found = fences;
   for (const it of others) {
-    const larger = inOrder([...found, it]);
+    const larger = sortSet([...found, it]);
     if (!found.includes(it) && !isEnough(larger)) found = larger;
   }
   return found;
@@ -135,15 +145,15 @@ function growInsufficientSet(fences, others, inOrder, isEnough) {
 /**
  * Returns the smallest sets of places at which fences answer a test's question: its condition holds in no state, or of `forall` in all. Each has
  * its `places` in words, its `text`, and the number of its `states`. `number` counts the places that were tried, `isAnswered` says whether the test
- * is answered without a further fence, and `more` counts the sets that are not shown. `listOf` gives the number of states of a text and of those in which the
- * condition holds, or null if there is no list.
+ * is answered without a further fence, and `more` counts the sets that are not shown. `listOf` gives the lines of the states of a text, and the number of those
+ * in which the condition holds, or null if there is no list. Throws NoAnswer if a list is refused, or too many are needed.
  * @param {Test} test
  * @param {function(string): ({lines: string[], positive: number} | null)} listOf
  * @returns {{number: number, isAnswered: boolean, sets: {places: string[], text: string, states: number}[], more: number}}
  */
 export function findHelpingSets(test, listOf) {
   const lists = new Map();
-  const countsOf = (places) => {
+  const countStates = (places) => {
     const text = formatCanonicalText(insertFences(test, places));
     if (!lists.has(text)) {
       if (lists.size >= MAX_LISTS) throw new NoAnswer("There are too many places for fences to try them all here: `tools/fences.py` tries more.");
@@ -154,12 +164,12 @@ export function findHelpingSets(test, listOf) {
     return { text, states: list.lines.length, positive: list.positive };
   };
   const isAnswered = ({ states, positive }) => positive === (test.quantifier === "forall" ? states : 0);
-  const nameOf = ([thread, position]) => `P${thread} at ${position}, before ${formatInstruction(test, test.threads[thread][position])}`;
+  const formatNewPlace = ([thread, position]) => `P${thread} at ${position}, before ${formatInstruction(test, test.threads[thread][position])}`;
   const candidates = listFencePlaces(test);
-  const sets = isAnswered(countsOf([])) ? [] : findSmallestSets(candidates, (places) => isAnswered(countsOf(places)));
+  const sets = isAnswered(countStates([])) ? [] : findSmallestSets(candidates, (places) => isAnswered(countStates(places)));
   const shown = sets.slice(0, MAX_SETS).map((places) => {
-    const { text, states } = countsOf(places);
-    return { places: places.map(nameOf), text, states };
+    const { text, states } = countStates(places);
+    return { places: places.map(formatNewPlace), text, states };
   });
-  return { number: candidates.length, isAnswered: isAnswered(countsOf([])), sets: shown, more: sets.length - shown.length };
+  return { number: candidates.length, isAnswered: isAnswered(countStates([])), sets: shown, more: sets.length - shown.length };
 }

@@ -2,7 +2,7 @@
 // can be left out together. The texts without fences are written here, which is not proved; their lists are lw's, or, if it refuses one for its limits, those of walk.js.
 
 import { formatCanonicalText, formatInstruction } from "./canonical.js";
-import { sortedSites } from "./propositions.js";
+import { sortSites } from "./propositions.js";
 import { listStates } from "./walk.js";
 
 /**
@@ -23,9 +23,9 @@ export function listFences(test) {
 export function removeFences(test, leftOut) {
   const threads = test.threads.map((code, thread) => {
     const positions = leftOut.filter(([of]) => of === thread).map(([, at]) => at);
-    const moved = (target) => target - positions.filter((at) => at < target).length;
+    const shiftTarget = (target) => target - positions.filter((at) => at < target).length;
     const kept = code.filter((_, index) => !positions.includes(index));
-    return kept.map((instruction) => (instruction.target === undefined ? instruction : { ...instruction, target: moved(instruction.target) }));
+    return kept.map((instruction) => (instruction.target === undefined ? instruction : { ...instruction, target: shiftTarget(instruction.target) }));
   });
   return { ...test, threads };
 }
@@ -39,7 +39,7 @@ export function showEverything(test) {
   const used = test.threads.flatMap((code, thread) =>
     code.flatMap((it) => [it.register, it.value?.register].filter((at) => at !== undefined).map((register) => ({ thread, register }))),
   );
-  return { ...test, listed: sortedSites([...test.listed, ...used, ...test.locations.map((_, location) => ({ location }))]) };
+  return { ...test, listed: sortSites([...test.listed, ...used, ...test.locations.map((_, location) => ({ location }))]) };
 }
 
 /**
