@@ -1,7 +1,7 @@
 // Explains the page in a few sentences, and its words and keys.
 
-import { button, byId, el, plainMark, sentence } from "./dom.js";
-import { documents, origin } from "./supplies.js";
+import { el, findById, makeButton, makePlainMark, renderSentence } from "./dom.js";
+import { archive, documents, origin } from "./supplies.js";
 
 const TERMS = [
   ["store buffer", "where a processor keeps its stores before others can see them: a queue, the oldest first; the processor itself reads from it"],
@@ -12,8 +12,8 @@ const TERMS = [
   ["interleaving", "the threads take turns on one memory, without store buffers"],
   ["arrows of a graph", "`po`: program order; `rf`: a read has its word from that write; `co`: that write comes later to the same location; `fr`: " +
     "that write comes after the one that was read. They run from what comes before"],
-  ["global happens-before", "the order that all processors agree on: `rf` between threads, `co`, `fr`, and program order, but not from a store to a " +
-    "later load without a fence or a locked instruction between them. A state that needs a cycle of it is forbidden"],
+  ["global happens-before", "the order that all processors agree on: `rf` between threads, `co`, `fr`, and program order, but not from a plain store to " +
+    "a later load without a fence or a locked instruction between them. A state that needs a cycle of it is forbidden"],
   ["coherence", "the accesses to one location have one order, which all processors agree on. A state that needs a cycle of it is forbidden"],
   ["complete (proved)", "the list has every final state and no other. lw finds them by going through all orders of accesses that conflict (two to one " +
     "location, at least one of them a store), or by a search of the machine's states"],
@@ -33,38 +33,49 @@ const PROVED = "Reports, schedules, compiled texts and each step of a run come f
 const NOT_CLAIMED = "The machine is x86-TSO as it was published. That processors on sale behave like it is not proved.";
 // The words on the page's origin if it has a server.
 const SERVED = "The program, its sources and its proof are in the repository that `./page` was started in.";
+const ARCHIVED =
+  " has the programs `lw` and `beyond`, the tools that the page and the documents name, the library, and all examples. It needs Linux on x86-64 " +
+  "and Python, and nothing is built: unpack it, and begin with its README.md.";
 const THEOREMS = "theorems.html";
 const PLAIN = ". What the page's own code finds, which is not proved, is marked ";
 
-/** Returns a link to what is proved, if the page is a site that carries that document. */
-function more() {
+/** Returns a link to the document that says what is proved, as children for `el`; none if the page is no site that carries it. */
+function makeTheoremsLink() {
   const found = documents.find(([file]) => file === THEOREMS);
   return found ? [" ", el("a", { href: THEOREMS, target: "reading" }, "What is proved, in plain words"), "."] : [];
 }
 
-/** Returns links to the documents, if the page is a site that carries some. */
-function reading() {
+/** Returns a heading and links to the documents, as children for `el`; none if the page is no site that carries some. */
+function makeReadingList() {
   const link = ([file, words]) => el("li", {}, el("a", { href: file, target: "reading" }, words));
   return documents.length ? [el("h3", {}, "To read"), el("ul", { class: "reading" }, documents.map(link))] : [];
+}
+
+/** Returns a heading and a link to the archive with the programs and the tools, as children for `el`; none if the page is no site that carries one. */
+function describeArchive() {
+  if (!archive) return [];
+  const link = el("a", { href: archive.file, download: "" }, archive.file);
+  return [el("h3", {}, "To take along"), el("p", {}, link, ` (${archive.size})`, ...renderSentence(ARCHIVED))];
 }
 
 /**
  * Fills the dialog that says what the page is, and opens it on a click.
  * @param {Element} place
  */
-export function about(place) {
-  const list = (pairs) => el("dl", {}, pairs.flatMap(([name, words]) => [el("dt", {}, name), el("dd", {}, sentence(words))]));
+export function fillAbout(place) {
+  const list = (pairs) => el("dl", {}, pairs.flatMap(([name, words]) => [el("dt", {}, name), el("dd", {}, renderSentence(words))]));
   place.append(
     el("h2", { id: "about-title", tabindex: "-1", autofocus: true }, "What is this?"),
     el("p", {}, WHAT),
-    el("p", {}, PROVED, el("span", { id: "where" }), PLAIN, plainMark(), ". Nothing is sent anywhere."),
-    el("p", {}, NOT_CLAIMED, ...more()),
+    el("p", {}, PROVED, el("span", { id: "where" }), PLAIN, makePlainMark(), ". Nothing is sent anywhere."),
+    el("p", {}, NOT_CLAIMED, ...makeTheoremsLink()),
     el("h3", {}, "Words"), list(TERMS),
     el("h3", {}, "Keys"), list(KEYS),
-    ...reading(),
-    el("p", { class: "origin small" }, sentence(origin ?? SERVED)),
-    el("p", { class: "row" }, button("Close", () => place.close(), { class: "main" })),
+    ...makeReadingList(),
+    ...describeArchive(),
+    el("p", { class: "origin small" }, renderSentence(origin ?? SERVED)),
+    el("p", { class: "row" }, makeButton("Close", () => place.close(), { class: "main" })),
   );
   place.addEventListener("click", (event) => event.target === place && place.close());
-  byId("open-about").addEventListener("click", () => place.showModal());
+  findById("open-about").addEventListener("click", () => place.showModal());
 }

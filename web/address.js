@@ -1,37 +1,51 @@
-// Keeps in the address, after `#`, what the page shows: the test, and where in it the reader is. So a reload loses nothing, and
+// Keeps in the address, after `#`, what the page shows: the test, and where in it the reader is. So a reload shows the same again, and
 // the address is a link. The part after `#` is never sent to the server. A browser lets the address change only so often, so
-// changes that follow each other closely are written together; the browser's store of this tab has them at once, for a reload, which
-// may already have begun when the address is written.
+// changes that follow each other closely are written together. A reload may begin before the address is written: so the browser's store of this tab
+// has the changes at once. In a browser that gives no store, such a reload loses them.
 
+// For how many milliseconds changes wait to be written together.
 const PAUSE = 200;
+// The key of the fields in the browser's store of the tab.
 const KEY = "address";
 
 // The fields that name an example, whose name has no blank.
 const NAMES = ["example", "beside"];
 
-let fields = parseFields(keptForReload() ?? location.hash.slice(1));
+let fields = parseFields(readKeptFields() ?? location.hash.slice(1));
 let timer = null;
 // The address as it was written or followed last. If the present one differs, a link is about to be followed, and is not overwritten.
 let known = location.hash;
 storeFields();
+// After Back to this page the store of the tab may have the fields of another one.
 addEventListener("pageshow", storeFields);
 
+/** Returns whether the text of a test in the part of an address after `#` can be decoded; one that was cut, or is no UTF-8, may not. */
+function canDecodeTest(part) {
+  try {
+    decodeURIComponent(/(?:^|[#&])text=([^&]*)/.exec(part)?.[1] ?? "");
+    return true;
+  } catch {
+    return false;
+  }
+}
+
 /**
- * Returns the fields of the part of an address after `#`. In the name of an example a bare `+` is a plus.
+ * Returns the fields of the part of an address after `#`, without a text that can't be decoded. In the name of an example a bare `+` is a plus.
  * @param {string} text
  * @returns {URLSearchParams}
  */
 function parseFields(text) {
-  const parameters = new URLSearchParams(text);
+  const parameters = new URLSearchParams(text.replace(/^#+/, ""));
+  if (!canDecodeTest(text)) parameters.delete("text");
   for (const name of NAMES) if (parameters.has(name)) parameters.set(name, parameters.get(name).replaceAll(" ", "+"));
   return parameters;
 }
 
 /**
- * Returns the address that was kept for a reload, if this is one.
+ * Returns the part of the address after `#` that was kept for a reload, or null: if the page is not reloaded, or nothing was kept.
  * @returns {string | null}
  */
-function keptForReload() {
+function readKeptFields() {
   try {
     return performance.getEntriesByType("navigation")[0]?.type === "reload" ? sessionStorage.getItem(KEY) : null;
   } catch {
@@ -44,7 +58,7 @@ function storeFields() {
   try {
     sessionStorage.setItem(KEY, String(fields));
   } catch {
-    // A browser without a store writes the address a little later, and no more is lost than was typed in that time.
+    // Without a store a reload finds what is written into the address, which lacks at most the changes of the last `PAUSE` milliseconds.
   }
 }
 
@@ -70,7 +84,7 @@ export function put(changes, isNew = false) {
   storeFields();
   if (!isNew) timer ??= setTimeout(write, PAUSE);
   else {
-    history.pushState(null, "", addressOfFields());
+    history.pushState(null, "", formatAddress());
     known = location.hash;
   }
 }
@@ -80,20 +94,20 @@ function write() {
   clearTimeout(timer);
   timer = null;
   if (location.hash !== known) return;
-  history.replaceState(null, "", addressOfFields());
+  history.replaceState(null, "", formatAddress());
   known = location.hash;
 }
 
 /** Returns the address with the present fields. */
-function addressOfFields() {
+function formatAddress() {
   return String(fields) ? `#${fields}` : location.href.split("#")[0];
 }
 
 /**
- * Calls back if the address is changed by anything else, such as a pasted link or the browser's Back; passes what it said before.
+ * Calls `act` with the fields before, whenever something other than this module changes the address, such as a pasted link or the browser's Back.
  * @param {function(Object<string, string>): void} act
  */
-export function onLink(act) {
+export function watchLinks(act) {
   addEventListener("hashchange", () => {
     clearTimeout(timer);
     timer = null;
@@ -105,8 +119,11 @@ export function onLink(act) {
   });
 }
 
-/** Returns the address, with all changes written into it. */
-export function link() {
+/**
+ * Writes all changes into the address, and returns it.
+ * @returns {string}
+ */
+export function makeLink() {
   write();
   return location.href;
 }

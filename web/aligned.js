@@ -16,13 +16,13 @@ function splitCells(line) {
  * @param {string} text
  * @returns {string}
  */
-export function aligned(text) {
+export function alignCells(text) {
   const lines = text.split("\n");
   const begin = lines.findIndex((line) => /^\s*P0\s*[|;]/.test(line));
   const threads = splitCells(lines[begin] ?? "")?.length;
   const isRow = (cells, index) => cells && index >= begin && cells.length === threads;
   const rows = lines.map(splitCells).map((cells, index) => (isRow(cells, index) ? cells : null));
   const widths = Array.from({ length: threads ?? 0 }, (_, thread) => Math.max(...rows.map((cells) => cells?.[thread].length ?? 0)));
-  const shown = (cells) => ` ${cells.map((cell, thread) => cell.padEnd(widths[thread])).join(" | ")} ;`;
-  return lines.map((line, index) => (rows[index] ? shown(rows[index]) : line)).join("\n");
+  const formatRow = (cells) => ` ${cells.map((cell, thread) => cell.padEnd(widths[thread])).join(" | ")} ;`;
+  return lines.map((line, index) => (rows[index] ? formatRow(rows[index]) : line)).join("\n");
 }

@@ -3,20 +3,37 @@
 
 import * as address from "./address.js";
 import { ask } from "./ask.js";
-import { button, byId, el, plainMark } from "./dom.js";
-import { differenceOf, keyOf } from "./differences.js";
-import { textWithoutFence, withoutComments } from "./fence_edit.js";
-import { fencedText } from "./fences.js";
+import { measureCut } from "./code_window.js";
+import { el, findById, makeButton, makePlainMark } from "./dom.js";
+import { compareReports, makeStateKey } from "./differences.js";
+import { removeFenceFromText } from "./fence_edit.js";
+import { insertFenceSet } from "./fences.js";
 import * as guess from "./guess.js";
 import { Lockstep } from "./lockstep.js";
+import { largeType } from "./preferences.js";
 import { Side } from "./side.js";
 import { showError } from "./errors.js";
-import { nameOf } from "./tokens.js";
+import { blankComments, parseName } from "./tokens.js";
 
 // The second tests that are made from the first one, by the names that an answer has for them.
 const MADE = { compiled: "what it is compiled to", bare: "that without its fences", fenced: "that with the fewest fences it needs" };
 
 const NO_FENCES = "No fence makes a difference to what this test asks.";
+
+// A low window in which two tests are side by side, and the arrangements there, each with how the machines are drawn: with the texts, and without them,
+// with the list beside the verdict, or below it; and the store buffers below the code, or beside it.
+const LOW = matchMedia("(min-width: 70rem) and (max-height: 53.7rem)");
+const ARRANGEMENTS = ["", "beside"].flatMap((way) => ["", "without-texts across", "without-texts"].map((it) => [it, way]));
+// More lines than any code has, for a text or a list that is cut, and for a place that is not in sight as a whole.
+const [CUT, OUT_OF_SIGHT] = [1000, 10000];
+
+/** Returns how much of a place is cut: lines of code, and far more if a text or a list in columns is cut, or if not all of the place is in sight. */
+function measureCutOf(place) {
+  const isBroad = (it) => it.scrollWidth > it.clientWidth + 1;
+  const isHigh = place.scrollHeight > place.clientHeight + 1;
+  const lines = [...place.querySelectorAll(".machine")].map(measureCut);
+  return Math.max(0, ...lines) + ([...place.querySelectorAll(".program, .wide")].some(isBroad) ? CUT : 0) + (isHigh ? OUT_OF_SIGHT : 0);
+}
 
 /** The view of two tests side by side. */
 export class Beside {
@@ -25,21 +42,23 @@ export class Beside {
    * called when another run is shown.
    */
   constructor(editor, examples, own, { choose, copyLink, onDraw }) {
+    // `made` is the last test that was made from a first one: `of` has the text of that, and `kind` is a name of MADE.
     Object.assign(this, { editor, examples, own, isOpen: false, made: null });
-    this.place = byId("beside");
+    this.place = findById("beside");
     const onReveal = () => this.compare();
     const onStep = () => this.lockstep?.follow();
     const fitted = () => {
       onDraw();
       this.fitLater();
     };
-    const called = { onReveal, onDraw: fitted, onStep, ownOf: (text) => examples.scheduleOf(text) };
+    const called = { onReveal, onDraw: fitted, onStep, ownOf: (text) => examples.findOwnSchedule(text) };
     this.first = new Side("first", "The first test", { onChoose: choose, ...called });
     this.second = new Side("second", "The second test", { onChoose: (value) => this.choose(value), ...called });
     this.sides = [this.first, this.second];
     this.lockstep = new Lockstep(this.sides.map((it) => it.states.run), () => this.giveKeys(null));
     this.notices = el("div", {});
     this.compared = el("span", { class: "compared", role: "status" });
+    this.notProved = el("span", {});
     this.layOut(copyLink);
     this.listen();
   }
@@ -48,8 +67,8 @@ export class Beside {
   layOut(copyLink) {
     const status = el("span", { role: "status" });
     const controls = [
-      button("◂ Back to one test", () => this.close(), { id: "close-beside" }),
-      button("Link to both", () => copyLink(status), { id: "link-both" }),
+      makeButton("◂ Back to one test", () => this.close(), { id: "close-beside" }),
+      makeButton("Link to both", () => copyLink(status), { id: "link-both" }),
       status,
       this.compared,
       this.lockstep.place,
@@ -59,13 +78,16 @@ export class Beside {
     this.place.append(title, el("div", { class: "row both" }, controls), this.notices, sides);
   }
 
-  /** Listens to the button that compares, and gives the keys to what was used last: one side, or both together. */
+  /** Listens to the button that compares and to what changes the room, and gives the keys to what was used last: one side, or both together. */
   listen() {
-    byId("set-beside").addEventListener("click", () => this.open());
+    findById("set-beside").addEventListener("click", () => this.open());
     for (const side of this.sides) {
       for (const type of ["focusin", "pointerdown"]) side.place.addEventListener(type, () => this.giveKeys(side));
     }
     this.giveKeys(null);
+    LOW.addEventListener("change", () => this.fitLater());
+    largeType.onChange(() => this.fitLater());
+    addEventListener("resize", () => this.isOpen && this.compare());
   }
 
   /** Gives the keys that step through a run to a side, or to both together if there is none. */
@@ -79,7 +101,7 @@ export class Beside {
   /** Sets beside an example the one to compare it with; beside another test the same without its fences, or with the fewest that forbid it. */
   async open() {
     const { name } = this.examples;
-    const hasFences = /^\s*SRC|\bMFENCE\b/i.test(withoutComments(this.editor.text));
+    const hasFences = /^\s*SRC|\bMFENCE\b/i.test(blankComments(this.editor.text));
     if (name) this.takeExample(name);
     else await this.make(hasFences ? "bare" : "fenced");
     if (this.isOpen) this.second.select.focus();
@@ -87,13 +109,13 @@ export class Beside {
 
   /** Sets beside the first test the example that is compared with one of a name. */
   takeExample(name) {
-    this.take({ beside: this.examples.partnerOf(name) });
+    this.take({ beside: this.examples.findPartner(name) });
   }
 
   /** Shows only the first test again. */
   close() {
     this.take({});
-    byId("set-beside").focus();
+    findById("set-beside").focus();
   }
 
   /** Sets a test beside the first, an example or a text, and says so in the address; with neither only the first is shown again. */
@@ -107,22 +129,22 @@ export class Beside {
   /** Shows what the address says. */
   follow() {
     const link = address.read();
-    const example = this.examples.textOf(link.beside) === undefined ? "" : link.beside;
-    const text = this.examples.textOf(example) ?? link.beside_text;
+    const example = this.examples.findText(link.beside) === undefined ? "" : link.beside;
+    const text = this.examples.findText(example) ?? link.beside_text;
     this.isOpen = text !== undefined;
     this.place.hidden = !this.isOpen;
-    for (const name of ["test", "answers"]) byId(name).hidden = this.isOpen;
+    for (const name of ["test", "answers"]) findById(name).hidden = this.isOpen;
     document.body.classList.toggle("two", this.isOpen);
     if (this.isOpen) this.show(text, example);
-    document.title = `${(this.isOpen ? [this.editor.text, text] : [this.editor.text]).map(nameOf).join(" beside ")} - lw`;
+    document.title = `${(this.isOpen ? [this.editor.text, text] : [this.editor.text]).map(parseName).join(" beside ")} - lw`;
   }
 
   /** Shows a second test beside the first. */
   show(text, example) {
     this.notices.replaceChildren();
-    this.first.put(this.editor.text, this.examples.name, this.examples.options());
+    this.first.put(this.editor.text, this.examples.name, this.examples.makeOptions());
     const derived = Object.entries(MADE).map(([value, words]) => el("option", { value: `=${value}` }, words));
-    const options = [...this.examples.options(), el("optgroup", { label: "The first test" }, derived)];
+    const options = [...this.examples.makeOptions(), el("optgroup", { label: "The first test" }, derived)];
     const isMade = this.made?.of === this.editor.text && this.made.text === text;
     this.second.put(text, isMade ? `=${this.made.kind}` : example, options);
   }
@@ -133,7 +155,7 @@ export class Beside {
     if (value) return this.take({ beside: value });
     if (this.own.text?.trim()) return this.take({ beside_text: this.own.text });
     this.follow();
-    this.notices.append(notice("You have not written a test yet. Go back to one test, and write it in the editor."));
+    this.notices.append(makeNotice("You have not written a test yet. Go back to one test, and write it in the editor."));
   }
 
   /**
@@ -143,56 +165,98 @@ export class Beside {
   async make(kind) {
     const { text } = this.editor;
     this.follow();
-    const place = this.isOpen ? this.notices : byId("unknown");
+    const place = this.isOpen ? this.notices : findById("unknown");
     const first = "First say what you expect of the first test.";
-    if (guess.isAwaited(text)) return guess.wait(text, place, notice(first), () => place.replaceChildren());
+    if (guess.isAwaited(text)) return guess.wait(text, place, makeNotice(first), () => place.replaceChildren());
     const answer = await ask(this.second.sheet, kind === "fenced" ? "more fences" : "compile", { text }, { place });
     if (!answer || text !== this.editor.text) return;
     place.replaceChildren();
     const [set] = answer.fenced?.sets ?? [];
-    const made = kind === "fenced" ? set && fencedText(text, set) : kind === "bare" && answer.fences ? bareText(text, answer) : answer[kind];
+    const made = kind === "fenced" ? set && insertFenceSet(text, set) : kind === "bare" && answer.fences ? makeBareText(text, answer) : answer[kind];
     if (made) {
       this.made = { of: text, text: made, kind };
       return this.take({ beside_text: made });
     }
     const { isOpen } = this;
-    if (!isOpen) this.takeExample(nameOf(text));
-    if ("fenced" in answer) this.notices.append(notice(NO_FENCES));
+    if (!isOpen) this.takeExample(parseName(text));
+    if ("fenced" in answer) this.notices.append(makeNotice(NO_FENCES));
     else if (isOpen) showError(answer, this.notices, this.first.sheet);
   }
 
-  /** Fits the code of both machines, after something of one side is shown: both have their parts in the same rows. */
+  /** Fits both sides, after something of one side is shown: both have their parts in the same rows. */
   fitLater() {
-    requestAnimationFrame(() => this.sides.forEach((it) => it.states.run.view.stage.fit()));
+    requestAnimationFrame(() => this.fit());
+  }
+
+  /** Fits both sides; in a low window as they are cut least, and with their texts if nothing is cut then. */
+  fit() {
+    this.showNotProved();
+    let [best, fewest] = [null, Infinity];
+    for (const arrangement of LOW.matches ? ARRANGEMENTS : [["", ""]]) {
+      this.arrange(...arrangement);
+      const cut = measureCutOf(this.place);
+      if (cut < fewest) [best, fewest] = [arrangement, cut];
+      if (!cut) return;
+    }
+    this.arrange(...best);
+  }
+
+  /** Lays the sides out, draws both machines in a way, and lets their code be as high as there is room. */
+  arrange(arrangement, way) {
+    this.place.querySelector(".sides").className = `sides ${arrangement}`;
+    for (const { states } of this.sides) {
+      const { stage } = states.run.view;
+      stage.place.classList.toggle("beside", way !== "");
+      stage.fit();
+    }
+  }
+
+  /** Says whether the window is so narrow that one side is above the other. */
+  get isStacked() {
+    const [one, other] = this.sides.map(({ place }) => place.offsetLeft);
+    return one === other;
   }
 
   /** Says how the lists of states differ, once both are shown, and marks in each what the other has not. */
   compare() {
     const reports = this.sides.map((it) => it.states.report);
-    const { why, both, alone = [null, null] } = reports.every(Boolean) ? differenceOf(...reports) : {};
+    const { why, both, alone = [null, null] } = reports.every(Boolean) ? compareReports(...reports) : {};
     for (const [index, side] of this.sides.entries()) side.states.mark(alone[index]);
     const [first, second] = alone.map((lines) => lines?.length);
     const states = (number) => (number === 1 ? "1 state" : `${number} states`);
-    const numbers = `${states(both)} in both, ${first} only left, ${second} only right. ${this.alsoWords()}`;
+    const [one, other] = this.isStacked ? ["above", "below"] : ["left", "right"];
+    const numbers = `${states(both)} in both, ${first} only ${one}, ${second} only ${other}.${this.explainAlso()}`;
     this.fitLater();
-    this.compared.replaceChildren(...(why ? [why] : both === undefined ? [] : [numbers, plainMark()]));
+    this.compared.replaceChildren(...(why ? [why] : both === undefined ? [] : [numbers]), " ", this.notProved);
+    this.showNotProved();
   }
 
-  /** Says that the state which the verdict on x86 shows is a state by interleaving, too, if one test is the source and the other x86. */
-  alsoWords() {
+  /** Says what the mark in the lists means, if one of them has it; and that this and the comparison are not proved. */
+  showNotProved() {
+    const isMarked = this.sides.some(({ states }) => states.strip.buffered.size);
+    const hasNumbers = /^\d/.test(this.compared.textContent);
+    const words = isMarked ? el("span", { class: "small" }, "◆ only by store buffers. ") : "";
+    this.notProved.replaceChildren(words, isMarked || hasNumbers ? makePlainMark() : "");
+  }
+
+  /**
+   * Returns a sentence that says that the state which the verdict on x86 shows is a state by interleaving, too; "" if that is not so, or not one test
+   * is the source and the other x86.
+   */
+  explainAlso() {
     const [x86, source] = ["X86", "SRC"].map((language) => this.sides.find((it) => it.states.language === language)?.states);
-    const key = x86 && source && x86.asked !== null ? keyOf(x86.asked) : null;
-    const isAlso = key !== null && source.report.states.some(({ line }) => keyOf(line) === key);
-    return isAlso ? `${x86.asked.replace(/;$/, "")} is reached also by interleaving. ` : "";
+    const key = x86 && source && x86.asked !== null ? makeStateKey(x86.asked) : null;
+    const isAlso = key !== null && source.report.states.some(({ line }) => makeStateKey(line) === key);
+    return isAlso ? ` ${x86.asked.replace(/;$/, "")} is reached also by interleaving.` : "";
   }
 }
 
-/** Returns a test without its fences: its own text without them if they can be taken out, or else the canonical one. */
-function bareText(text, { fences, bare }) {
-  return fences.reduceRight((it, place) => it && textWithoutFence(it, place), text) ?? bare;
+/** Returns a test without its `fences`: its own text if they can be taken out of that, or else `bare`, the canonical one. */
+function makeBareText(text, { fences, bare }) {
+  return fences.reduceRight((it, place) => it && removeFenceFromText(it, place), text) ?? bare;
 }
 
 /** Returns a notice that is read out at once. */
-function notice(text) {
+function makeNotice(text) {
   return el("p", { class: "notice", role: "alert" }, text);
 }

@@ -3,7 +3,7 @@
 //
 // A `Cell` has its `text` and `at`, the position of its statement, or of the next one if it only has a label.
 
-import { formatCondition, formatSite, sortedSites } from "./propositions.js";
+import { formatCondition, formatSite, sortSites } from "./propositions.js";
 import { REGISTERS } from "./token_reader.js";
 
 /**
@@ -38,15 +38,15 @@ function formatCells(test, code) {
  * @returns {string}
  */
 export function formatCanonicalText(test) {
-  const row = (cells) => ` ${cells.join(" | ")} ;`;
+  const formatRow = (cells) => ` ${cells.join(" | ")} ;`;
   const columns = test.threads.map((code) => formatCells(test, code));
   const registers = test.registers.flatMap((words, thread) => words.map((word, index) => [`${thread}:${REGISTERS.X86[index]}`, word]));
   const words = test.locations.map((name, index) => [name, test.words[index]]);
   const block = [...registers.filter(([, word]) => word), ...words].map(([name, word]) => ` ${name}=${word};`);
   const height = Math.max(...columns.map((it) => it.length));
-  const rows = Array.from({ length: height }, (_, at) => row(columns.map((column) => column[at] ?? "")));
-  const listed = sortedSites(test.listed).map((site) => `${formatSite(test, site)};`);
-  const lines = [`X86 ${test.name}`, "{", ...block, "}", row(columns.map((_, thread) => `P${thread}`)), ...rows];
+  const rows = Array.from({ length: height }, (_, at) => formatRow(columns.map((column) => column[at] ?? "")));
+  const listed = sortSites(test.listed).map((site) => `${formatSite(test, site)};`);
+  const lines = [`X86 ${test.name}`, "{", ...block, "}", formatRow(columns.map((_, thread) => `P${thread}`)), ...rows];
   if (listed.length) lines.push(`locations [${listed.join(" ")}]`);
   return [...lines, formatCondition(test)].map((line) => `${line}\n`).join("");
 }
@@ -63,7 +63,7 @@ export function listX86Cells(canonical) {
 }
 
 /**
- * Returns, for each thread, its cells that are not empty, each with the number of its statement; a cell with only a label has the next one's.
+ * Returns, for each thread, its cells that are not empty.
  * @param {Test} test
  * @returns {Cell[][]}
  */

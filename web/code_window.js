@@ -20,7 +20,7 @@ export function showNext(machine) {
   for (const code of machine.querySelectorAll(".code")) {
     const next = code.querySelector(".next, .reached");
     code.style.paddingBottom = "";
-    const isWhole = missingLines(code) === 0;
+    const isWhole = countHiddenLines(code) === 0;
     code.classList.toggle("whole", isWhole);
     if (isWhole) code.scrollTop = 0;
     else if (next) scrollTo(code, next);
@@ -29,7 +29,7 @@ export function showNext(machine) {
 }
 
 /** Returns how many lines of a code have no room in its box. */
-function missingLines(code) {
+function countHiddenLines(code) {
   const line = code.firstElementChild.offsetHeight;
   return Math.max(0, Math.ceil((code.scrollHeight - code.clientHeight) / line - SPARE));
 }
@@ -39,18 +39,18 @@ function missingLines(code) {
  * @param {Element} machine
  * @returns {number}
  */
-export function cutOf(machine) {
+export function measureCut(machine) {
   const codes = [...machine.querySelectorAll(".code")];
   for (const code of codes) code.style.paddingBottom = "";
   const isTooLong = codes.some((it) => it.scrollWidth > it.clientWidth + 1);
-  return Math.max(0, ...codes.map(missingLines)) + (isTooLong ? MAX_LINES : 0);
+  return Math.max(0, ...codes.map(countHiddenLines)) + (isTooLong ? MAX_LINES : 0);
 }
 
 /**
  * Returns how high a machine may be to be in sight as a whole, the best first: on a phone on the first screen, or else once it is scrolled there. Returns
  * nothing if it has the room that the page gives it.
  */
-function roomsOf(machine) {
+function listRooms(machine) {
   const { top } = machine.getBoundingClientRect();
   const column = machine.closest(".side")?.parentElement.parentElement;
   if (matchMedia(PHONE).matches) {
@@ -70,7 +70,7 @@ export function fitCodes(machine) {
   machine.style.removeProperty("--code-fit");
   machine.classList.remove("below-first-screen");
   const codes = [...machine.querySelectorAll(".code")];
-  const rooms = codes.length && machine.closest(".run") ? roomsOf(machine) : [];
+  const rooms = codes.length && machine.closest(".run") ? listRooms(machine) : [];
   if (!rooms.length) return;
   const rows = matchMedia(PHONE).matches ? Math.ceil(codes.length / COLUMNS) : 1;
   const tallest = Math.max(...codes.map((it) => it.clientHeight));
@@ -97,7 +97,7 @@ export function isScrolled(machine) {
  * @param {Element} machine
  * @returns {number}
  */
-export function hiddenHeight(machine) {
+export function measureHiddenHeight(machine) {
   if (!isScrolled(machine)) return 0;
   const column = machine.closest("#answers");
   const [threads, memory] = [".threads", ".memory"].map((css) => machine.querySelector(css));
@@ -111,14 +111,14 @@ export function hiddenHeight(machine) {
  * @param {Element} machine
  * @returns {number}
  */
-export function spareHeight(machine) {
-  const hidden = hiddenHeight(machine);
+export function measureSpareHeight(machine) {
+  const hidden = measureHiddenHeight(machine);
   if (!hidden) return 0;
   const spares = [...machine.querySelectorAll(".thread")].map((thread) => {
     const [code, waits, registers, buffer] = [".code", ".waits", ".registers", ".buffer"].map((css) => thread.querySelector(css));
     const least = Math.min(code.children.length, MIN_LINES) * code.firstElementChild.offsetHeight + waits.offsetHeight;
-    const below = (it) => (it ? it.getBoundingClientRect().top - code.getBoundingClientRect().top : Infinity);
-    return Math.min(below(registers) - least, below(buffer) - (machine.classList.contains("beside") ? 0 : least));
+    const measureDistance = (it) => (it ? it.getBoundingClientRect().top - code.getBoundingClientRect().top : Infinity);
+    return Math.min(measureDistance(registers) - least, measureDistance(buffer) - (machine.classList.contains("beside") ? 0 : least));
   });
   return Math.max(0, Math.min(hidden + 1, ...spares));
 }
@@ -136,7 +136,7 @@ export function watchCodes(machine) {
 
 /** Scrolls a line into sight inside its box, with one line around it, and nothing else. The first line in sight is whole. */
 function scrollTo(code, line) {
-  const first = firstLine(code, line).offsetTop;
+  const first = findFirstLine(code, line).offsetTop;
   // Room after the last line lets this line be the first in sight.
   const missing = first + code.clientHeight - code.scrollHeight;
   if (missing > 0) code.style.paddingBottom = `${missing}px`;
@@ -144,7 +144,7 @@ function scrollTo(code, line) {
 }
 
 /** Returns the first line to be in sight so that a line is, with the one before it or after it, and as many others as have room. */
-function firstLine(code, line) {
+function findFirstLine(code, line) {
   const lines = [...code.children];
   const [before, after] = [line.previousElementSibling ?? line, line.nextElementSibling ?? line];
   const isAbove = (it) => it.offsetTop >= code.scrollTop - 1;
@@ -160,8 +160,8 @@ function showLinesInSight(code) {
   code.classList.toggle("more-above", !isWhole && top > 2);
   code.classList.toggle("more-below", !isWhole && bottom < code.lastElementChild.offsetTop + code.lastElementChild.offsetHeight - 2);
   const lines = [...code.children].slice(0, -1);
-  const middle = (it) => it.offsetTop + it.offsetHeight / 2;
-  const seen = lines.flatMap((it, index) => (middle(it) > top && middle(it) < bottom ? [index + 1] : []));
+  const findMiddle = (it) => it.offsetTop + it.offsetHeight / 2;
+  const seen = lines.flatMap((it, index) => (findMiddle(it) > top && findMiddle(it) < bottom ? [index + 1] : []));
   const note = code.parentElement.querySelector(".lines-in-sight");
   if (note) note.textContent = isWhole || !seen.length || seen.length === lines.length ? "" : `lines ${seen[0]} to ${seen.at(-1)} of ${lines.length}`;
 }

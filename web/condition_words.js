@@ -3,7 +3,7 @@
 //
 // An `Atom` is a site, a word, and whether the condition denies that the site has the word.
 
-import { formatSite, isTrueIn, siteKey } from "./propositions.js";
+import { formatSite, isTrueIn, makeSiteKey } from "./propositions.js";
 import { parseReportLine } from "./replays.js";
 import { readTest } from "./tests.js";
 
@@ -17,7 +17,7 @@ const SETS = ["set", "add", "sum"];
  * @param {string} text
  * @returns {Test | null}
  */
-function testOf(text) {
+function readTestOrNull(text) {
   try {
     return readTest(text);
   } catch {
@@ -55,7 +55,7 @@ function findRead(test, { thread, register }) {
 }
 
 /**
- * Says what one thread does: its reads in the order of its code, and the words that it ends with. A register that several of its atoms name is no
+ * Returns what one thread does, in words: its reads in the order of its code, and the words that it ends with. A register that several of its atoms name is no
  * read, since it has one word only.
  * @param {Test} test
  * @param {Atom[]} atoms
@@ -116,19 +116,19 @@ function describeAlternative(test, atoms) {
  * @returns {string | null}
  */
 export function describeCondition(text) {
-  const test = testOf(text);
+  const test = readTestOrNull(text);
   const alternatives = test && listAlternatives(test.proposition);
   return alternatives && alternatives.map((it) => describeAlternative(test, it)).join(", or ");
 }
 
 /**
- * Returns the subject of a test's question: `isAsked` says of a state's line whether the condition asks about it, and `words` which words it names
- * at each site, by name. In a text that is not read, the question is about all states.
+ * Returns what a test's question is about: `isAsked` says of a state's line whether the condition asks about it, and `words` has, by the names of
+ * sites, the words that it names there. In a text that is not read, the question is about all states.
  * @param {string} text
  * @returns {{isAsked: function(string): boolean, words: Map<string, number[]>}}
  */
-export function questionOf(text) {
-  const test = testOf(text);
+export function parseQuestion(text) {
+  const test = readTestOrNull(text);
   if (!test) return { isAsked: () => true, words: new Map() };
   const wanted = test.quantifier !== "forall";
   const words = new Map();
@@ -137,7 +137,7 @@ export function questionOf(text) {
     parts.forEach(collect);
   };
   collect(test.proposition);
-  return { isAsked: (line) => isTrueIn(test.proposition, outcomeOf(test, line)) === wanted, words };
+  return { isAsked: (line) => isTrueIn(test.proposition, parseOutcome(test, line)) === wanted, words };
 }
 
 /**
@@ -146,7 +146,7 @@ export function questionOf(text) {
  * @param {string} line
  * @returns {Outcome}
  */
-function outcomeOf(test, line) {
+function parseOutcome(test, line) {
   const outcome = { registers: test.threads.map(() => ({})), words: {} };
   const byName = new Map(parseReportLine(line));
   for (const [location, name] of test.locations.entries()) if (byName.has(name)) outcome.words[location] = byName.get(name);
@@ -161,7 +161,7 @@ function outcomeOf(test, line) {
  */
 function listShownRegisters(test) {
   const sites = new Map();
-  const add = (site) => site.location === undefined && sites.set(siteKey(site), site);
+  const add = (site) => site.location === undefined && sites.set(makeSiteKey(site), site);
   const collect = ({ kind, parts, site }) => {
     if (kind === "Eq") add(site);
     parts.forEach(collect);

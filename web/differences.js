@@ -11,7 +11,7 @@ const NOT_WHOLE = "The states are not compared, since not all of them are shown.
  * @param {string} line
  * @returns {[string, number][]}
  */
-function pairsOf(line) {
+function parseSortedPairs(line) {
   const pairs = parseReportLine(line).map(([name, word]) => {
     const [, thread, register] = /^(\d):(\w+)$/.exec(name) ?? [];
     return [thread === undefined ? name : `${thread}:${parseRegister(register)}`, word];
@@ -24,13 +24,13 @@ function pairsOf(line) {
  * @param {string} line
  * @returns {string}
  */
-export function keyOf(line) {
-  return String(pairsOf(line));
+export function makeStateKey(line) {
+  return String(parseSortedPairs(line));
 }
 
 /** Returns a key of the sites that the states of a report show, by those of the first one: the same for two reports if they show the same sites. */
-function shownNames({ states }) {
-  return String(pairsOf(states[0]?.line ?? "").map(([name]) => name));
+function makeSitesKey({ states }) {
+  return String(parseSortedPairs(states[0]?.line ?? "").map(([name]) => name));
 }
 
 /**
@@ -38,10 +38,10 @@ function shownNames({ states }) {
  * @param {...Report} reports
  * @returns {{both: number, alone: string[][]} | {why: string}}
  */
-export function differenceOf(...reports) {
+export function compareReports(...reports) {
   if (reports.some((it) => it.left_out)) return { why: NOT_WHOLE };
-  if (shownNames(reports[0]) !== shownNames(reports[1])) return { why: OTHER_NAMES };
-  const lines = reports.map(({ states }) => new Map(states.map(({ line }) => [keyOf(line), line])));
+  if (makeSitesKey(reports[0]) !== makeSitesKey(reports[1])) return { why: OTHER_NAMES };
+  const lines = reports.map(({ states }) => new Map(states.map(({ line }) => [makeStateKey(line), line])));
   const others = [...lines].reverse();
   const alone = lines.map((it, index) => [...it].filter(([key]) => !others[index].has(key)).map(([, line]) => line));
   return { both: lines[0].size - alone[0].length, alone };

@@ -1,5 +1,7 @@
 // Makes elements. Whatever a test says becomes text nodes, and nothing else. The types `Node`, `Element` and `Event` are the browser's.
 
+import { archive } from "./supplies.js";
+
 /**
  * Makes an element with attributes, and children that are elements, texts or lists of them. A function is a listener, `true` is set.
  * @param {string} tag
@@ -25,24 +27,31 @@ export function el(tag, attributes = {}, ...children) {
  * @param {Object<string, string | boolean | null>} [attributes]
  * @returns {HTMLButtonElement}
  */
-export function button(text, act, attributes = {}) {
+export function makeButton(text, act, attributes = {}) {
   return el("button", { type: "button", click: act, ...attributes }, text);
 }
 
 /**
- * Returns a sentence of the documents, in which text between backquotes is code.
+ * Returns a sentence as children for `el`: text between its backquotes becomes code.
  * @param {string} text
  * @returns {(Node | string)[]}
  */
-export function sentence(text) {
-  return text.split("`").map((part, index) => (index % 2 ? el("code", {}, part) : part));
+export function renderSentence(text) {
+  return text.split("`").map((part, index) => (index % 2 ? makeCode(part) : part));
+}
+
+/** Makes an element of code. The name of a tool becomes a link to the archive that has it, if the page is a site that carries one. */
+function makeCode(text) {
+  const code = el("code", {}, text);
+  if (!archive || !text.startsWith("tools/")) return code;
+  return el("a", { href: archive.file, download: "", title: `in ${archive.file}, ${archive.size}` }, code);
 }
 
 /**
  * Makes the mark of what is not proved.
  * @returns {Element}
  */
-export function plainMark() {
+export function makePlainMark() {
   return el("span", { class: "plain", title: "found by the page's own code, which is not proved" }, "not proved");
 }
 
@@ -51,6 +60,6 @@ export function plainMark() {
  * @param {string} id
  * @returns {HTMLElement}
  */
-export function byId(id) {
+export function findById(id) {
   return document.getElementById(id);
 }

@@ -2,8 +2,8 @@
 // line and below its token. On paper the whole text is in its place, which shows a part.
 
 import { el } from "./dom.js";
-import { tokenAt } from "./faults.js";
-import { textNodes, tintsOf } from "./tint.js";
+import { findToken } from "./faults.js";
+import { findTints, renderText } from "./tint.js";
 
 // The least and the largest number of lines in sight.
 const [MIN_LINES, MAX_LINES] = [6, 40];
@@ -28,7 +28,7 @@ export class Editor {
       scroll: () => this.follow(),
     });
     this.printed = el("pre", { class: "printed", "aria-hidden": "true" });
-    this.place = place;
+    Object.assign(this, { place, isByPage: false });
     place.append(this.numbers, el("div", { class: "sheet" }, this.marks, this.colours, this.area, this.printed));
     this.fault = null;
     // Its test is not one of two that are side by side: a film of it may fill the window and change the address, and keys are for it.
@@ -38,7 +38,7 @@ export class Editor {
   }
 
   /** Returns the id of an element that belongs to this test. */
-  id(name) {
+  makeId(name) {
     return name;
   }
 
@@ -54,12 +54,12 @@ export class Editor {
     this.mark(null);
   }
 
-  /** Takes note that the reader has changed the text, and calls `changed` with the text before. */
+  /** Takes note that the text has changed, and calls `changed` with the text before, and whether the page has changed it at the reader's request. */
   change(changed) {
     const before = this.known;
     this.known = this.text;
     this.mark(null);
-    changed(before);
+    changed(before, this.isByPage);
   }
 
   /** Marks the token of a fault, or none. */
@@ -79,11 +79,11 @@ export class Editor {
     this.numbers.replaceChildren(...rows);
     this.size(lines);
     this.printed.textContent = this.text;
-    this.colours.replaceChildren(...textNodes(this.text, tintsOf(this.text)), "\n");
+    this.colours.replaceChildren(...renderText(this.text, findTints(this.text)), "\n");
     this.marks.replaceChildren();
     if (this.fault) {
       const at = this.fault.index;
-      const marked = tokenAt(this.text, at) || " ";
+      const marked = findToken(this.text, at) || " ";
       const mark = el("mark", {}, marked.trim() ? marked : " ");
       this.marks.append(this.text.slice(0, at), mark, marked === "\n" ? "\n" : "", this.text.slice(at + marked.length));
     }
@@ -109,11 +109,14 @@ export class Editor {
 
   /** Replaces a part of the text as if the reader had written it, so that the browser can undo it. */
   replace({ begin, end, text }) {
+    this.isByPage = true;
     this.area.focus();
     this.area.setSelectionRange(begin, end);
-    if (document.execCommand("insertText", false, text)) return;
-    this.area.setRangeText(text, begin, end, "end");
-    this.area.dispatchEvent(new Event("input"));
+    if (!document.execCommand("insertText", false, text)) {
+      this.area.setRangeText(text, begin, end, "end");
+      this.area.dispatchEvent(new Event("input"));
+    }
+    this.isByPage = false;
   }
 
   /** Goes to the place of the fault. */

@@ -39,7 +39,7 @@ export function describeRefusal(number) {
  */
 export function describeEvent(event, cells, before, after) {
   const thread = Number(event[1]);
-  return { thread, ...effectOfThread(event, thread, cells, before, after) };
+  return { thread, ...describeThreadEvent(event, thread, cells, before, after) };
 }
 
 /**
@@ -51,7 +51,7 @@ export function describeEvent(event, cells, before, after) {
  * @param {State} after
  * @returns {Effect}
  */
-function effectOfThread(event, thread, cells, before, after) {
+function describeThreadEvent(event, thread, cells, before, after) {
   if (event[0] === "D") return describeDrain(thread, before, after);
   if (event[0] === "E") return { words: `P${thread}'s cache gives up its line of \`${event.slice(3)}\`` };
   const cell = cells[thread].find((it) => it.at === before.threads[thread].at && !it.text.endsWith(":"))?.text ?? "";
@@ -72,7 +72,7 @@ class Step {
    * @param {string} text
    * @returns {number}
    */
-  readValue(text) {
+  parseValue(text) {
     return this.registers.get(text) ?? Number(text.replace("$", ""));
   }
 
@@ -92,7 +92,7 @@ class Step {
    * @param {State} [state]
    * @returns {number}
    */
-  readMemory(location, state = this.before) {
+  findWord(location, state = this.before) {
     return new Map(state.content).get(location);
   }
 
@@ -104,7 +104,7 @@ class Step {
   }
 
   /** Returns the index of the newest entry of a location in the own store buffer, or -1. */
-  newest(location) {
+  findNewestEntry(location) {
     return (this.threadBefore.buffer ?? []).map(([name]) => name).lastIndexOf(location);
   }
 
@@ -121,17 +121,17 @@ class Step {
 const FORMS = [
   [/^MOV \[(\w+)\],(\S+)$/, describeStore],
   [/^MOV (\w+),\[(\w+)\]$/, describeLoad],
-  [/^MOV (\w+),(\S+)$/, (step, register, value) => describeWordAssignment(step, register, step.readValue(value))],
+  [/^MOV (\w+),(\S+)$/, (step, register, value) => describeWordAssignment(step, register, step.parseValue(value))],
   [/^ADD (\w+),(\S+)$/, describeAdd],
   [/^CMP (\w+),(\S+)$/, describeCompare],
   [/^MFENCE$/, (step) => ({ words: `${step.name} passes its fence, since its store buffer is empty` })],
   [/^J\w+ (L\d+)$/, describeJump],
-  [/^XCHG \[(\w+)\],(\w+)$/, (step, location, register) => describeWordExchange(step, register, location, step.readValue(register))],
+  [/^XCHG \[(\w+)\],(\w+)$/, (step, location, register) => describeWordExchange(step, register, location, step.parseValue(register))],
   [/^LOCK XADD \[(\w+)\],(\w+)$/, (step, location, register) => describeFetchAndAdd(step, register, location, register)],
-  [/^(r\d) := swap (\w+) (\w+)$/, (step, register, location, value) => describeWordExchange(step, register, location, step.readValue(value))],
+  [/^(r\d) := swap (\w+) (\w+)$/, (step, register, location, value) => describeWordExchange(step, register, location, step.parseValue(value))],
   [/^(r\d) := fetchadd (\w+) (\w+)$/, describeFetchAndAdd],
-  [/^(r\d) := (r\d) \+ (\w+)$/, (step, register, left, value) => describeWordAssignment(step, register, (step.readValue(left) + step.readValue(value)) % WORD)],
-  [/^(r\d) := (\d\w*|r\d)$/, (step, register, value) => describeWordAssignment(step, register, step.readValue(value))],
+  [/^(r\d) := (r\d) \+ (\w+)$/, (step, register, left, value) => describeWordAssignment(step, register, (step.parseValue(left) + step.parseValue(value)) % WORD)],
+  [/^(r\d) := (\d\w*|r\d)$/, (step, register, value) => describeWordAssignment(step, register, step.parseValue(value))],
   [/^(r\d) := (\w+)$/, describeLoad],
   [/^(\w+) := (\w+)$/, describeStore],
   [/^if (r\d) (!?=) (\w+) goto (\w+)$/, describeConditionalJump],
@@ -160,8 +160,8 @@ function describeStatement(step, text) {
  * @returns {Effect | null}
  */
 function describeStore(step, location, value) {
-  const word = step.readValue(value);
-  const [name, stored] = step.threadAfter.buffer ? (step.threadAfter.buffer.at(-1) ?? []) : [location, step.readMemory(location, step.after)];
+  const word = step.parseValue(value);
+  const [name, stored] = step.threadAfter.buffer ? (step.threadAfter.buffer.at(-1) ?? []) : [location, step.findWord(location, step.after)];
   if (name !== location || stored !== word) return null;
   const [does, where] = step.threadAfter.buffer ? ["puts", "into its store buffer"] : ["writes", "to memory"];
   return { words: `${step.name} ${does} \`${location}=${word}\` ${where}` };
@@ -175,8 +175,8 @@ function describeStore(step, location, value) {
  * @returns {Effect | null}
  */
 function describeLoad(step, register, location) {
-  const entry = step.newest(location);
-  const word = entry < 0 ? step.readMemory(location) : step.threadBefore.buffer[entry][1];
+  const entry = step.findNewestEntry(location);
+  const word = entry < 0 ? step.findWord(location) : step.threadBefore.buffer[entry][1];
   if (!step.leaves(register, word)) return null;
   const read = `${step.name} reads \`${location}=${word}\``;
   if (entry >= 0) return { words: `${read} from its own store buffer into \`${register}\``, register, entry };
@@ -196,9 +196,9 @@ function describeWordAssignment(step, register, word) {
  * @returns {Effect | null}
  */
 function describeAdd(step, register, value) {
-  const word = (step.readValue(register) + step.readValue(value)) % WORD;
+  const word = (step.parseValue(register) + step.parseValue(value)) % WORD;
   if (!step.leaves(register, word)) return null;
-  return { words: `${step.name} adds ${step.readValue(value)}, which makes \`${register}=${word}\``, register };
+  return { words: `${step.name} adds ${step.parseValue(value)}, which makes \`${register}=${word}\``, register };
 }
 
 /**
@@ -209,7 +209,7 @@ function describeAdd(step, register, value) {
  * @returns {Effect}
  */
 function describeCompare(step, register, value) {
-  const [one, other] = [step.readValue(register), step.readValue(value)];
+  const [one, other] = [step.parseValue(register), step.parseValue(value)];
   const result = one === other ? "are equal" : "differ";
   return { words: `${step.name} compares \`${register}=${one}\` with ${other}: they ${result}` };
 }
@@ -222,7 +222,7 @@ function describeJump(step, label) {
 
 /** Returns the effect of `if r = n goto L`, or of one with `!=`; or null. */
 function describeConditionalJump(step, register, sign, number, label) {
-  const word = step.readValue(register);
+  const word = step.parseValue(register);
   const jumps = (word === Number(number)) === (sign === "=");
   if (!jumps && step.threadAfter.at !== step.threadBefore.at + 1) return null;
   return { words: `${step.name} ${jumps ? `goes to \`${label}\`` : "does not jump"}, since \`${register}=${word}\`` };
@@ -230,15 +230,15 @@ function describeConditionalJump(step, register, sign, number, label) {
 
 /** Returns the effect of a step that reads a location into a register and writes a word to it, with nothing between; or null. */
 function describeWordExchange(step, register, location, word) {
-  const old = step.readMemory(location);
-  if (!step.leaves(register, old) || step.readMemory(location, step.after) !== word) return null;
+  const old = step.findWord(location);
+  if (!step.leaves(register, old) || step.findWord(location, step.after) !== word) return null;
   const read = `${step.name} reads \`${location}=${old}\` from memory into \`${register}\``;
   return { words: `${read} and writes \`${location}=${word}\` in one step${step.describeWaiting(location)}`, register, location, ...step.describeCache(location) };
 }
 
 /** Returns the effect of a step that adds a value to a location and reads the old word into a register, or null. */
 function describeFetchAndAdd(step, register, location, value) {
-  return describeWordExchange(step, register, location, (step.readMemory(location) + step.readValue(value)) % WORD);
+  return describeWordExchange(step, register, location, (step.findWord(location) + step.parseValue(value)) % WORD);
 }
 
 /** Returns the effect of a drain: the oldest entry of a store buffer leaves it. */

@@ -1,27 +1,27 @@
 // Shows the examples by family, and the comment of the chosen one.
 
-import { aligned } from "./aligned.js";
-import { button, byId, el, sentence } from "./dom.js";
+import { alignCells } from "./aligned.js";
+import { el, findById, makeButton, renderSentence } from "./dom.js";
 import { caches } from "./preferences.js";
-import { beginsWithX86, nameOf } from "./tokens.js";
+import { beginsWithX86, parseName } from "./tokens.js";
 
 // The suffixes after the `+` in the name of a test to which fences or locked exchanges were added: the clearest first.
 const FENCED = [/^mfences$/, /mfence/, /^(?:xchgs|xadds)$/, /^(?:xchg|swap)$/];
 
 /** Returns the two parts of an example's name: what comes before `-x86`, and that. */
-function partsOf(name) {
+function splitName(name) {
   const [, stem, form] = /^(.*?)(-x86)?$/.exec(name);
   return [stem, form ?? ""];
 }
 
-/** Returns the number of letters with which two names both begin. */
-function commonLetters(one, other) {
+/** Returns the length of the longest common prefix of two names. */
+function measureCommonPrefix(one, other) {
   const differs = [...one].findIndex((letter, index) => letter !== other[index]);
   return differs < 0 ? one.length : differs;
 }
 
 /** Returns a comment, without its sentences on caches if the reader does not look at them. */
-function withoutCaches(text) {
+function removeCacheSentences(text) {
   if (caches.isOn) return text;
   const kept = text.split(/(?<=[.?!]) (?=[A-Z])/).filter((it) => !/\bcaches?\b|\blines?\b|memory's own/i.test(it));
   return kept.length ? kept.join(" ") : text;
@@ -33,7 +33,7 @@ const NAME = /(`?[\w.+]+-x86\b`?|`[\w.+]+`|(?<=\b[Ss]ee )[\w.+]*\w)/;
 // Why the outcome of an x86 test that is allowed surprises, or that it needs no store buffer: what is known of it by interleaving.
 const BY_INTERLEAVING = {
   allowed: "Some interleaving gives this, too: it needs no store buffer.",
-  forbidden: "No interleaving gives this: it needs store buffers.",
+  forbidden: "No interleaving gives this outcome.",
 };
 // A sentence that says more of one test.
 const SURPRISES = {
@@ -42,12 +42,12 @@ const SURPRISES = {
 const KNOWN = /^Interleaving: (allowed|forbidden)\. x86-TSO: allowed\./;
 
 /** Returns the schedule of the run that a comment describes, or null. */
-function scheduleIn(comment) {
+function findSchedule(comment) {
   return /\bA (?:telling schedule|run): ([\w\s:]+)/.exec(comment)?.[1].trim().replace(/\s+/g, " ") ?? null;
 }
 
 /** Returns the words beside the comment of a source test if only the compiler's fences forbid its outcome on x86; or "". */
-function fencesWords({ name, text, known }, tests) {
+function explainFences({ name, text, known }, tests) {
   const isHeldByFences = text.startsWith("SRC") && KNOWN.exec(known)?.[1] === "forbidden";
   if (!isHeldByFences) return "";
   const bare = `${name}-x86`;
@@ -60,71 +60,71 @@ export class Examples {
   constructor(families, choose) {
     Object.assign(this, { families, choose });
     caches.onChange(() => this.tests.has(this.name) && this.show(this.name, ""));
-    this.tests = new Map(families.flatMap((family) => family.tests).map((it) => [it.name, { ...it, text: aligned(it.text) }]));
+    this.tests = new Map(families.flatMap((family) => family.tests).map((it) => [it.name, { ...it, text: alignCells(it.text) }]));
   }
 
   /** Returns the options of a list of all tests: by family, with what each shows, or only their names if the reader predicts. */
-  options() {
-    const isPredicting = byId("predict").checked;
-    const option = ({ name, shows }) => el("option", { value: name }, isPredicting ? name : `${name}: ${shows.replaceAll("`", "")}`);
-    const listed = ({ name, tests }) => (isPredicting ? tests.map(option) : el("optgroup", { label: name }, tests.map(option)));
-    return [el("option", { value: "" }, "a test of my own"), ...this.families.flatMap(listed)];
+  makeOptions() {
+    const isPredicting = findById("predict").checked;
+    const makeOption = ({ name, shows }) => el("option", { value: name }, isPredicting ? name : `${name}: ${shows.replaceAll("`", "")}`);
+    const makeGroup = ({ name, tests }) => (isPredicting ? tests.map(makeOption) : el("optgroup", { label: name }, tests.map(makeOption)));
+    return [el("option", { value: "" }, "a test of my own"), ...this.families.flatMap(makeGroup)];
   }
 
   /** Shows which example the text is, if it is one. Words that give the answer away are folded, all of them if the reader predicts. */
   show(name, text) {
     const test = this.tests.get(name);
-    const isPredicting = byId("predict").checked;
+    const isPredicting = findById("predict").checked;
     this.name = name;
-    byId("example-name").textContent = test ? name : nameOf(text);
-    byId("example-shows").textContent = test ? "" : "my own";
-    const about = test && el("p", { class: "about" }, this.linked(`${withoutCaches(test.about)}${fencesWords(test, this.tests)}`));
-    const known = test && el("p", {}, this.linked(test.known));
-    const folded = (title, ...inner) => el("details", {}, el("summary", {}, title), inner);
-    byId("about").replaceChildren(test && !isPredicting ? about : "");
-    byId("known").replaceChildren(test ? (isPredicting ? folded("About it", about, known) : folded("What is known about it", known)) : "");
+    findById("example-name").textContent = test ? name : parseName(text);
+    findById("example-shows").textContent = test ? "" : "my own";
+    const about = test && el("p", { class: "about" }, this.linkNames(`${removeCacheSentences(test.about)}${explainFences(test, this.tests)}`));
+    const known = test && el("p", {}, this.linkNames(test.known));
+    const makeFold = (title, ...inner) => el("details", {}, el("summary", {}, title), inner);
+    findById("about").replaceChildren(test && !isPredicting ? about : "");
+    findById("known").replaceChildren(test ? (isPredicting ? makeFold("About it", about, known) : makeFold("What is known about it", known)) : "");
   }
 
   /** Returns a sentence in which the name of another example leads to it. */
-  linked(text) {
+  linkNames(text) {
     const isOther = (name) => name !== this.name && this.tests.has(name);
-    const link = (name) => (isOther(name) ? button(name, () => this.choose(name), { class: "link" }) : this.tests.has(name) && el("code", {}, name));
-    return text.split(NAME).flatMap((part, index) => (index % 2 && link(part.replaceAll("`", ""))) || sentence(part));
+    const renderName = (name) => (isOther(name) ? makeButton(name, () => this.choose(name), { class: "link" }) : this.tests.has(name) && el("code", {}, name));
+    return text.split(NAME).flatMap((part, index) => (index % 2 && renderName(part.replaceAll("`", ""))) || renderSentence(part));
   }
 
   /** Returns the same x86 test with fences, or undefined if there is none. */
-  fencedOf(name) {
-    const [stem, form] = partsOf(name);
+  findFenced(name) {
+    const [stem, form] = splitName(name);
     if (!form) return undefined;
     const added = [...this.tests.keys()].filter((it) => it.startsWith(`${stem}+`) && it.endsWith(form));
-    return FENCED.map((kind) => added.find((it) => kind.test(partsOf(it)[0].slice(stem.length + 1)))).find(Boolean);
+    return FENCED.map((kind) => added.find((it) => kind.test(splitName(it)[0].slice(stem.length + 1)))).find(Boolean);
   }
 
   /**
    * Returns the same test in another form: with fences; of one with fences that without; of a source test that for x86, without the
    * compiler's fences. Returns undefined if there is none.
    */
-  relativeOf(name) {
-    const [stem, form] = partsOf(name);
+  findRelative(name) {
+    const [stem, form] = splitName(name);
     const bare = `${stem.slice(0, Math.max(0, stem.lastIndexOf("+")))}${form}`;
-    return this.fencedOf(name) ?? [bare, form ? "" : `${stem}-x86`].find((it) => this.tests.has(it));
+    return this.findFenced(name) ?? [bare, form ? "" : `${stem}-x86`].find((it) => this.tests.has(it));
   }
 
   /** Returns the example to compare one with: the same test in another form, or else the one with the nearest name. */
-  partnerOf(name) {
-    const found = this.relativeOf(name);
+  findPartner(name) {
+    const found = this.findRelative(name);
     if (found) return found;
     const others = [...this.tests.keys()].filter((it) => it !== name);
-    return others.reduce((best, it) => (commonLetters(name, it) > commonLetters(name, best) ? it : best));
+    return others.reduce((best, it) => (measureCommonPrefix(name, it) > measureCommonPrefix(name, best) ? it : best));
   }
 
   /** Returns the text of an example, aligned; undefined if there is none of the name. */
-  textOf(name) {
+  findText(name) {
     return this.tests.get(name)?.text;
   }
 
   /** Returns the name of the example with a text, or undefined. */
-  nameOf(text) {
+  findName(text) {
     return [...this.tests.values()].find((it) => it.text === text)?.name;
   }
 
@@ -132,8 +132,8 @@ export class Examples {
    * Returns a note on the outcome of an x86 example that x86-TSO allows: whether interleaving allows it, too. Of an x86 test that is no example it is
    * null, and otherwise "".
    */
-  noteOn(text, isAllowed) {
-    const name = this.nameOf(aligned(text));
+  findNote(text, isAllowed) {
+    const name = this.findName(alignCells(text));
     const isX86 = beginsWithX86(text);
     if (isX86 && !name) return null;
     const by = isX86 && isAllowed ? KNOWN.exec(this.tests.get(name)?.known)?.[1] : undefined;
@@ -141,7 +141,7 @@ export class Examples {
   }
 
   /** Returns the schedule that a text has of its own: of an example that of the comment beside it, and otherwise that of a comment in it; or null. */
-  scheduleOf(text) {
-    return scheduleIn(this.tests.get(this.nameOf(text))?.known ?? text);
+  findOwnSchedule(text) {
+    return findSchedule(this.tests.get(this.findName(text))?.known ?? text);
   }
 }

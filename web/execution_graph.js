@@ -1,7 +1,7 @@
 // The execution of a run, drawn as a graph of its events.
 
 import { ask } from "./ask.js";
-import { button, el, plainMark } from "./dom.js";
+import { el, makeButton, makePlainMark } from "./dom.js";
 import { save } from "./output.js";
 import { showError } from "./errors.js";
 
@@ -14,8 +14,10 @@ const ARROWS = [
   ["po", { po: "program order" }],
   ["co", { co: "written before" }],
   ["rf", { rf: "reads from", rfi: "reads its own store", init: "reads the initial value" }],
-  ["fr", { fr: "read before that write" }],
+  ["fr", { fr: "read before it is overwritten" }],
 ];
+// The names in words.
+const MEANINGS = Object.assign({}, ...ARROWS.map(([, words]) => words));
 const WITH_CYCLE = "The bold arrows are a cycle: this run is no interleaving. ";
 const WITHOUT_CYCLE = "No cycle: some interleaving is like the run that is shown. ";
 // The number of graphs that were shown so far.
@@ -29,7 +31,7 @@ const SVG = "http://www.w3.org/2000/svg";
  * @param {Tints} tints
  * @returns {{graph: Element, said: string[]}}
  */
-export function shownGraph(text, tints) {
+export function makeGraph(text, tints) {
   shownGraphs += 1;
   // The heads of arrows of a graph that is hidden are not drawn in another one, so each graph has its own.
   const bare = text.split(/<\/?style>/).filter((_, index) => index % 2 === 0).join("").replace(/(id="|url\(#)to-/g, `$1to-${shownGraphs}-`);
@@ -41,19 +43,28 @@ export function shownGraph(text, tints) {
   const said = lines.map((it) => it.textContent);
   for (const it of lines) it.remove();
   const height = Number(svg.getAttribute("height")) - LINE * lines.length - EMPTY;
-  const width = widthOf(svg);
+  const width = measureWidth(svg);
   for (const [name, value] of [["viewBox", `0 0 ${width} ${height}`], ["width", width], ["height", height]]) svg.setAttribute(name, value);
+  for (const it of svg.querySelectorAll("text.relation")) explain(it);
   const shown = document.importNode(svg, true);
   shown.style.setProperty("--graph-width", String(width / 16));
   return { graph: el("div", { class: "graph-scroll" }, shown), said };
 }
 
+/** Says what the name of an arrow in a picture means, when it is pointed at: in a title of a group around it, since the name is its whole text. */
+function explain(name) {
+  const [group, title] = ["g", "title"].map((it) => document.createElementNS(SVG, it));
+  title.textContent = `${name.textContent}: ${MEANINGS[name.textContent]}`;
+  name.replaceWith(group);
+  group.append(title, name);
+}
+
 /** Returns how wide a picture's events, arrows and their names are: lines below them may be longer. */
-function widthOf(svg) {
+function measureWidth(svg) {
   const named = [...svg.querySelectorAll("text.relation")].map((it) => Number(it.getAttribute("x")) + it.textContent.length * LETTER - 10);
   const rights = [...svg.querySelectorAll("g rect")].map((it) => Number(it.getAttribute("x")) + Number(it.getAttribute("width")));
-  const points = (path) => [...path.getAttribute("d").matchAll(/([\d.]+) [\d.]+/g)].map(([, x]) => Number(x));
-  const reached = [...svg.querySelectorAll("path[d]")].flatMap(points);
+  const listPoints = (path) => [...path.getAttribute("d").matchAll(/([\d.]+) [\d.]+/g)].map(([, x]) => Number(x));
+  const reached = [...svg.querySelectorAll("path[d]")].flatMap(listPoints);
   return Math.ceil(Math.max(100, ...rights, ...reached, ...named)) + 14;
 }
 
@@ -61,12 +72,12 @@ function widthOf(svg) {
 function colour(text, tints) {
   const thread = /^P(\d)$/.exec(text.textContent)?.[1];
   if (thread !== undefined) text.classList.add("thr", `thr-${thread}`);
-  const kind = tints.of(/^[a-z]\d*: [RWU] (\w+)=/.exec(text.textContent)?.[1]);
+  const kind = tints.findClass(/^[a-z]\d*: [RWU] (\w+)=/.exec(text.textContent)?.[1]);
   if (kind) text.classList.add(...kind.split(" "));
 }
 
 /** Returns the name of an arrow of a graph: its relation, `rfi` if a thread reads its own store, or `init` if it begins at no event. */
-function nameOf({ dataset: { from, to }, classList }) {
+function findArrowName({ dataset: { from, to }, classList }) {
   const kind = ["po", "rf", "co", "fr"].find((it) => classList.contains(it));
   if (!from) return "init";
   return kind === "rf" && from.split(":")[0] === to.split(":")[0] ? "rfi" : kind;
@@ -77,21 +88,23 @@ function nameOf({ dataset: { from, to }, classList }) {
  * @param {...Element} graphs
  * @returns {Element}
  */
-export function legend(...graphs) {
+export function makeLegend(...graphs) {
   const paths = graphs.flatMap((it) => [...it.querySelectorAll("path[data-to]")]);
-  const names = new Set(paths.map(nameOf));
-  const shown = ([kind, words]) => {
+  const names = new Set(paths.map(findArrowName));
+  const describeArrow = ([kind, words]) => {
     const here = Object.keys(words).filter((it) => names.has(it));
     const inner = here.map((it, index) => [index ? ", " : "", el("b", {}, it), ` ${words[it]}`]);
-    return here.length > 0 && el("span", { class: `relation ${kind}` }, arrow(), inner);
+    return here.length > 0 && el("span", { class: `relation ${kind}` }, drawArrow(), inner);
   };
   const cycle = paths.some((it) => it.classList.contains("marked"));
-  const bold = cycle && el("span", { class: "relation cycle" }, arrow(), el("b", {}, "bold"), " the cycle");
-  return el("p", { class: "legend" }, ARROWS.map(shown), bold);
+  const bold = cycle && el("span", { class: "relation cycle" }, drawArrow(), el("b", {}, "bold"), " the cycle");
+  const isPale = paths.some((it) => it.classList.contains("pale"));
+  const pale = isPale && el("span", { class: "relation pale" }, drawArrow(), el("b", {}, "pale"), " may be reversed");
+  return el("p", { class: "legend" }, ARROWS.map(describeArrow), bold, pale);
 }
 
 /** Returns a short arrow for the legend. */
-function arrow() {
+function drawArrow() {
   const svg = document.createElementNS(SVG, "svg");
   svg.setAttribute("viewBox", "0 0 28 8");
   svg.setAttribute("aria-hidden", "true");
@@ -102,7 +115,9 @@ function arrow() {
 }
 
 /**
- * Draws the execution of a whole run into a place; `lead` is what is said first, if the run is another than the one that is shown.
+ * Asks for the execution of a run and draws it into a place, or says there that the run has not ended, or what the fault is. Does nothing if the
+ * question was ended meanwhile: by another question for a graph, or by `endQuestions`. Dispatches `drawn` at the place, by which placing.js lays out the page. `lead` is what is said first, if the run is another
+ * than the one that is shown.
  * @param {Editor} editor
  * @param {string} text
  * @param {string} schedule
@@ -111,12 +126,12 @@ function arrow() {
  * @param {(string | Element)[] | null} [lead]
  * @returns {Promise<void>}
  */
-export async function graphOf(editor, text, schedule, place, tints, lead = null) {
+export async function showGraph(editor, text, schedule, place, tints, lead = null) {
   const answer = await ask(editor, "graph", { text, schedule }, { place });
   if (!answer) return;
   place.replaceChildren();
   if (answer.isUnended) place.append(el("p", { class: "small" }, "The graph is drawn when the run has ended."));
-  else if (answer.graph) place.append(...graphParts(answer, tints, lead));
+  else if (answer.graph) place.append(...makeGraphParts(answer, tints, lead));
   else showError(answer, place, editor);
   place.dispatchEvent(new Event("drawn"));
 }
@@ -128,15 +143,15 @@ export async function graphOf(editor, text, schedule, place, tints, lead = null)
  * @param {(string | Element)[] | null} [lead]
  * @returns {Element[]}
  */
-export function graphParts(answer, tints, lead = null) {
-  const { graph, said } = shownGraph(answer.graph, tints);
+export function makeGraphParts(answer, tints, lead = null) {
+  const { graph, said } = makeGraph(answer.graph, tints);
   // The places of another run's events are not those of the code that is shown.
   if (lead) for (const it of graph.querySelectorAll("[data-at]")) it.removeAttribute("data-at");
   const words = answer.hasCycle ? WITH_CYCLE : WITHOUT_CYCLE;
   const pairs = said.slice(1).map((it) => it.replace(/^(\w+), then (\w+): no fence between$/, "between $1 and $2"));
   const missing = pairs.length ? `No fence is ${pairs.join(", nor ")}. ` : "";
   const inWords = el("details", {}, el("summary", {}, "In words"), el("pre", {}, answer.words.join("\n")));
-  const body = el("div", { class: "graph-body" }, graph, legend(graph));
-  const keep = button("Save this graph", () => save("execution.svg", "image/svg+xml", answer.graph));
-  return [el("p", { class: "graph-head" }, lead, words, missing, plainMark()), body, el("div", { class: "row" }, inWords, keep)];
+  const body = el("div", { class: "graph-body" }, graph, makeLegend(graph));
+  const keep = makeButton("Save this graph", () => save("execution.svg", "image/svg+xml", answer.graph));
+  return [el("p", { class: "graph-head" }, lead, words, missing, makePlainMark()), body, el("div", { class: "row" }, inWords, keep)];
 }

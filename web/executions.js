@@ -12,17 +12,30 @@ const EVENTS = 64;
 const READS = ["load", "xchg", "xadd"];
 const WRITES = ["store", "xchg", "xadd"];
 
-/** Returns the thread of an event. */
-export const threadOf = (event) => Math.floor(event / EVENTS);
-/** Returns the position of an event's instruction in its thread's code. */
-export const positionOf = (event) => event % EVENTS;
-const eventOf = (thread, position) => thread * EVENTS + position;
-const edgeOf = (kind) => ([source, target]) => ({ kind, source, target });
+/**
+ * Returns the thread of an event.
+ * @param {number} event
+ * @returns {number}
+ */
+export const findThread = (event) => Math.floor(event / EVENTS);
+/**
+ * Returns the position of an event's instruction in its thread's code.
+ * @param {number} event
+ * @returns {number}
+ */
+export const findPosition = (event) => event % EVENTS;
+/** Returns the event of an instruction, by its thread and its position. */
+const makeEvent = (thread, position) => thread * EVENTS + position;
+/** Returns a function that makes an edge of a kind from its two events. */
+const makeEdge = (kind) => ([source, target]) => ({ kind, source, target });
 
 /** There are more candidate executions than the caller allows. */
 export class TooMany extends Error {}
 
-/** A candidate execution of an x86 test: its paths, reads-from and coherence order, and the words that follow from them. */
+/**
+ * A candidate execution of an x86 test. The words of events follow from its paths, reads-from and coherence order: `read` and `written` have them, and
+ * `ends` each thread's registers at its end, or null if the words lead some thread along another path.
+ */
 export class Execution {
   constructor(test, paths, rf, co) {
     Object.assign(this, { test, paths, rf, co, read: new Map(), written: new Map() });
@@ -44,7 +57,7 @@ export class Execution {
    * @returns {Statement}
    */
   findInstruction(event) {
-    return this.test.threads[threadOf(event)][positionOf(event)];
+    return this.test.threads[findThread(event)][findPosition(event)];
   }
 
   /**
@@ -83,7 +96,7 @@ export class Execution {
     let state = { at: 0, registers: this.test.registers[thread], zero: false };
     for (const position of path) {
       if (state.at !== position && state.at !== null) return null;
-      const [event, instruction] = [eventOf(thread, position), code[position]];
+      const [event, instruction] = [makeEvent(thread, position), code[position]];
       const word = READS.includes(instruction.kind) ? this.findReadWord(event) : null;
       this.read.set(event, word);
       if (WRITES.includes(instruction.kind)) this.written.set(event, computeWrittenWord(instruction, state.registers, word));
@@ -122,8 +135,8 @@ export class Execution {
    */
   listPoEdges() {
     const events = this.listEvents();
-    const pairs = events.flatMap((a) => events.filter((b) => threadOf(a) === threadOf(b) && a < b).map((b) => [a, b]));
-    return pairs.map(edgeOf("po"));
+    const pairs = events.flatMap((a) => events.filter((b) => findThread(a) === findThread(b) && a < b).map((b) => [a, b]));
+    return pairs.map(makeEdge("po"));
   }
 
   /**
@@ -131,7 +144,7 @@ export class Execution {
    * @returns {Edge[]}
    */
   listRfEdges() {
-    return [...this.rf].filter(([, source]) => source !== null).map(([read, source]) => edgeOf("rf")([source, read]));
+    return [...this.rf].filter(([, source]) => source !== null).map(([read, source]) => makeEdge("rf")([source, read]));
   }
 
   /**
@@ -139,18 +152,18 @@ export class Execution {
    * @returns {Edge[]}
    */
   listCoEdges() {
-    return [...this.co.values()].flatMap((row) => row.flatMap((a, index) => row.slice(index + 1).map((b) => [a, b]))).map(edgeOf("co"));
+    return [...this.co.values()].flatMap((row) => row.flatMap((a, index) => row.slice(index + 1).map((b) => [a, b]))).map(makeEdge("co"));
   }
 
   /**
-   * Returns from-reads: from each read to the writes after the one that it reads from.
+   * Returns from-reads: from each read to the other writes after the one that it reads from.
    * @returns {Edge[]}
    */
   listFrEdges() {
     return [...this.rf].flatMap(([read, source]) => {
       const row = this.co.get(this.findInstruction(read).location) ?? [];
       const later = source === null ? row : row.slice(row.indexOf(source) + 1);
-      return later.filter((it) => it !== read).map((it) => edgeOf("fr")([read, it]));
+      return later.filter((it) => it !== read).map((it) => makeEdge("fr")([read, it]));
     });
   }
 
@@ -178,9 +191,9 @@ export class Execution {
    * @returns {Edge[]}
    */
   listCoherenceEdges() {
-    const placeOf = (event) => this.findInstruction(event).location;
-    const isSame = ({ source, target }) => placeOf(source) !== undefined && placeOf(source) === placeOf(target);
-    return [...this.listPoEdges().filter(isSame), ...this.listRfEdges(), ...this.listCoEdges(), ...this.listFrEdges()];
+    const findLocation = (event) => this.findInstruction(event).location;
+    const isOfOneLocation = ({ source, target }) => findLocation(source) !== undefined && findLocation(source) === findLocation(target);
+    return [...this.listPoEdges().filter(isOfOneLocation), ...this.listRfEdges(), ...this.listCoEdges(), ...this.listFrEdges()];
   }
 
   /**
@@ -188,7 +201,7 @@ export class Execution {
    * @returns {Edge[]}
    */
   listHappensBeforeEdges() {
-    const external = this.listRfEdges().filter((it) => threadOf(it.source) !== threadOf(it.target));
+    const external = this.listRfEdges().filter((it) => findThread(it.source) !== findThread(it.target));
     return [...this.listPoEdges().filter((it) => this.isPreserved(it)), ...external, ...this.listCoEdges(), ...this.listFrEdges()];
   }
 
@@ -227,7 +240,7 @@ function isAccessOrFence(instruction) {
  * @returns {number[]}
  */
 function listEventsOnPaths(paths) {
-  return paths.flatMap((path, thread) => path.map((position) => eventOf(thread, position)));
+  return paths.flatMap((path, thread) => path.map((position) => makeEvent(thread, position)));
 }
 
 // One thread's instructions, with words that may not be known (null).
@@ -381,10 +394,10 @@ function traceCycle(start, last, cameBy) {
  * @param {Item[][]} lists
  * @returns {Generator<Item[]>}
  */
-function* choices(lists) {
+function* listChoices(lists) {
   if (!lists.length) return yield [];
   const [first, ...others] = lists;
-  for (const it of first) for (const rest of choices(others)) yield [it, ...rest];
+  for (const it of first) for (const rest of listChoices(others)) yield [it, ...rest];
 }
 
 /**
@@ -392,9 +405,9 @@ function* choices(lists) {
  * @param {Item[]} row
  * @returns {Item[][]}
  */
-function permutations(row) {
+function listPermutations(row) {
   if (row.length < 2) return [row];
-  return row.flatMap((it, index) => permutations([...row.slice(0, index), ...row.slice(index + 1)]).map((rest) => [it, ...rest]));
+  return row.flatMap((it, index) => listPermutations([...row.slice(0, index), ...row.slice(index + 1)]).map((rest) => [it, ...rest]));
 }
 
 /**
@@ -418,22 +431,22 @@ function listPaths(code, at = 0) {
  */
 export function* listCandidates(test, limit) {
   let number = 0;
-  for (const paths of choices(test.threads.map((code) => listPaths(code)))) {
+  for (const paths of listChoices(test.threads.map((code) => listPaths(code)))) {
     const events = listEventsOnPaths(paths);
-    const instruction = (event) => test.threads[threadOf(event)][positionOf(event)];
+    const findInstruction = (event) => test.threads[findThread(event)][findPosition(event)];
     const writes = new Map();
-    for (const it of events.filter((event) => WRITES.includes(instruction(event).kind))) {
-      const { location } = instruction(it);
+    for (const it of events.filter((event) => WRITES.includes(findInstruction(event).kind))) {
+      const { location } = findInstruction(it);
       writes.set(location, [...(writes.get(location) ?? []), it]);
     }
-    const reads = events.filter((event) => READS.includes(instruction(event).kind));
-    const sources = reads.map((read) => [null, ...(writes.get(instruction(read).location) ?? []).filter((it) => it !== read)]);
-    for (const chosen of choices(sources)) {
+    const reads = events.filter((event) => READS.includes(findInstruction(event).kind));
+    const sources = reads.map((read) => [null, ...(writes.get(findInstruction(read).location) ?? []).filter((it) => it !== read)]);
+    for (const chosen of listChoices(sources)) {
       number += 1;
       if (number > limit) throw new TooMany();
       const execution = new Execution(test, paths, new Map(reads.map((read, index) => [read, chosen[index]])), writes);
       if (execution.ends === null) continue;
-      for (const rows of choices([...writes.values()].map(permutations))) {
+      for (const rows of listChoices([...writes.values()].map(listPermutations))) {
         number += 1;
         yield execution.withOrders(new Map([...writes.keys()].map((location, index) => [location, rows[index]])));
       }
@@ -456,25 +469,25 @@ export function makeExecution(test, schedule) {
   const paths = test.threads.map(() => []);
   const last = new Map();
   const [rf, co] = [new Map(), new Map()];
-  const locationOf = (event) => test.threads[threadOf(event)][positionOf(event)].location;
-  const reach = (event) => {
-    last.set(locationOf(event), event);
-    co.set(locationOf(event), [...(co.get(locationOf(event)) ?? []), event]);
+  const findLocation = (event) => test.threads[findThread(event)][findPosition(event)].location;
+  const recordWrite = (event) => {
+    last.set(findLocation(event), event);
+    co.set(findLocation(event), [...(co.get(findLocation(event)) ?? []), event]);
   };
   for (const [word, next] of schedule) {
     const thread = Number(word[1]);
-    if (word[0] === "D") reach(buffers[thread].shift());
+    if (word[0] === "D") recordWrite(buffers[thread].shift());
     if (word[0] !== "P") continue;
-    const event = eventOf(thread, positions[thread]);
+    const event = makeEvent(thread, positions[thread]);
     const { kind, location } = test.threads[thread][positions[thread]];
     paths[thread].push(positions[thread]);
     positions[thread] = next;
     if (READS.includes(kind)) {
-      const store = buffers[thread].findLast((it) => locationOf(it) === location);
+      const store = buffers[thread].findLast((it) => findLocation(it) === location);
       rf.set(event, store ?? last.get(location) ?? null);
     }
     if (kind === "store") buffers[thread].push(event);
-    else if (WRITES.includes(kind)) reach(event);
+    else if (WRITES.includes(kind)) recordWrite(event);
   }
   return new Execution(test, paths, rf, co);
 }

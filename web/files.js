@@ -12,7 +12,7 @@ const LATIN = "The file is not in UTF-8, and lw refuses it. It is read as Latin-
  * @param {Uint8Array} bytes
  * @returns {{text: string, note: string}}
  */
-export function textOfFile(bytes) {
+export function decodeFile(bytes) {
   for (const [mark, encoding, note] of MARKS) {
     if (mark.every((it, index) => bytes[index] === it)) return { text: new TextDecoder(encoding).decode(bytes), note };
   }

@@ -1,6 +1,6 @@
 // Shows a run of another text than that in the editor, in a panel of its own; and makes the button that shows one.
 
-import { button } from "./dom.js";
+import { makeButton } from "./dom.js";
 import { isStill } from "./motion.js";
 import { Run } from "./run.js";
 
@@ -10,8 +10,8 @@ import { Run } from "./run.js";
  * @param {function(): void} act
  * @returns {Element}
  */
-export function watchButton(state, act) {
-  return button("Watch", act, { class: "watch", "aria-label": `Watch a run to ${state}` });
+export function makeWatchButton(state, act) {
+  return makeButton("Watch", act, { class: "watch", "aria-label": `Watch a run to ${state}` });
 }
 
 /** A run of another text than that in the editor. */

@@ -3,13 +3,17 @@
 // some words mean things that the format lacks: then a note says what it has instead.
 //
 // A `Family` has the `tests` of a section of examples/INDEX.md, each an `Example`, and the `name` of the section and what that says of them (`about`), as
-// tools/page/web_files.py lists them.
+// tools/page/web_files.py lists them. An `Example` has its `name` and its `text`, what it `shows` and other names for that (`also`), by its row in the
+// section, and its comment: what that says `about` it, and what is `known` of its outcome.
+//
+// How well a word fits a test is a number, its fit: the less, the better.
 
 // Of a word that readers look for the words that the examples have for it, the best first.
 const SYNONYMS = {
   atomic: ["locked", "xchg", "xadd", "swap"], barrier: ["mfence", "fence"], cas: ["trylock", "consensus", "xchg", "swap", "locked"],
-  cmpxchg: ["trylock", "consensus", "xchg", "swap", "locked"], coherence: ["co"], deadlock: ["peterson", "dekker", "lock"],
+  cmpxchg: ["trylock", "consensus", "xchg", "swap", "locked"], coherence: ["co"], dcl: ["doublechecked"], deadlock: ["peterson", "dekker", "lock"],
   deque: ["chaselev", "workstealing"], fence: ["mfence", "fences"], fifo: ["queue", "ring"], mesi: ["cache"], moesi: ["cache"],
+  mpsc: ["producer", "queue"],
   mutex: ["spinlock", "peterson", "dekker", "ticketlock", "bakery", "lock"],
   queue: ["ring", "workstealing", "chaselev"], rcu: ["urcu", "epoch"], reordering: ["buffering"], rmw: ["swap", "xchg", "xadd"],
   rwlock: ["readerswriter", "bytelock"], semaphore: ["lock"], singleton: ["doublechecked"], spin: ["lock"], spsc: ["ringbuffer", "oneslot"],
@@ -17,11 +21,15 @@ const SYNONYMS = {
   stealing: ["chaselev"], swap: ["xchg"], tas: ["spinlock", "trylock", "testthenset"],
   volatile: ["mp", "publication", "doublechecked"],
 };
-// The full names of the classics, each with the name that its tests have: these come first.
+// The full names of the classics, each with the name that its tests have: these come first, also by the beginnings of their words.
 const FULL_NAMES = {
-  "independent reads": "iriw", "independent reads of independent writes": "iriw", "load buffer": "lb", "load buffering": "lb", "message passing": "mp",
-  "read to write causality": "rwc", "store buffer": "sb", "store buffering": "sb", "store forwarding": "n6", "write to read causality": "wrc",
+  "independent reads of independent writes": "iriw", "load buffering": "lb", "load buffer": "lb", "message passing": "mp", "read to write causality": "rwc",
+  "store buffering": "sb", "store buffer": "sb", "store forwarding": "n6", "write to read causality": "wrc", "double checked locking": "doublechecked",
+  "test and set": "spinlock", "work stealing": "workstealing", "dekker lock": "dekker", "peterson lock": "peterson",
+  "false sharing": "sharing", "read copy update": "urcu", "compare and swap": "trylock",
 };
+// The number of letters with which the beginnings of two words of a full name are looked for.
+const MIN_LETTERS = 3;
 // The notes on words whose meanings the format lacks: what it has instead.
 const NOTES = [
   [["cas", "cmpxchg", "compare"], "lw reads no compare-and-swap. `TryLock` and `Consensus` have a swap in its place."],
@@ -52,15 +60,17 @@ const X86_FORM = "-x86";
  * @param {string} name
  * @returns {string[]}
  */
-function wordsOfName(name) {
+function listNameWords(name) {
   return name.replace(/([a-z])([A-Z])/g, "$1 $2").toLowerCase().split(/[^a-z0-9.]+/);
 }
 
-const lettersAndDigits = (text) => text.toLowerCase().match(/[a-z0-9]+/g) ?? [];
+/** Returns the words of a text, in small letters: the longest sequences of letters and digits. */
+const listWords = (text) => text.toLowerCase().match(/[a-z0-9]+/g) ?? [];
+/** Returns a function that says whether a text is a word, or its plural. */
 const isWord = (word) => (it) => it === word || it === `${word}s`;
 
 /**
- * Returns how well a word fits a test; null if it does not. The source test and the x86 test of a name have that name, the one in the preferred
+ * Returns the fit of a word to a test; null if it does not fit. The source test and the x86 test of a name have that name, the one in the preferred
  * language first. If only names count, descriptions are not searched.
  * @param {string} word
  * @param {Example} test
@@ -68,17 +78,17 @@ const isWord = (word) => (it) => it === word || it === `${word}s`;
  * @param {{isOnlyNames: boolean, isX86: boolean}} how
  * @returns {number | null}
  */
-function fitOf(word, { name, also, shows, about }, family, { isOnlyNames, isX86 }) {
+function measureFit(word, { name, also, shows, about }, family, { isOnlyNames, isX86 }) {
   const lower = name.toLowerCase();
   const begins = (it) => it.startsWith(word);
   if (isNameOf(lower, word)) return lower.endsWith(X86_FORM) === isX86 ? WHOLE : OTHER_LANGUAGE;
   if (lower.startsWith(word)) return BEGIN;
-  if (wordsOfName(name).some(begins)) return IN_NAME;
+  if (listNameWords(name).some(begins)) return IN_NAME;
   if (isOnlyNames) return null;
-  if ([also, family.name].some((it) => lettersAndDigits(it).some(isWord(word)))) return IN_FAMILY;
-  const words = lettersAndDigits(`${shows} ${about}`);
+  if ([also, family.name].some((it) => listWords(it).some(isWord(word)))) return IN_FAMILY;
+  const words = listWords(`${shows} ${about}`);
   if (words.some(isWord(word))) return IN_WORDS;
-  return [...words, ...lettersAndDigits(family.name)].some(begins) ? BEGINS_WORD : null;
+  return [...words, ...listWords(family.name)].some(begins) ? BEGINS_WORD : null;
 }
 
 /**
@@ -92,29 +102,40 @@ export function isNameOf(lower, word) {
 }
 
 /**
- * Returns how well a word or a synonym of it fits a test; null if none does.
+ * Returns the best fit of a word, or of a synonym of it, to a test; null if none fits.
  * @param {string} word
  * @param {Example} test
  * @param {Family} family
  * @param {{isOnlyNames: boolean, isX86: boolean}} how
  * @returns {number | null}
  */
-function bestFit(word, test, family, how) {
+function measureBestFit(word, test, family, how) {
   const others = Object.hasOwn(SYNONYMS, word) ? SYNONYMS[word] : [];
-  const allFits = [fitOf(word, test, family, how), ...others.map((it, index) => addTo(fitOf(it, test, family, how), FOR_SYNONYM + index))];
+  const allFits = [measureFit(word, test, family, how), ...others.map((it, index) => addPenalty(measureFit(it, test, family, how), FOR_SYNONYM + index))];
   const fits = allFits.filter((it) => it !== null);
   return fits.length ? Math.min(...fits) : null;
 }
 
-const addTo = (fit, penalty) => (fit === null ? null : fit + penalty);
+/** Returns a fit that is worse by a penalty; null if there is none. */
+const addPenalty = (fit, penalty) => (fit === null ? null : fit + penalty);
 
 /**
- * Returns the words of a text that is looked for.
+ * Returns the words of a search, in small letters and without the marks around them.
  * @param {string} text
  * @returns {string[]}
  */
-function wordsLookedFor(text) {
-  return text.toLowerCase().split(/\s+/).map((it) => it.replace(/^[^a-z0-9]+|[^a-z0-9]+$/g, "")).filter(Boolean);
+function listSearchWords(text) {
+  const words = text.toLowerCase().split(/(?<=[a-z]{3})-(?=[a-z]{3})|\s+/).map((it) => it.replace(/^[^a-z0-9]+|'s$|[^a-z0-9]+$/g, ""));
+  return words.filter(Boolean);
+}
+
+/** Returns the name that the tests have whose full name begins with words, or has words that begin so; null if there is none. */
+function findNameByFullName(words) {
+  const begins = (name) => name.split(" ").every((it, at) => at >= words.length || it.startsWith(words[at]));
+  const isLong = words.length > 1 && words.every((it) => it.length >= MIN_LETTERS);
+  const phrase = words.join(" ");
+  const name = Object.keys(FULL_NAMES).find((it) => it === phrase) ?? Object.keys(FULL_NAMES).find((it) => isLong && it.split(" ").length >= words.length && begins(it));
+  return FULL_NAMES[name] ?? null;
 }
 
 /**
@@ -122,8 +143,8 @@ function wordsLookedFor(text) {
  * @param {string} text
  * @returns {string[]}
  */
-export function notesOn(text) {
-  const words = wordsLookedFor(text);
+export function listNotes(text) {
+  const words = listSearchWords(text);
   return NOTES.filter(([names]) => names.some((it) => words.includes(it))).map(([, note]) => note);
 }
 
@@ -137,15 +158,15 @@ export function notesOn(text) {
  * @returns {Example[]}
  */
 export function findTests(families, text, isOnlyNames, isX86 = false) {
-  const words = wordsLookedFor(text);
+  const words = listSearchWords(text);
   const candidates = families.flatMap((family) => family.tests.map((test) => ({ test, family })));
   const phrase = words.join(" ");
-  const fullName = Object.hasOwn(FULL_NAMES, phrase) ? FULL_NAMES[phrase] : null;
+  const fullName = findNameByFullName(words);
   const fitting = candidates.flatMap(({ test, family }) => {
     if (test.name.toLowerCase() === phrase) return [{ test, fit: EXACT }];
-    const named = fullName === null ? null : fitOf(fullName, test, family, { isOnlyNames: true, isX86 });
+    const named = fullName === null ? null : measureFit(fullName, test, family, { isOnlyNames: true, isX86 });
     if (named !== null) return [{ test, fit: FULL_NAME + named }];
-    const fits = words.map((it) => bestFit(it, test, family, { isOnlyNames, isX86 }));
+    const fits = words.map((it) => measureBestFit(it, test, family, { isOnlyNames, isX86 }));
     return fits.includes(null) ? [] : [{ test, fit: fits.reduce((sum, it) => sum + it, 0) }];
   });
   return words.length ? fitting.sort((one, other) => one.fit - other.fit).map((it) => it.test) : [];

@@ -1,7 +1,7 @@
 // All examples: eight to begin with, and all of them by family, with a field that looks for them.
 
-import { button, byId, el, sentence } from "./dom.js";
-import { findTests, isNameOf, notesOn } from "./finding.js";
+import { el, findById, makeButton, renderSentence } from "./dom.js";
+import { findTests, isNameOf, listNotes } from "./finding.js";
 
 // The examples with which a lesson may begin, and why.
 const PICKS = [
@@ -20,7 +20,7 @@ export class Gallery {
   /** Fills the dialog. It calls `onChoose` with the name of an example, or with none for the reader's own test. */
   constructor(examples, onChoose) {
     Object.assign(this, { examples, onChoose });
-    this.place = byId("gallery");
+    this.place = findById("gallery");
     this.search = el("input", {
       type: "search",
       id: "search",
@@ -33,13 +33,13 @@ export class Gallery {
     this.body = el("div", { class: "gallery-body" });
     this.place.addEventListener("keydown", (event) => this.move(event));
     this.count = el("p", { class: "small", role: "status" });
-    const random = button("Surprise me", () => null, { class: "surprise", title: "Predict a short test, chosen at random" });
-    const own = button("A test of my own", () => this.take(""), { id: "own-test" });
-    const close = button("Close", () => this.place.close(), { class: "close" });
+    const random = makeButton("Surprise me", () => null, { class: "surprise", title: "Predict a short test, chosen at random" });
+    const own = makeButton("A test of my own", () => this.take(""), { id: "own-test" });
+    const close = makeButton("Close", () => this.place.close(), { class: "close" });
     const title = el("h2", { id: "gallery-title" }, "Examples");
     this.place.append(el("div", { class: "gallery-head" }, title, this.search, this.count, random, own, close), this.body);
     this.place.addEventListener("click", (event) => event.target === this.place && this.place.close());
-    byId("open-gallery").addEventListener("click", () => this.open());
+    findById("open-gallery").addEventListener("click", () => this.open());
   }
 
   /** Opens the gallery. */
@@ -78,7 +78,7 @@ export class Gallery {
 
   /** Returns whether the test that is shown is an x86 test. */
   get isX86() {
-    return !this.examples.textOf(this.examples.name)?.startsWith("SRC");
+    return !this.examples.findText(this.examples.name)?.startsWith("SRC");
   }
 
   /** Closes the dialog, and reports the choice. */
@@ -89,7 +89,7 @@ export class Gallery {
 
   /** Returns whether nothing may be shown that gives an answer away. */
   get isPredicting() {
-    return byId("predict").checked;
+    return findById("predict").checked;
   }
 
   /** Draws the tests that are found, or all. */
@@ -104,8 +104,8 @@ export class Gallery {
     const tests = findTests(this.examples.families, text, this.isPredicting, this.isX86);
     this.count.textContent = `${tests.length} found`;
     const attributes = { class: "found-tests", "aria-label": "Examples that are found, the best first" };
-    const list = el("ul", attributes, tests.map((it) => el("li", {}, this.exampleOf(it))));
-    const notes = notesOn(text).map((it) => el("p", { class: "search-note" }, sentence(it)));
+    const list = el("ul", attributes, tests.map((it) => el("li", {}, this.makeExample(it))));
+    const notes = listNotes(text).map((it) => el("p", { class: "search-note" }, renderSentence(it)));
     this.body.replaceChildren(...notes, tests.length ? list : el("p", {}, "Nothing is found. Look through the families: clear the field."));
   }
 
@@ -114,43 +114,43 @@ export class Gallery {
     const { families, name: shown } = this.examples;
     this.count.textContent = "";
     this.family ??= families.find(({ tests }) => tests.some((it) => it.name === shown)) ?? families[0];
-    const names = families.map((family) => el("li", {}, this.choiceOf(family), el("span", { class: "small" }, String(family.tests.length))));
+    const names = families.map((family) => el("li", {}, this.makeChoice(family), el("span", { class: "small" }, String(family.tests.length))));
     const picks = el("section", { class: "picks", "aria-label": "Eight to begin with" }, el("h3", {}, "Eight to begin with"),
-      el("div", { class: "cards" }, this.picks()));
-    const byFamily = el("div", { class: "by-family" }, el("ul", { class: "families", "aria-label": "Families" }, names), this.familyOf(this.family));
+      el("div", { class: "cards" }, this.makePicks()));
+    const byFamily = el("div", { class: "by-family" }, el("ul", { class: "families", "aria-label": "Families" }, names), this.makeFamily(this.family));
     this.body.replaceChildren(picks, el("h3", {}, "All, by family"), byFamily);
   }
 
   /** Returns the button that chooses a family. */
-  choiceOf(family) {
+  makeChoice(family) {
     const choose = () => {
       this.family = family;
       this.draw();
       this.body.querySelector(".families [aria-pressed=true]").focus();
     };
-    return button(family.name, choose, { class: "family-name", "aria-pressed": String(family === this.family) });
+    return makeButton(family.name, choose, { class: "family-name", "aria-pressed": String(family === this.family) });
   }
 
   /** Returns the cards of the tests to begin with. */
-  picks() {
+  makePicks() {
     return PICKS.filter(([name]) => this.examples.tests.has(name)).map(([name, words]) => {
-      const language = this.examples.textOf(name).startsWith("SRC") ? "source" : "x86";
+      const language = this.examples.findText(name).startsWith("SRC") ? "source" : "x86";
       const inner = [el("b", {}, name), el("span", {}, this.isPredicting ? "" : words), el("span", { class: "small" }, language)];
       return el("button", { type: "button", class: "card", click: () => this.take(name) }, inner);
     });
   }
 
   /** Returns the tests of a family. */
-  familyOf({ name, about, tests }) {
+  makeFamily({ name, about, tests }) {
     const head = el("h3", {}, name, el("span", { class: "small" }, ` ${tests.length}`));
     const words = about && !this.isPredicting ? el("p", { class: "small" }, about.replaceAll("*", "")) : null;
-    return el("section", { class: "family" }, head, words, el("ul", {}, tests.map((it) => el("li", {}, this.exampleOf(it)))));
+    return el("section", { class: "family" }, head, words, el("ul", {}, tests.map((it) => el("li", {}, this.makeExample(it)))));
   }
 
   /** Returns the button that takes an example. */
-  exampleOf({ name, shows }) {
+  makeExample({ name, shows }) {
     const kind = name === this.examples.name ? "example here" : "example";
-    const inner = [el("b", {}, name), el("span", {}, this.isPredicting ? "" : sentence(shows))];
+    const inner = [el("b", {}, name), el("span", {}, this.isPredicting ? "" : renderSentence(shows))];
     return el("button", { type: "button", class: kind, "data-name": name, click: () => this.take(name) }, inner);
   }
 }

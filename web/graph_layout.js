@@ -10,7 +10,7 @@
 // `lane`; or the `start` of a read. A route in a lane is after the row `gap`. One around a side spans `rows` rows, and has `beside` earlier ones next to
 // it. `sides` are the sides of its events at which it ends (0 is that of the thread before, 1 that of the thread after), and `ports` the places on them.
 
-import { threadOf } from "./executions.js";
+import { findThread } from "./executions.js";
 import { EDGE, LETTER, LINE } from "./pictures.js";
 
 // The height of an event's box.
@@ -56,9 +56,9 @@ const SHORT = 50;
 /** Returns the point of a cubic curve after a part of its way, from 0 to 1. */
 function findCurvePoint([a, b, c, d], part) {
   const other = 1 - part;
-  const coordinate = (axis) =>
+  const findCoordinate = (axis) =>
     other * other * other * a[axis] + 3 * other * other * part * b[axis] + 3 * other * part * part * c[axis] + part * part * part * d[axis];
-  return [coordinate(0), coordinate(1)];
+  return [findCoordinate(0), findCoordinate(1)];
 }
 
 /** The layout of an execution: boxes of events, curves of edges, and places of labels. */
@@ -66,7 +66,7 @@ export class GraphLayout {
   /** Lays out an execution. `texts` are those of the events, `edges` what is drawn, `initial` the reads of the initial word. */
   constructor(execution, texts, edges, initial) {
     const events = execution.listEvents();
-    this.threads = execution.paths.map((_, thread) => events.filter((it) => threadOf(it) === thread));
+    this.threads = execution.paths.map((_, thread) => events.filter((it) => findThread(it) === thread));
     this.rows = new Map(this.threads.flatMap((of) => of.map((it, row) => [it, row])));
     this.most = Math.max(...this.threads.map((it) => it.length), 1);
     this.letters = Math.max(...events.map((it) => texts.get(it).length), 4);
@@ -88,7 +88,7 @@ export class GraphLayout {
   /** Returns the route of an edge. */
   makeRoute(edge, number) {
     const { kind, source, target } = edge;
-    const [from, to] = [threadOf(source), threadOf(target)];
+    const [from, to] = [findThread(source), findThread(target)];
     const rows = this.rows.get(target) - this.rows.get(source);
     const route = { edge, number, way: "across", gap: null };
     if (from === to) {
@@ -157,7 +157,7 @@ export class GraphLayout {
     const counts = this.threads.map(() => 0).concat(0);
     for (const [key, ends] of this.ends) {
       const [event, side] = key.split(" ").map(Number);
-      counts[threadOf(event) + side] += ends.length;
+      counts[findThread(event) + side] += ends.length;
     }
     this.lefts = [];
     let across = counts[0] ? room.side : OUTER;
@@ -180,7 +180,7 @@ export class GraphLayout {
 
   /** Returns the start of an event's box, along the two axes. */
   findSpot(event) {
-    return [this.lefts[threadOf(event)], this.begin + this.rows.get(event) * this.pitch];
+    return [this.lefts[findThread(event)], this.begin + this.rows.get(event) * this.pitch];
   }
 
   /** Returns the upper left corner of the box of an event. */
@@ -210,23 +210,23 @@ export class GraphLayout {
 
   /** Sets the ports of all routes: at each side of a box its ends are evenly apart, in the order of the places from which they come. */
   sortEnds() {
-    const middle = (event) => this.findSpot(event)[1] + this.deep / 2;
-    const key = ({ route, end }) => {
+    const findMiddle = (event) => this.findSpot(event)[1] + this.deep / 2;
+    const makeSortKey = ({ route, end }) => {
       if (route.way === "lane") return this.findLane(route);
-      if (route.way === "start") return middle(route.edge.source);
-      return middle(end ? route.edge.source : route.edge.target);
+      if (route.way === "start") return findMiddle(route.edge.source);
+      return findMiddle(end ? route.edge.source : route.edge.target);
     };
     for (const [name, ends] of this.ends) {
       const first = this.findSpot(Number(name.split(" ")[0]))[1];
-      const sorted = [...ends].sort((a, b) => key(a) - key(b) || a.route.number - b.route.number);
+      const sorted = [...ends].sort((a, b) => makeSortKey(a) - makeSortKey(b) || a.route.number - b.route.number);
       for (const [at, { route, end }] of sorted.entries()) route.ports[end] = first + (this.deep * (at + 1)) / (sorted.length + 1);
     }
   }
 
   /** Returns where the two ends of a route are: each across the threads, and along the side of its box. */
   findEnds({ edge, sides, ports }) {
-    const at = (event, side) => this.lefts[threadOf(event)] + (side ? this.wide + 2 : -2);
-    return [[at(edge.source, sides[0]), ports[0]], [at(edge.target, sides[1]), ports[1]]];
+    const findSide = (event, side) => this.lefts[findThread(event)] + (side ? this.wide + 2 : -2);
+    return [[findSide(edge.source, sides[0]), ports[0]], [findSide(edge.target, sides[1]), ports[1]]];
   }
 
   // The ways themselves: cubic curves, with straight lines between them.
@@ -266,11 +266,11 @@ export class GraphLayout {
   placeLabel(route, letters) {
     const width = letters * LETTER + APART;
     const spots = this.listLabelSpots(route, width);
-    const box = ([x, y]) => [x - width / 2, y - LABEL / 2, width, LABEL];
-    const free = spots.filter((it) => this.isFree(box(it)));
-    const crossed = (free.length ? free : spots.slice(0, 1)).map((it) => ({ spot: it, number: this.countCrossedArrows(box(it), route) }));
+    const makeBox = ([x, y]) => [x - width / 2, y - LABEL / 2, width, LABEL];
+    const free = spots.filter((it) => this.isFree(makeBox(it)));
+    const crossed = (free.length ? free : spots.slice(0, 1)).map((it) => ({ spot: it, number: this.countCrossedArrows(makeBox(it), route) }));
     const { spot } = crossed.reduce((best, it) => (it.number < best.number ? it : best));
-    this.taken.push(box(spot));
+    this.taken.push(makeBox(spot));
     return spot;
   }
 
@@ -314,15 +314,15 @@ export class GraphLayout {
     const [sideways, downwards] = [width / 2 + 4, 11];
     const spots = this.isTurned
       ? [[x - sideways, y + 6], [x + sideways, y + 6], [x, y - 8]]
-      : [[x + 4, y - downwards], [x + 4, y + downwards], [x - width / 2, y], [x - 8, y - downwards], [x - 8, y + downwards]];
+      : [[x + 4, y - downwards], [x + 4, y + downwards], [x - 8, y - downwards], [x - 8, y + downwards], [x - width / 2, y]];
     return isLast ? [spots[1], spots[0], ...spots.slice(2)] : spots;
   }
 }
 
 /** Returns a straight line as a cubic curve. */
 function makeLine(begin, end) {
-  const third = (part) => [begin[0] + (end[0] - begin[0]) * part, begin[1] + (end[1] - begin[1]) * part];
-  return [begin, third(1 / 3), third(2 / 3), end];
+  const findPoint = (part) => [begin[0] + (end[0] - begin[0]) * part, begin[1] + (end[1] - begin[1]) * part];
+  return [begin, findPoint(1 / 3), findPoint(2 / 3), end];
 }
 
 /** Returns a curve that leaves and arrives across the threads. */

@@ -1,8 +1,8 @@
 // Draws the execution of a run, and describes it in words, as tools/graph.py does. Not proved.
 
-import { positionOf, threadOf } from "./executions.js";
+import { findPosition, findThread } from "./executions.js";
 import { BASE, GraphLayout } from "./graph_layout.js";
-import { Drawing, EDGE, LETTER, LINE, digits } from "./pictures.js";
+import { Drawing, EDGE, LETTER, LINE, formatNumber } from "./pictures.js";
 
 // If the initial word has more reads, their arrows have no names.
 const MAX_NAMED = 4;
@@ -12,6 +12,7 @@ const NAMES = { po: "program order", rf: "reads-from", co: "coherence order", fr
 const STYLE = `
 path { fill: none; stroke: #1b1b1b; stroke-width: 1.4 } path.po { stroke: #8a8a8a } path.co { stroke-dasharray: 8 4 } path.fr { stroke-dasharray: 3 3 }
 path.marked { stroke: #1b1b1b; stroke-width: 3.2 } path.co.marked { stroke-dasharray: 11 6 } path.fr.marked { stroke-dasharray: 4 5 }
+path.pale { stroke-opacity: 0.4 }
 marker path[class] { stroke-dasharray: none }
 text.relation { font-weight: bold; paint-order: stroke; stroke: #fff; stroke-width: 4 }
 @media (prefers-color-scheme: dark) {
@@ -21,15 +22,19 @@ path, path.marked { stroke: #ececec } path.po { stroke: #8d939c } text.relation 
 
 // Words.
 
-/** Returns a word as text, `?` if it is not known. */
+/**
+ * Returns a word as text, `?` if it is not known.
+ * @param {number | null | undefined} word
+ * @returns {string}
+ */
 export const formatWord = (word) => (word === null || word === undefined ? "?" : String(word));
 
 /** Names an execution's events by letters, and says what each does. */
 export class Names {
   constructor(execution) {
     this.execution = execution;
-    const letterAt = (index) => (index < 26 ? LETTERS[index] : `${LETTERS[index % 26]}${Math.floor(index / 26)}`);
-    this.letters = new Map(execution.listEvents().map((it, index) => [it, letterAt(index)]));
+    const makeLetter = (index) => (index < 26 ? LETTERS[index] : `${LETTERS[index % 26]}${Math.floor(index / 26)}`);
+    this.letters = new Map(execution.listEvents().map((it, index) => [it, makeLetter(index)]));
   }
 
   /**
@@ -52,7 +57,7 @@ export class Names {
    * @returns {string}
    */
   formatEvent(event) {
-    return `${this.letters.get(event)}: P${threadOf(event)} ${this.describeEvent(event)}`;
+    return `${this.letters.get(event)}: P${findThread(event)} ${this.describeEvent(event)}`;
   }
 
   /**
@@ -71,8 +76,8 @@ export class Names {
  * @returns {Edge[]}
  */
 function listDirectEdges(edges) {
-  const leads = (a, b) => edges.some((it) => it.source === a && it.target === b);
-  return edges.filter(({ source, target }) => !edges.some(({ target: mid }) => leads(source, mid) && leads(mid, target)));
+  const hasEdge = (a, b) => edges.some((it) => it.source === a && it.target === b);
+  return edges.filter(({ source, target }) => !edges.some(({ target: mid }) => hasEdge(source, mid) && hasEdge(mid, target)));
 }
 
 /** Returns, for each read, the edge to the first write after the one that it reads from. */
@@ -82,6 +87,7 @@ function listDirectFrEdges(execution) {
   return [...edges.values()];
 }
 
+/** Returns a function that says whether another edge is the same as one. */
 const isSameEdge = (one) => (other) => one.kind === other.kind && one.source === other.source && one.target === other.target;
 
 /** Returns the pairs of program order in a cycle that x86-TSO does not preserve if no fence is between. */
@@ -106,19 +112,19 @@ function findMissingFences(execution, cycle) {
  */
 export function formatExecution(execution) {
   const [names, cycle] = [new Names(execution), execution.findCycle()];
-  const letter = (event) => names.letters.get(event);
+  const findLetter = (event) => names.letters.get(event);
   const lines = execution.listEvents().map((it) => names.formatEvent(it));
   const relations = [["rf", execution.listRfEdges()], ["co", listDirectEdges(execution.listCoEdges())], ["fr", listDirectFrEdges(execution)]];
   for (const [kind, edges] of relations) {
-    const pairs = edges.map((it) => `${letter(it.source)} -> ${letter(it.target)}`).join(", ");
+    const pairs = edges.map((it) => `${findLetter(it.source)} -> ${findLetter(it.target)}`).join(", ");
     lines.push(`${NAMES[kind]} (${kind}): ${pairs || "none"}`);
   }
-  const starts = [...execution.rf].filter(([, source]) => source === null).map(([read]) => letter(read));
+  const starts = [...execution.rf].filter(([, source]) => source === null).map(([read]) => findLetter(read));
   lines.push(`reads of the initial word: ${starts.join(", ") || "none"}`, formatVerdict(execution, names));
   if (!cycle) return [...lines, "A run of interleaving: po, rf, co and fr have no cycle."];
   lines.push(`No run of interleaving: ${names.formatCycle(cycle)}`);
-  const advice = (it) => `An MFENCE between ${letter(it.source)} and ${letter(it.target)} would keep their order.`;
-  return [...lines, ...findMissingFences(execution, cycle).map(advice)];
+  const formatAdvice = (it) => `An MFENCE between ${findLetter(it.source)} and ${findLetter(it.target)} would keep their order.`;
+  return [...lines, ...findMissingFences(execution, cycle).map(formatAdvice)];
 }
 
 /**
@@ -142,27 +148,27 @@ function roundToTenth(number) {
 
 /** Returns a point as a path has it. */
 function formatPoint([x, y]) {
-  return `${digits(roundToTenth(x))} ${digits(roundToTenth(y))}`;
+  return `${formatNumber(roundToTenth(x))} ${formatNumber(roundToTenth(y))}`;
 }
 
 /** Returns the place of an event in its test, as THREAD:POSITION, by which a page finds its instruction. */
 function formatEventPlace(event) {
-  return `${threadOf(event)}:${positionOf(event)}`;
+  return `${findThread(event)}:${findPosition(event)}`;
 }
 
 /** Returns whether an edge says that a thread reads its own store. */
 function isInternal({ kind, source, target }) {
-  return kind === "rf" && threadOf(source) === threadOf(target);
+  return kind === "rf" && findThread(source) === findThread(target);
 }
 
-/** Draws an arrow along the curves of a route. */
-function drawEdge(drawing, layout, route, isMarked) {
+/** Draws an arrow along the curves of a route; `look` is how, as a further class, or "". */
+function drawEdge(drawing, layout, route, look) {
   const { kind, source, target } = route.edge;
   const [first, ...others] = layout.makePictureCurves(route);
-  const curve = ([, ...points]) => `C${points.map(formatPoint).join(" ")}`;
-  const path = `M${formatPoint(first[0])} ${[first, ...others].map(curve).join(" ")}`;
+  const formatCurve = ([, ...points]) => `C${points.map(formatPoint).join(" ")}`;
+  const path = `M${formatPoint(first[0])} ${[first, ...others].map(formatCurve).join(" ")}`;
   const ends = route.way === "start" ? `data-to="${formatEventPlace(target)}"` : `data-from="${formatEventPlace(source)}" data-to="${formatEventPlace(target)}"`;
-  drawing.elements.push(`<path class="${kind ?? "rf"}${isMarked ? " marked" : ""}" ${ends} marker-end="url(#to-${kind ?? "rf"})" d="${path}"/>`);
+  drawing.elements.push(`<path class="${kind ?? "rf"}${look && ` ${look}`}" ${ends} marker-end="url(#to-${kind ?? "rf"})" d="${path}"/>`);
 }
 
 /** Writes the name of a relation at its arrow. */
@@ -174,8 +180,8 @@ function drawLabel(drawing, layout, route, name) {
 /** Returns the heads of the arrows, by relation. */
 function makeMarkers() {
   const size = 'viewBox="0 0 8 8" refX="7" refY="4" markerWidth="9" markerHeight="9" orient="auto" markerUnits="userSpaceOnUse"';
-  const head = (kind) => `<marker id="to-${kind}" ${size}><path class="${kind}" d="M1 1 L7 4 L1 7"/></marker>`;
-  return `<defs>${Object.keys(NAMES).map(head).join("")}</defs>`;
+  const formatHead = (kind) => `<marker id="to-${kind}" ${size}><path class="${kind}" d="M1 1 L7 4 L1 7"/></marker>`;
+  return `<defs>${Object.keys(NAMES).map(formatHead).join("")}</defs>`;
 }
 
 /** Draws the events, thread by thread, and marks those of a cycle. */
@@ -201,14 +207,15 @@ function listDrawnEdges(execution, cycle) {
 
 /** Returns the caption below a picture, line by line. */
 function formatCaption(names, cycle, broken, missing) {
-  const noFence = (it) => `${names.letters.get(it.source)}, then ${names.letters.get(it.target)}: no fence between`;
+  const formatMissingFence = (it) => `${names.letters.get(it.source)}, then ${names.letters.get(it.target)}: no fence between`;
   if (broken) return [`Marked: a cycle, against ${broken.axiom}.`];
   const verdict = cycle.length ? "Marked: a cycle, so no run of interleaving." : "No cycle: a run of interleaving, too.";
-  return [verdict, ...missing.map(noFence)];
+  return [verdict, ...missing.map(formatMissingFence)];
 }
 
 /**
- * Returns the picture of an execution, with the cycle of the axiom that it breaks if x86-TSO forbids it, or else one of interleaving.
+ * Returns the picture of an execution, with the cycle of the axiom that it breaks if x86-TSO forbids it, or else one of interleaving. If it is forbidden,
+ * the arrows that x86-TSO may reverse are pale, unless they are in the cycle.
  * @param {Execution} execution
  * @param {string} title
  * @param {{axiom: string, cycle: Edge[]} | null} [broken]
@@ -223,7 +230,9 @@ export function drawExecution(execution, title, broken = null) {
   const drawing = new Drawing();
   drawing.elements.push(`<style>${STYLE}</style>`, makeMarkers());
   const isMarked = ({ edge }) => cycle.some(isSameEdge(edge));
-  for (const it of [...layout.routes, ...layout.starts]) drawEdge(drawing, layout, it, it.way !== "start" && isMarked(it));
+  const isPale = ({ edge }) => broken && (isInternal(edge) || listUnpreservedPairs(execution, [edge]).length > 0);
+  const findLook = (it) => (it.way === "start" ? "" : isMarked(it) ? "marked" : isPale(it) ? "pale" : "");
+  for (const it of [...layout.routes, ...layout.starts]) drawEdge(drawing, layout, it, findLook(it));
   drawEvents(drawing, layout, execution, texts, new Set(broken ? cycle.map((it) => it.source) : []));
   if (initial.length <= MAX_NAMED) for (const it of layout.starts) drawLabel(drawing, layout, it, "init");
   const named = layout.routes.filter((it) => it.edge.kind !== "po" || isMarked(it));

@@ -2,9 +2,9 @@
 // answer that is asked for meanwhile waits until the guess is made and answered, or until the reader does not want to predict any more.
 
 import { describeCondition } from "./condition_words.js";
-import { button, byId, el } from "./dom.js";
-import { propositionOf } from "./reports.js";
-import { codeNodes, testName, tintedSentence, tintsOf } from "./tint.js";
+import { el, findById, makeButton } from "./dom.js";
+import { parseProposition } from "./reports.js";
+import { findTints, renderCode, renderTestName, renderTintedSentence } from "./tint.js";
 
 const KEY = "guesses";
 const KEY_OF_ANSWERED = "answered";
@@ -13,9 +13,9 @@ const OPEN = "Your prediction is still open: find the states by hand, or show th
 
 // For each text what the reader has said of it: yes, no, null for nothing, or undefined if there was nothing to say, since lw refuses it. What
 // was said is kept in the tab, so that it is not asked again.
-const guesses = new Map(stored(KEY));
+const guesses = new Map(readStored(KEY));
 // The texts of which the answer was shown after a guess: it is not kept back any more.
-const answered = new Set(stored(KEY_OF_ANSWERED));
+const answered = new Set(readStored(KEY_OF_ANSWERED));
 // The text that the reader made by hand from one with a guess: there is no second guess on it.
 let edited = null;
 // The panels that wait for guesses, or until their answers are shown: each with its text, what it shows meanwhile, and what it does then.
@@ -27,7 +27,7 @@ let pending = [];
  * @returns {boolean}
  */
 export function isAwaited(text) {
-  return byId("predict").checked && !guesses.has(text) && text !== edited;
+  return findById("predict").checked && !guesses.has(text) && text !== edited;
 }
 
 /**
@@ -35,14 +35,14 @@ export function isAwaited(text) {
  * @param {string} text
  * @returns {boolean | null}
  */
-export function guessOn(text) {
-  return byId("predict").checked ? (guesses.get(text) ?? null) : null;
+export function findGuess(text) {
+  return findById("predict").checked ? (guesses.get(text) ?? null) : null;
 }
 
 /**
- * Keeps what the reader expects of a text, or that nothing can be expected of it.
+ * Keeps what the reader expects of a text: null for nothing, and undefined if nothing can be expected of it, since lw refuses it.
  * @param {string} text
- * @param {boolean | null} guess
+ * @param {boolean | null} [guess]
  */
 export function settle(text, guess) {
   guesses.set(text, guess);
@@ -56,7 +56,7 @@ export function settle(text, guess) {
  * @returns {boolean}
  */
 export function wasAsked(text) {
-  return byId("predict").checked && guesses.get(text) !== undefined;
+  return findById("predict").checked && guesses.get(text) !== undefined;
 }
 
 /**
@@ -78,7 +78,7 @@ export function forgetGuess(text = null) {
  * @returns {boolean}
  */
 export function isAnswered(text) {
-  return guessOn(text) !== null && answered.has(text);
+  return findGuess(text) !== null && answered.has(text);
 }
 
 /**
@@ -87,7 +87,7 @@ export function isAnswered(text) {
  * @returns {boolean}
  */
 export function isOpen(text) {
-  return guessOn(text) !== null && !answered.has(text);
+  return findGuess(text) !== null && !answered.has(text);
 }
 
 /**
@@ -95,7 +95,7 @@ export function isOpen(text) {
  * @param {string} text
  */
 export function noteAnswer(text) {
-  if (guessOn(text) === null) return;
+  if (findGuess(text) === null) return;
   answered.add(text);
   store();
   follow();
@@ -106,7 +106,7 @@ export function noteAnswer(text) {
  * @param {string} key
  * @returns {object[]}
  */
-function stored(key) {
+function readStored(key) {
   try {
     return JSON.parse(sessionStorage.getItem(key)) ?? [];
   } catch {
@@ -129,7 +129,7 @@ function store() {
  * @param {string} before
  * @param {string} after
  */
-export function change(before, after) {
+export function noteChange(before, after) {
   edited = guesses.get(before) !== undefined || before === edited ? after : null;
 }
 
@@ -160,13 +160,13 @@ export function wait(text, place, notice, show, isUntilAnswered = false) {
  * @param {{report: Report, words: object}} answer
  * @returns {Element[]}
  */
-export function questionParts(text, { report, words }) {
-  const tints = tintsOf(text);
+export function makeQuestionParts(text, { report, words }) {
+  const tints = findTints(text);
   const inWords = describeCondition(text);
-  const formula = el("code", {}, codeNodes(propositionOf(report), tints, null));
+  const formula = el("code", {}, renderCode(parseProposition(report), tints, null));
   const sign = el("span", { class: "sign", "aria-hidden": "true" }, "?");
-  const asked = el("span", {}, el("strong", {}, `${words.question}:`), " ", inWords ? tintedSentence(inWords, tints) : formula, "?");
-  return [el("p", { class: "verdict" }, sign, asked), el("p", { class: "asked" }, testName(text), inWords ? formula : "")];
+  const asked = el("span", {}, el("strong", {}, `${words.question}:`), " ", inWords ? renderTintedSentence(inWords, tints) : formula, "?");
+  return [el("p", { class: "verdict" }, sign, asked), el("p", { class: "asked" }, renderTestName(text), inWords ? formula : "")];
 }
 
 /**
@@ -177,16 +177,16 @@ export function questionParts(text, { report, words }) {
  * @param {function(string): string} id
  * @param {function(): void} show
  */
-export function question(text, place, answer, id, show) {
+export function askForGuess(text, place, answer, id, show) {
   const settleAs = (guess) => () => {
     settle(text, guess);
     if (document.activeElement === document.body) place.focus();
   };
-  const choice = (title, guess, name) => button(title, settleAs(guess), { id: id(name) });
-  const yes = choice("Yes", true, "yes");
-  const choices = el("p", { class: "row" }, yes, choice("No", false, "no"), choice("Just show it", null, "just-show"));
+  const makeChoice = (title, guess, name) => makeButton(title, settleAs(guess), { id: id(name) });
+  const yes = makeChoice("Yes", true, "yes");
+  const choices = el("p", { class: "row" }, yes, makeChoice("No", false, "no"), makeChoice("Just show it", null, "just-show"));
   place.tabIndex = -1;
-  wait(text, place, el("div", { class: "predict" }, questionParts(text, answer), choices), show);
+  wait(text, place, el("div", { class: "predict" }, makeQuestionParts(text, answer), choices), show);
   yes.focus();
 }
 
@@ -200,10 +200,12 @@ export function isLocked(text) {
 }
 
 /**
- * Shows in a panel's place what is asked for, once the reader has said what to expect of the test and was shown the answer.
+ * Shows in a panel's place what is asked for, once the reader has said what to expect of the test and was shown the answer. Returns what `show` returns,
+ * if nothing is waited for.
  * @param {Editor} editor
  * @param {Element} place
- * @param {function(): void} show
+ * @param {function(): unknown} show
+ * @returns {unknown}
  */
 export function unlock({ text }, place, show) {
   if (!isLocked(text)) return show();

@@ -4,13 +4,13 @@
 const NAMES = "span.loc, span.thr, .entry, .word, .badge-thread, text.loc, text.thr, b.thr";
 
 /** Returns the class of the thread or location whose name an element shows, or null. */
-function kindOf(target) {
+function findKind(target) {
   const name = target.closest?.(NAMES)?.getAttribute("class") ?? "";
   return /\b(?:loc|thr)-\d\b/.exec(name)?.[0] ?? null;
 }
 
 /** Returns the name in the coloured text of an editor that is below a point, since the field above it takes the pointer. */
-function nameBelow(colours, { clientX, clientY }) {
+function findNameBelow(colours, { clientX, clientY }) {
   const isThere = ({ left, right, top, bottom }) => left <= clientX && clientX <= right && top <= clientY && clientY <= bottom;
   return [...colours.querySelectorAll("span.loc, span.thr")].find((it) => isThere(it.getBoundingClientRect())) ?? null;
 }
@@ -34,9 +34,9 @@ function point(at) {
  */
 export function lightNames({ area, colours }) {
   document.addEventListener("pointerover", ({ target }) => {
-    if (target !== area) lightName(kindOf(target));
+    if (target !== area) lightName(findKind(target));
     point(target.closest?.("[data-at]")?.dataset.at ?? null);
   });
   document.addEventListener("focusin", ({ target }) => point(target.closest("[data-at]")?.dataset.at ?? null));
-  area.addEventListener("pointermove", (event) => lightName(kindOf(nameBelow(colours, event) ?? area)));
+  area.addEventListener("pointermove", (event) => lightName(findKind(findNameBelow(colours, event) ?? area)));
 }

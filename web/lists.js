@@ -2,11 +2,14 @@
 // which state a run has ended. Marks are proved if the report says that none or all hold, or if the module makes them. The program lw makes
 // none, and of a long list making them would take as long again as the list did; there the page finds them, which is not proved.
 //
-// A `Report` has the first two lines (`head`), the `number` of states and the first of these, each with its `index`, its `line` and whether the
-// condition `holds` (null unless `is_marked`), how many are `left_out`, what is `asked`, the `verdict`, the number of states in which the proposition
-// is true (`positive`), the `condition`, and the last lines (`tail`).
+// A `Report` has the first two lines (`head`), the `number` of states and `states`: the first ones, and as many more in which the condition holds, at
+// most `most` of either, each with its `index`, its `line` and whether the condition `holds` (null unless `is_marked`). It has whether its marks are
+// proved (`is_proved`), how many states are `left_out`, what is `asked`, the `verdict`, the number of states in which the proposition is true
+// (`positive`), the `condition`, and the last lines (`tail`).
+//
+// `How` says by which way a text is listed: by a search if `search` is set, which calls `onProgress` with words on how far it is.
 
-import { Fault, NoAnswer } from "./program.js";
+import { NoAnswer, Refused } from "./program.js";
 import { formatCondition, formatSite, isTrueIn, listObservedSites, readWord } from "./propositions.js";
 import { parseReportLine } from "./replays.js";
 import { readTest } from "./tests.js";
@@ -16,7 +19,7 @@ const MAX_STATES = 200000;
 const MAX_MARKED = 4096;
 
 /**
- * Returns whether an error says that a test is nested too deeply for this browser's stack.
+ * Returns whether an error says that a test is nested too deeply for this browser's stack: a RangeError, in Firefox an InternalError.
  * @param {unknown} error
  * @returns {boolean}
  */
@@ -24,45 +27,45 @@ export function isTooDeep(error) {
   return error instanceof RangeError || error?.name === "InternalError";
 }
 
-/** Returns the test of a text. Throws if the text is not UTF-8, or is no test for the page's own reader. */
-function testOf(text) {
+/** Returns the test of a text. Throws TypeError if the text is not UTF-8, and NoTest if it is no test for the page's own reader. */
+function decodeTest(text) {
   return readTest(new TextDecoder("utf-8", { fatal: true, ignoreBOM: true }).decode(text));
 }
 
 /**
- * Returns the marks of so many states, of which the proposition holds in some: of a state's line and index whether it holds there, or null if that
- * is not known; and whether that is proved.
+ * Returns the marks of a text's states: `holds` says of a state's line and index whether the proposition is true there, or null if that is not known.
+ * `counts` has the number of the states, and of those in which it is true.
  * @param {Program} program
  * @param {Uint8Array} text
  * @param {How} how
  * @param {{number: number, positive: number}} counts
  * @returns {{isProved: boolean, holds: function(string, number): (boolean | null)}}
  */
-function marksOf(program, text, how, { number, positive }) {
+function findMarks(program, text, how, { number, positive }) {
   if (positive === 0 || positive === number) return { isProved: true, holds: () => positive > 0 };
-  const marked = number <= MAX_MARKED ? program.marked(text, how) : null;
-  if (marked === null) return { isProved: false, holds: foundHere(text) };
-  return { isProved: true, holds: (line, index) => holdsBy(marked[index], line) };
+  const marked = number <= MAX_MARKED ? program.listMarked(text, how) : null;
+  if (marked === null) return { isProved: false, holds: computeMarks(text) };
+  return { isProved: true, holds: (line, index) => parseMark(marked[index], line) };
 }
 
 /**
- * Returns whether the proposition holds in a state by its line in the marked list, or null if that is another state's.
+ * Returns whether a line of the marked list says that the proposition is true; null if that is another state's line.
  * @param {string | undefined} marked
  * @param {string} line
  * @returns {boolean | null}
  */
-function holdsBy(marked, line) {
+function parseMark(marked, line) {
   return marked?.slice(2) === line ? marked[0] === "+" : null;
 }
 
 /**
- * Returns the same marks as the page finds them by reading the test.
+ * Returns marks that the page finds by reading the test: a function as `holds` of `findMarks`.
  * @param {Uint8Array} text
  * @returns {function(string): (boolean | null)}
  */
-function foundHere(text) {
+function computeMarks(text) {
   try {
-    const test = testOf(text);
+    const test = decodeTest(text);
     const sites = listObservedSites(test);
     return (line) => {
       const outcome = { registers: test.threads.map(() => ({})), words: {} };
@@ -81,19 +84,19 @@ function putWord(outcome, site, word) {
 }
 
 /**
- * Returns the report of a test; `how` says by which way it is listed. It has the first states, as many with a true proposition, and the last lines.
+ * Returns the report of a test: with the first `MAX_STATES` states, as many in which the proposition is true, and the last lines.
  * @param {Program} program
  * @param {Uint8Array} text
  * @param {How} how
  * @returns {Report}
  */
-export function reportOf(program, text, how) {
+export function makeReport(program, text, how) {
   const lines = program.list("states", text, how).split("\n").slice(0, -1);
   const head = lines.slice(0, 2);
   const number = Number(/^States (\d+)$/.exec(head[1])[1]);
   const tail = lines.slice(number + 2);
   const positive = Number(/^Positive: (\d+)/.exec(tail[1])[1]);
-  const { isProved, holds: isHolding } = marksOf(program, text, how, { number, positive });
+  const { isProved, holds: isHolding } = findMarks(program, text, how, { number, positive });
   const states = [];
   let holding = 0;
   for (let index = 0; index < number; index += 1) {
@@ -124,7 +127,7 @@ function listParts(head, number, states, tail, isWhole) {
 
 /**
  * Returns the lines of the states of a text, and in how many of them its condition holds; or null if it is refused, or needs more memory than
- * there is. `how` says by which way it is listed.
+ * there is.
  * @param {Program} program
  * @param {Uint8Array} text
  * @param {How} how
@@ -136,35 +139,53 @@ export function listOrNull(program, text, how) {
     const lines = report.split("\n");
     return { lines: lines.slice(2, 2 + Number(lines[1].split(" ")[1])), positive: Number(/^Positive: (\d+)/m.exec(report)[1]) };
   } catch (error) {
-    if (error instanceof Fault || error.more?.isBeyond) return null;
+    if (error instanceof Refused || error.more?.isBeyond) return null;
     throw error;
   }
 }
 
 /**
- * Returns the schedule that is listed to a state.
+ * Returns the schedule that is listed to a state. Throws NoAnswer if the test does not end in it, and Refused if its list is refused.
  * @param {Program} program
  * @param {Uint8Array} text
  * @param {string} wanted
  * @param {How} how
  * @returns {string}
  */
-export function scheduleTo(program, text, wanted, how) {
+export function findSchedule(program, text, wanted, how) {
   const lines = program.list("schedules", text, how).split("\n").slice(2);
   for (let at = 0; at + 1 < lines.length; at += 2) if (lines[at] === wanted) return lines[at + 1].trim();
-  throw new NoAnswer("The test does not end in that state.");
+  throw new NoAnswer(`The test does not end in \`${wanted}\`.`);
 }
 
 /**
- * Returns of a final run its state's line, the condition, and whether the proposition is found true there; null if that is not known.
+ * Returns the schedule that is listed to a state; null if the test does not end in it, or its list is refused.
+ * @param {Program} program
+ * @param {Uint8Array} text
+ * @param {string} wanted
+ * @param {How} how
+ * @returns {string | null}
+ */
+export function findScheduleOrNull(program, text, wanted, how) {
+  try {
+    return findSchedule(program, text, wanted, how);
+  } catch (error) {
+    if (error instanceof Refused || error instanceof NoAnswer) return null;
+    throw error;
+  }
+}
+
+/**
+ * Returns, for the state that a run has reached, its line, the condition, and whether the page finds the proposition true there; null if the run is not
+ * final, or the page's own reader does not read the test.
  * @param {Uint8Array} text
  * @param {State} state
  * @returns {{line: string, condition: string, holds: boolean} | null}
  */
-export function endingOf(text, state) {
+export function describeEnding(text, state) {
   if (state.end.kind !== "Final") return null;
   try {
-    const test = testOf(text);
+    const test = decodeTest(text);
     const content = new Map(state.content);
     const registers = state.threads.map((it) => it.registers.map(([, word]) => word));
     const outcome = { registers, words: test.locations.map((name) => content.get(name)) };

@@ -1,10 +1,10 @@
 // Two runs that step together if they can: an event that both schedules have is carried out in both at once, and an event of only one in that
 // one. The pairs of steps follow a longest common subsequence of the two schedules.
 
-import { button, el } from "./dom.js";
+import { el, makeButton } from "./dom.js";
 
-/** Returns how many events two schedules have in common, at most, from each pair of places on. */
-function commonFrom(first, second) {
+/** Returns a table: at [i][j] the length of a longest common subsequence of the first schedule without its first i events and the second without j. */
+function countCommon(first, second) {
   const table = Array.from({ length: first.length + 1 }, () => new Array(second.length + 1).fill(0));
   for (let i = first.length - 1; i >= 0; i -= 1) {
     for (let j = second.length - 1; j >= 0; j -= 1) {
@@ -20,8 +20,8 @@ function commonFrom(first, second) {
  * @param {string[]} second
  * @returns {[number, number][]}
  */
-export function stepsTogether(first, second) {
-  const common = commonFrom(first, second);
+export function pairSteps(first, second) {
+  const common = countCommon(first, second);
   const pairs = [[0, 0]];
   let [i, j] = [0, 0];
   while (i < first.length || j < second.length) {
@@ -39,16 +39,16 @@ export class Lockstep {
   /** Makes the controls of both runs. `used` is called when the reader steps both. */
   constructor(runs, used) {
     Object.assign(this, { runs, used, pairs: [[0, 0]], at: 0 });
-    const buttonTo = (text, at, attributes) => button(text, () => this.jump(at()), attributes);
-    const first = buttonTo("|◀", () => 0, { "aria-label": "Both to the start", title: "Both to the start (Home)" });
-    const last = buttonTo("▶|", () => this.pairs.length - 1, { "aria-label": "Both to the end", title: "Both to the end (End)" });
-    this.back = buttonTo("◀", () => this.at - 1, { id: "both-back", "aria-label": "Both back", title: "Both back (←)" });
-    this.forward = buttonTo("Step both ▶", () => this.at + 1, { id: "both-forward", class: "main", title: "Both forward (→)" });
+    const makeButtonTo = (text, at, attributes) => makeButton(text, () => this.jump(at()), attributes);
+    const first = makeButtonTo("|◀", () => 0, { "aria-label": "Both to the start", title: "Both to the start (Home)" });
+    const last = makeButtonTo("▶|", () => this.pairs.length - 1, { "aria-label": "Both to the end", title: "Both to the end (End)" });
+    this.back = makeButtonTo("◀", () => this.at - 1, { id: "both-back", "aria-label": "Both back", title: "Both back (←)" });
+    this.forward = makeButtonTo("Step both ▶", () => this.at + 1, { id: "both-forward", class: "main", title: "Both forward (→)" });
     this.count = el("span", { class: "count" });
     const named = { class: "lockstep", role: "group", "aria-label": "Both runs together" };
     this.place = el("span", named, first, this.back, this.forward, last, this.count);
     this.place.hidden = true;
-    document.addEventListener("keydown", (event) => this.key(event));
+    document.addEventListener("keydown", (event) => this.handleKey(event));
   }
 
   /** Returns whether both runs are shown at a step. */
@@ -61,7 +61,7 @@ export class Lockstep {
     this.place.hidden = !this.isReady;
     if (!this.isReady) return;
     const [first, second] = this.runs;
-    this.pairs = stepsTogether(first.events, second.events);
+    this.pairs = pairSteps(first.events, second.events);
     const isHere = ([i, j]) => i === first.step && j === second.step;
     const isNear = ([i]) => i === first.step;
     const here = this.pairs.findIndex(isHere);
@@ -82,7 +82,7 @@ export class Lockstep {
   }
 
   /** Steps both by keys, unless one of the two has them. */
-  key(event) {
+  handleKey(event) {
     const { key, target } = event;
     if (!this.isReady || this.runs.some((it) => it.editor.hasKeys) || event.altKey || event.ctrlKey || event.metaKey) return;
     if (target.closest("textarea, select, input:not([type=checkbox]), [role=listbox], dialog") || !this.place.getClientRects().length) return;

@@ -1,6 +1,6 @@
 // Chooses the size in which a machine is drawn: by its threads, code, registers and store buffers, and by the window.
 //
-// `Shown` is what a machine is drawn from, as `shownOf` of run_view.js makes it.
+// `Shown` is what a machine is drawn from, as `makeShown` of run_view.js makes it.
 
 import { caches, largeType } from "./preferences.js";
 
@@ -8,9 +8,9 @@ import { caches, largeType } from "./preferences.js";
 export const MAX_SLOTS = 4;
 // A store whose text has more letters needs the width of its box for its entry.
 const LONG_STORE = 18;
-// Of how many threads, slots and lines at most the machine is shown large.
+// The largest numbers of threads, slots and lines of a machine that is shown large.
 const ROOMY = { threads: 2, slots: 2, lines: 5 };
-// Of how many lines and slots at most it has the most room in a large window.
+// The largest numbers of lines and slots of one that has the most room in a large window.
 const FEW = { lines: 3, slots: 2 };
 // The height of a row of cache lines, in em of the page, and the least height of a window in which a large machine has room for it.
 const CACHE = 3.5;
@@ -25,7 +25,7 @@ const TWO_COLUMNS = 1120;
  * @param {number} thread
  * @returns {Set<string>}
  */
-export function usedRegisters(cells, states, thread) {
+export function listUsedRegisters(cells, states, thread) {
   const named = new Set(cells[thread].flatMap((it) => it.text.match(/\w+/g) ?? []));
   for (const state of states) for (const [name, word] of state.threads[thread].registers) if (word) named.add(name);
   return named;
@@ -120,16 +120,16 @@ function isFew({ cells, slots }) {
  * @param {Shown} shown
  * @returns {Object<string, boolean>}
  */
-export function sizeClassesOf(shown) {
+export function listSizeClasses(shown) {
   return { tight: isTight(shown), roomy: isRoomy(shown), few: isFew(shown), dense: isDense(shown), tall: isTall(shown) };
 }
 
 /**
  * Returns how high the threads' boxes are at least, in letters of the page's size. If there is less room, the page is scrolled.
- * @param {object} shown
+ * @param {Shown} shown
  * @returns {number}
  */
-export function leastHeight(shown) {
+export function computeLeastHeight(shown) {
   const { cells, slots, used, state, inSource } = shown;
   const [threads, dense] = [cells.length, isDense(shown)];
   const heights = cells.map((lines, thread) => {

@@ -1,70 +1,76 @@
 // Puts the page together: the test, the verdict with its list, the panels below them, and the address, which keeps the reader's place.
 
-import { about } from "./about.js";
+import { fillAbout } from "./about.js";
 import * as address from "./address.js";
-import { forget } from "./ask.js";
+import { endQuestions } from "./ask.js";
 import { Beside } from "./beside.js";
 import { Compile } from "./compile.js";
-import { button, byId, el } from "./dom.js";
+import { el, findById, makeButton } from "./dom.js";
 import { Editor } from "./editor.js";
 import { Examples } from "./examples.js";
-import { textWithFences, textWithoutFence } from "./fence_edit.js";
+import { insertFencesInText, removeFenceFromText } from "./fence_edit.js";
 import { Fences } from "./fences.js";
-import { textOfFile } from "./files.js";
+import { decodeFile } from "./files.js";
 import { Gallery } from "./gallery.js";
 import * as guess from "./guess.js";
 import { lightNames } from "./lighting.js";
 import { isStill } from "./motion.js";
-import { copy, fileName, save } from "./output.js";
+import { copy, makeFileName, save } from "./output.js";
 import { Own } from "./own.js";
 import { fold, isFolded, placeParts } from "./placing.js";
 import { bindTheme, caches, largeType } from "./preferences.js";
 import { Present } from "./present.js";
-import { randomTest, showScore } from "./score.js";
+import { chooseRandomTest, showScore } from "./score.js";
 import { States } from "./states.js";
-import { hasServer, keep, table } from "./supplies.js";
+import { fetchTable, hasServer, keepSite } from "./supplies.js";
 import { Tabs, VIEWS } from "./tabs.js";
 import { loadSentences, clearFault } from "./errors.js";
-import { nearest } from "./nearest.js";
+import { findNearest } from "./nearest.js";
 import { showNextStep } from "./next.js";
-import { slipNotes } from "./slips.js";
+import { makeSlipNotes } from "./slips.js";
 import { listenToPrint } from "./paper.js";
 import { TEMPLATE } from "./template.js";
-import { nameOf } from "./tokens.js";
+import { parseName } from "./tokens.js";
 import { hasModule } from "./ways.js";
 import { Why } from "./why.js";
 
 const FIRST = "SB-x86";
-// After how many milliseconds without a letter what is written is run, and how long what runs by itself may take.
+const INSTEAD = `${FIRST} is shown in its place.`;
+// The pause in typing after which the states are listed, and the longest time of a question that the page asks by itself, in milliseconds.
 const TYPING = 600;
 const MAX_MILLISECONDS = 10000;
 const CHANGED = "Changed: Ctrl+Enter lists its states.";
-// The fields of the address on a test, and on the reader's place in it.
+// How many letters of an unknown field of a link are named at most.
+const MAX_LETTERS = 40;
+// The other fields of the address; and those on a test, and on the reader's place in it.
+const CHOICES = { predict: null, beside: null, beside_text: null };
 const NOWHERE = { text: null, example: null, state: null, own: null, step: null, run: null, protocol: null, schedule: null, view: null };
 
-const editor = new Editor(byId("editor"), followChange);
+const editor = new Editor(findById("editor"), followChange);
 const own = new Own(editor, (text) => take(text, { text }, true));
 const present = new Present();
 const why = new Why(editor, watchState, (line) => states.strip.explain(line));
-const states = new States(byId("outcome"), editor, () => updateOffers(), {
+const states = new States(findById("outcome"), editor, () => updateOffers(), {
   why: askWhy,
   onWatch: watchState,
-  runPanel: byId("watching"),
+  runPanel: findById("watching"),
   onDraw: fitLater,
-  graphPlace: byId("graph-place"),
-  next: byId("next"),
+  graphPlace: findById("graph-place"),
+  next: findById("next"),
   onVeil: keepBack,
-  ownOf: (text) => examples.scheduleOf(text),
-  noteOf: (text, isAllowed) => examples.noteOn(text, isAllowed),
+  ownOf: (text) => examples.findOwnSchedule(text),
+  noteOf: (text, isAllowed) => examples.findNote(text, isAllowed),
+  onUnlisted: showUnlisted,
   onFence: changeFence,
 });
 const panels = {
-  compile: new Compile(byId("compile"), editor, takeKnown, openSource),
-  fences: new Fences(byId("fences"), editor, takeKnown),
+  compile: new Compile(findById("compile"), editor, takeKnown, makeSourceButton),
+  fences: new Fences(findById("fences"), editor, takeKnown),
 };
 const tabs = new Tabs(followTab);
 let examples;
 let beside;
+// The timer that lists the states after a pause in typing.
 let typing = null;
 
 /** Fits what is shown on a projector, after it has changed. */
@@ -81,10 +87,10 @@ function updateOffers() {
   if (report && tabs.view === "why") why.askOnce();
   // A run by hand keeps the verdict back right after this.
   if (report) queueMicrotask(showAnswered);
-  byId("slips").replaceChildren(...(report && examples.nameOf(editor.text) === undefined ? slipNotes(editor.text, mend) : []));
-  byId("printed-place").hidden = report === null || states.isVeiled;
-  byId("printed-place").open = false;
-  byId("printed").replaceChildren();
+  findById("slips").replaceChildren(...(report && examples.findName(editor.text) === undefined ? makeSlipNotes(editor.text, mend) : []));
+  findById("printed-place").hidden = report === null || states.isVeiled;
+  findById("printed-place").open = false;
+  findById("printed").replaceChildren();
 }
 
 /** Puts a text that the page proposes in place of the reader's. */
@@ -94,9 +100,11 @@ function mend(text) {
 
 /** Keeps back what is known of a test while the reader looks for its states, and records that the answer to a guess is shown. */
 function keepBack(isVeiled) {
-  byId("about").classList.toggle("kept-back", isVeiled);
-  byId("printed-place").hidden = isVeiled || !states.report;
-  if (!isVeiled && states.report) guess.noteAnswer(editor.text);
+  findById("about").classList.toggle("kept-back", isVeiled);
+  findById("printed-place").hidden = isVeiled || !states.report;
+  if (isVeiled || !states.report) return;
+  guess.noteAnswer(editor.text);
+  showNext();
 }
 
 /**
@@ -109,23 +117,30 @@ function showAnswered() {
   else if (guess.isAnswered(editor.text)) states.unveil();
 }
 
-/** Pales what was answered on the text before the reader changed it, and lists the new one after a pause. */
-function followChange(before) {
-  guess.change(before, editor.text);
+/**
+ * Marks what was answered on the text `before` the change as stale, and lists the new one after a pause; or if it was changed by a button of the page, at
+ * once, and brings the answer into sight.
+ */
+function followChange(before, isByPage) {
+  guess.noteChange(before, editor.text);
   forgetAnswers();
   address.put({ ...NOWHERE, text: editor.text });
   show("", true);
-  pale(true);
-  byId("said").textContent = CHANGED;
-  typing = setTimeout(() => list({ isKept: true, timeout: MAX_MILLISECONDS }), TYPING);
+  markStale(true);
+  findById("said").textContent = CHANGED;
+  const answer = async () => {
+    await list({ isKept: true, timeout: MAX_MILLISECONDS });
+    if (isByPage && !findById("answers").classList.contains("stale")) scrollToAnswers();
+  };
+  typing = setTimeout(answer, isByPage ? 0 : TYPING);
 }
 
 /** Ends all questions, and clears what is said of the text in the editor. */
 function forgetAnswers() {
   clearTimeout(typing);
-  forget(editor);
-  byId("said").textContent = "";
-  for (const name of ["unknown", "slips"]) byId(name).replaceChildren();
+  endQuestions(editor);
+  findById("said").textContent = "";
+  for (const name of ["unknown", "slips"]) findById(name).replaceChildren();
   clearFault(editor);
   for (const panel of Object.values(panels)) panel.clear();
 }
@@ -135,20 +150,24 @@ function clear() {
   forgetAnswers();
   states.clear();
   why.clear();
-  pale(false);
+  markStale(false);
 }
 
-/** Pales what was answered on another text, or shows it again. */
-function pale(isStale) {
-  for (const name of ["answers", "graph-place"]) byId(name).classList.toggle("stale", isStale);
+/** Marks what was answered as stale, or no longer: style.css pales answers on another text. */
+function markStale(isStale) {
+  for (const name of ["answers", "graph-place"]) findById(name).classList.toggle("stale", isStale);
 }
 
-/** Lists the states and shows a run: that of a link, if there is one. Ends what runs by itself after `timeout` milliseconds. */
+/**
+ * Lists the states and shows a run: that of a link, if there is one. With `isKept` what is shown stays until the answer is there. If `timeout` is given,
+ * the question is ended after that many milliseconds. Does nothing while two tests are compared.
+ */
 async function list({ link = null, isKept = false, timeout = null } = {}) {
   clearTimeout(typing);
   if (beside?.isOpen) return;
-  if (await states.ask(link, { isKept, timeout })) pale(false);
-  if (byId("said").textContent === CHANGED) byId("said").textContent = "";
+  const { text } = editor;
+  if (await states.ask(link, { isKept, timeout })) markStale(false);
+  if (text === editor.text && findById("said").textContent === CHANGED) findById("said").textContent = "";
   present.fit();
 }
 
@@ -158,23 +177,23 @@ async function listAsked() {
   scrollToAnswers();
 }
 
-/** Scrolls to the answers, unless they begin in the upper part of the window. */
+/** Scrolls to the answers, unless they begin in the upper part of the window. On a phone they are above the text. */
 function scrollToAnswers() {
-  const { top } = byId("answers").getBoundingClientRect();
-  if (top > 0.6 * innerHeight) byId("answers").scrollIntoView({ block: "start", behavior: isStill() ? "auto" : "smooth" });
+  const { top } = findById("answers").getBoundingClientRect();
+  if (top < 0 || top > 0.6 * innerHeight) findById("answers").scrollIntoView({ block: "start", behavior: isStill() ? "auto" : "smooth" });
 }
 
 /** Unfolds the text of the test and brings it into sight, or folds it. */
-function unfold() {
+function toggleText() {
   fold(!isFolded());
-  if (!isFolded()) byId("unfold").scrollIntoView({ block: "start", behavior: isStill() ? "auto" : "smooth" });
+  if (!isFolded()) findById("unfold").scrollIntoView({ block: "start", behavior: isStill() ? "auto" : "smooth" });
 }
 
 /** Asks why no run ends in a state that is missing. */
 function askWhy(line) {
   tabs.show("why");
   address.put({ view: "why" });
-  byId("tab-why").focus({ preventScroll: true });
+  findById("tab-why").focus({ preventScroll: true });
   why.set(line);
 }
 
@@ -221,30 +240,36 @@ function takeKnown(text) {
 function show(example, isOwn) {
   if (examples) {
     examples.show(example, editor.text);
-    const browse = () => byId("open-gallery").click();
-    showNextStep(examples, example, { choose, compare: (name) => beside.take({ beside: name }), browse });
+    showNext();
   }
   own.put(isOwn);
   beside?.follow();
 }
 
+/** Shows what to look at next; no test that would tell a part of an answer while a guess is awaited. */
+function showNext() {
+  const name = guess.isLocked(editor.text) ? "" : examples?.name;
+  const browse = () => findById("open-gallery").click();
+  if (examples) showNextStep(examples, name, { choose, compare: (other) => beside.take({ beside: other }), browse });
+}
+
 /** Puts a fence into the text before an instruction of a thread, or takes the fence there out, and lists the states anew. */
 async function changeFence(thread, position, isPut) {
   const before = editor.text;
-  const text = isPut ? textWithFences(before, [[thread, position]]) : textWithoutFence(before, [thread, position]);
+  const text = isPut ? insertFencesInText(before, [[thread, position]]) : removeFenceFromText(before, [thread, position]);
   if (text === null) {
-    byId("said").textContent = "The page can't change this text.";
+    findById("said").textContent = "The page can't change this text.";
     return;
   }
-  const name = examples.nameOf(text);
+  const name = examples.findName(text);
   own.keep();
   editor.text = text;
-  guess.change(before, text);
+  guess.noteChange(before, text);
   forgetAnswers();
   address.put({ ...NOWHERE, view: tabs.view === "hand" ? "hand" : null, ...(name ? { example: name } : { text }) }, true);
   show(name ?? "", !name);
-  pale(true);
-  byId("said").textContent = isPut ? "MFENCE put in." : "MFENCE taken out.";
+  markStale(true);
+  findById("said").textContent = isPut ? "MFENCE put in." : "MFENCE taken out.";
   await list({ isKept: true });
   document.querySelector(`#watching [data-fence="${thread}:${position}"]`)?.focus({ preventScroll: true });
 }
@@ -252,12 +277,13 @@ async function changeFence(thread, position, isPut) {
 /** Shows what the address says. */
 function follow() {
   const link = address.read();
-  const example = examples.textOf(link.example) === undefined ? "" : link.example;
+  const example = examples.findText(link.example) === undefined ? "" : link.example;
   own.keep();
-  editor.text = examples.textOf(example) ?? link.text ?? examples.textOf(FIRST);
+  editor.text = examples.findText(example) ?? link.text ?? examples.findText(FIRST);
   clear();
-  byId("predict").checked = link.predict === "1";
-  showUnknownExample([link.text === undefined && link.example, link.beside].filter((it) => it && examples.textOf(it) === undefined));
+  findById("predict").checked = link.predict === "1";
+  showUnknownExample([link.text === undefined && link.example, link.beside].filter((it) => it && examples.findText(it) === undefined));
+  if (!link.example && link.text === undefined) showUnknownFields(link);
   const isOwn = !example && link.text !== undefined;
   show(example || (isOwn ? "" : FIRST), isOwn);
   states.isByHand = link.view === "hand";
@@ -268,24 +294,47 @@ function follow() {
 
 /** Says that a link names examples that do not exist, and offers to open one of nearly the name of the first. An empty list clears the notice. */
 function showUnknownExample([name]) {
+  if (name) showUnknown(`There is no example named ${name}.`, name, "The button at the top opens all examples.");
+  else findById("unknown").replaceChildren();
+}
+
+/** Says that a link names a state in which no run ends. What else it could not open is said before. */
+function showUnlisted(line) {
+  if (!findById("unknown").firstChild) showUnknown(`No run of this test ends in ${line.replace(/;$/, "")}.`, "", "The run on which the test opens is shown in its place.");
+}
+
+/**
+ * Says that a link opens no test, if its text can't be decoded, or it has fields that are unknown or empty, and offers to open the example that one of these
+ * seems to name.
+ */
+function showUnknownFields(link) {
+  if (/[#&]text=./.test(location.hash)) return showUnknown("The test in this link can't be decoded: a part of it may be missing.", "", INSTEAD);
+  const [field, value] = Object.entries(link).find(([name, it]) => name === "example" || !(name in NOWHERE || name in CHOICES)) ?? [];
+  if (field === undefined) return null;
+  const part = `#${field}${value && `=${value.length > MAX_LETTERS ? `${value.slice(0, MAX_LETTERS)}…` : value}`}`;
+  const how = `A link has example= with a name, or text= with a test; ${INSTEAD}`;
+  return showUnknown(`This link opens no test by ${part}.`, value || field, how);
+}
+
+/** Says what a link could not open, and offers an example of nearly a name; if there is none, it says something else. */
+function showUnknown(words, name, otherwise) {
   const all = [...examples.tests.keys()];
-  const meant = name && (all.find((it) => it.toLowerCase() === name.toLowerCase()) ?? nearest(name, all));
-  const words = name && `There is no example named ${name}. ${meant ? "Did you mean " : "The button at the top opens all examples."}`;
+  const meant = all.find((it) => it.toLowerCase() === name.toLowerCase()) ?? findNearest(name, all);
   const open = () => (address.read().beside === name ? beside.take({ beside: meant }) : choose(meant));
-  const link = meant ? [button(meant, open, { class: "link" }), "?"] : [];
-  byId("unknown").replaceChildren(...(name ? [el("p", { class: "notice" }, words, link)] : []));
+  const link = meant ? ["Did you mean ", makeButton(meant, open, { class: "link" }), "?"] : otherwise;
+  findById("unknown").replaceChildren(el("p", { class: "notice" }, words, " ", link));
 }
 
 /** Follows a link on the open page. If it names the same first test, everything shown of that test stays. */
 function followFrom(before) {
-  const firstOf = ({ beside: _, beside_text: __, ...first }) => JSON.stringify(first);
-  if (firstOf(before) === firstOf(address.read())) beside.follow();
+  const formatFirst = ({ beside: _, beside_text: __, ...first }) => JSON.stringify(first);
+  if (formatFirst(before) === formatFirst(address.read())) beside.follow();
   else follow();
 }
 
 /** Takes an example, or what the reader has written before; if that is nothing, a small test to begin with. */
 async function choose(name) {
-  if (name) return take(examples.textOf(name), { example: name });
+  if (name) return take(examples.findText(name), { example: name });
   if (own.bring()) return null;
   if (beside.isOpen || own.isHere) return show(examples.name, own.isHere);
   await take(TEMPLATE, { text: TEMPLATE }, true);
@@ -294,106 +343,106 @@ async function choose(name) {
 }
 
 /** Asks what the reader expects of an example at random. */
-function surprise() {
-  byId("predict").checked = true;
+function openSurprise() {
+  findById("predict").checked = true;
   address.put({ predict: "1" });
-  byId("gallery").close();
-  const name = randomTest([...examples.tests.values()], examples.name);
-  guess.forgetGuess(examples.textOf(name));
+  findById("gallery").close();
+  const name = chooseRandomTest([...examples.tests.values()], examples.name);
+  guess.forgetGuess(examples.findText(name));
   choose(name);
 }
 
 /** Returns a button that opens the source form of an x86 example, compiled; null if there is none. */
-function openSource() {
+function makeSourceButton() {
   const name = examples.name.replace(/-x86$/, "");
   const open = async () => {
     await choose(name);
     tabs.choose("compile");
   };
-  return name !== examples.name && examples.tests.has(name) ? button(name, open, { class: "link" }) : null;
+  return name !== examples.name && examples.tests.has(name) ? makeButton(name, open, { class: "link" }) : null;
 }
 
 /** Opens a file of a test. */
 async function openFile({ target }) {
   const [file] = target.files;
   if (!file) return;
-  const { text, note } = textOfFile(new Uint8Array(await file.arrayBuffer()));
+  const { text, note } = decodeFile(new Uint8Array(await file.arrayBuffer()));
   take(text, { text }, true);
-  byId("said").textContent = note;
+  findById("said").textContent = note;
   target.value = "";
 }
 
 /** Copies the link to what is shown. `status` says whether that succeeded. */
 async function copyLink(status) {
   if (!address.read().example && !address.read().text) address.put({ text: editor.text });
-  await copy(address.link(), status, location.protocol === "file:" ? ": it is of use on this machine only" : "");
+  await copy(address.makeLink(), status, location.protocol === "file:" ? ": it is of use on this machine only" : "");
 }
 
 // Listeners.
 
 /** Connects the buttons of the editor. */
 function listenToTools() {
-  byId("unfold").addEventListener("click", unfold);
-  byId("file").addEventListener("change", openFile);
-  byId("save").addEventListener("click", () => save(fileName(nameOf(editor.text), "litmus"), "text/plain", editor.text));
-  byId("link").addEventListener("click", () => copyLink(byId("said")));
-  byId("run-it").addEventListener("click", listAsked);
+  findById("unfold").addEventListener("click", toggleText);
+  findById("file").addEventListener("change", openFile);
+  findById("save").addEventListener("click", () => save(makeFileName(parseName(editor.text), "litmus"), "text/plain", editor.text));
+  findById("link").addEventListener("click", () => copyLink(findById("said")));
+  findById("run-it").addEventListener("click", listAsked);
   editor.area.addEventListener("keydown", (event) => {
     if (event.key !== "Enter" || !(event.ctrlKey || event.metaKey)) return;
     event.preventDefault();
     listAsked();
   });
-  byId("printed-place").addEventListener("toggle", ({ target }) => target.open && byId("printed").replaceChildren(...states.printed()));
+  findById("printed-place").addEventListener("toggle", ({ target }) => target.open && findById("printed").replaceChildren(...states.makePrinted()));
 }
 
 /** Listens to the reader's choices: predicting is kept in the address, the other choices by the browser. */
 function listenToChoices() {
-  byId("predict").addEventListener("change", ({ target }) => {
+  findById("predict").addEventListener("change", ({ target }) => {
     address.put({ predict: target.checked ? "1" : null });
     if (target.checked) guess.forgetGuess();
     show(examples.name, own.isHere);
     guess.follow();
     if (guess.isAwaited(editor.text)) list();
   });
-  document.addEventListener("click", ({ target }) => target.closest(".surprise") && surprise());
+  document.addEventListener("click", ({ target }) => target.closest(".surprise") && openSurprise());
   showScore();
-  bindTheme(byId("theme"));
-  caches.bindTo(byId("caches"));
-  largeType.bindTo(byId("large"));
+  bindTheme(findById("theme"));
+  caches.bindTo(findById("caches"));
+  largeType.bindTo(findById("large"));
 }
 
 /** Skips to the answers without following the link, since the address has the reader's place. */
 function listenToSkip() {
-  byId("skip").addEventListener("click", (event) => {
+  findById("skip").addEventListener("click", (event) => {
     event.preventDefault();
-    byId(beside.isOpen ? "beside" : "answers").focus();
+    findById(beside.isOpen ? "beside" : "answers").focus();
   });
 }
 
 /** Says where the proved workbench runs: in the browser or on this machine. */
 async function showWhere() {
   const isHere = await hasModule();
-  if (isHere || hasServer) byId("where").textContent = isHere ? ", in this browser as a WebAssembly module" : ", on this machine";
+  if (isHere || hasServer) findById("where").textContent = isHere ? ", in this browser as a WebAssembly module" : ", on this machine";
 }
 
 /** Starts the page. */
 async function begin() {
-  byId("why").append(why.place);
+  findById("why").append(why.place);
   placeParts(present, (isAnyway) => states.run.view.refit(isAnyway));
   lightNames(editor);
   listenToTools();
   listenToChoices();
   listenToSkip();
   listenToPrint(() => (beside?.isOpen ? beside.sides.map((it) => it.states) : [states]));
-  about(byId("about-dialog"));
-  const [families] = await Promise.all([table("examples"), loadSentences()]);
+  fillAbout(findById("about-dialog"));
+  const [families] = await Promise.all([fetchTable("examples"), loadSentences()]);
   examples = new Examples(families, choose);
   new Gallery(examples, choose);
   beside = new Beside(editor, examples, own, { choose, copyLink, onDraw: fitLater });
   follow();
   document.body.dataset.ready = "true";
-  address.onLink(followFrom);
-  await Promise.all([showWhere(), keep()]);
+  address.watchLinks(followFrom);
+  await Promise.all([showWhere(), keepSite()]);
 }
 
 begin();

@@ -2,12 +2,12 @@
 
 import { parseReportLine } from "./replays.js";
 
-// Of how many states at most one that is missing is looked for, and how many combinations of words are tried.
+// The largest number of states of a list in which a missing one is looked for, and of combinations of words that are tried.
 const MAX_LOOKED_AT = 2000;
 const MAX_TRIED = 20000;
 
 /** Returns the words of each site: first those that the question names, then those that it has in the states of a report. */
-function columnsOf({ states }, wordsAsked) {
+function listColumns({ states }, wordsAsked) {
   const lines = states.map(({ line }) => parseReportLine(line));
   return (lines[0] ?? []).map(([name], index) => {
     const asked = wordsAsked.get(name) ?? [];
@@ -23,7 +23,7 @@ function columnsOf({ states }, wordsAsked) {
  * @param {{isAsked: function(string): boolean, words: Map<string, number[]>}} [question]
  * @returns {string | null}
  */
-export function missingState(report, { isAsked, words } = { isAsked: () => true, words: new Map() }) {
+export function findMissingState(report, { isAsked, words } = { isAsked: () => true, words: new Map() }) {
   if (report.left_out || !report.states.length || report.states.length > MAX_LOOKED_AT) return null;
   const lines = new Set(report.states.map(({ line }) => line));
   let tried = 0;
@@ -39,7 +39,7 @@ export function missingState(report, { isAsked, words } = { isAsked: () => true,
     }
     return null;
   };
-  return find([], columnsOf(report, words));
+  return find([], listColumns(report, words));
 }
 
 /**
@@ -48,7 +48,7 @@ export function missingState(report, { isAsked, words } = { isAsked: () => true,
  * @param {string} other
  * @returns {number}
  */
-export function differing(line, other) {
+export function countDifferences(line, other) {
   const words = parseReportLine(other);
   return parseReportLine(line).filter(([, word], at) => word !== words[at][1]).length;
 }
@@ -59,7 +59,7 @@ export function differing(line, other) {
  * @param {string | null} missing
  * @returns {{line: string} | undefined}
  */
-export function closest(states, missing) {
+export function findClosest(states, missing) {
   if (missing === null) return undefined;
-  return states.reduce((best, it) => (differing(it.line, missing) < differing(best.line, missing) ? it : best));
+  return states.reduce((best, it) => (countDifferences(it.line, missing) < countDifferences(best.line, missing) ? it : best));
 }

@@ -43,18 +43,18 @@ export class Workbench {
   /**
    * Returns the answer to words as on the command line of `lw`, or `--budget N states`, `--budget N schedules` and `--budget N marks` as on that of
    * `beyond`: the status, whether it is a fault, and the bytes of the answer or of the fault. `film` takes what `replay` takes, and answers
-   * the pages of all prefixes of the schedule. A text that is no bytes, and words that are no command, throw
-   * TypeError, and nothing is called.
+   * the pages of all prefixes of the schedule. Throws TypeError if the text is no bytes or the words are no command, and calls nothing then; throws Trap if
+   * the module traps or the browser refuses memory.
    */
   run(words, text) {
     if (!ArrayBuffer.isView(text)) throw new TypeError("a test has to be bytes, a Uint8Array");
     if (!isCommand(words)) throw new TypeError(`no command of lw: ${words.join(" ")}`);
     try {
       for (const size of words[0] === BUDGET ? LITTLE.slice(1) : LITTLE) {
-        const ran = new Call(this.instanceFor(size), words, text, size).run();
+        const ran = new Call(this.findInstance(size), words, text, size).run();
         if (!isShort(ran)) return ran;
       }
-      const ran = callWithMuch(this.module, words, text).run();
+      const ran = makeLargeCall(this.module, words, text).run();
       if (ran.isTooLong) throw new Error("the answer is longer than its room");
       return ran;
     } catch (error) {
@@ -65,14 +65,14 @@ export class Workbench {
 
   /** Returns the version of the library that the module is, such as `1.0`. */
   version() {
-    const number = this.instanceFor(LITTLE[0]).lw_version();
+    const number = this.findInstance(LITTLE[0]).lw_version();
     return `${Math.floor(number / 100)}.${number % 100}`;
   }
 
   /** Returns the exports of an instance; that for the least memory is kept from one call to the next. */
-  instanceFor(size) {
-    if (size !== LITTLE[0]) return instanceOf(this.module);
-    this.kept ??= instanceOf(this.module);
+  findInstance(size) {
+    if (size !== LITTLE[0]) return makeInstance(this.module);
+    this.kept ??= makeInstance(this.module);
     return this.kept;
   }
 }
@@ -92,7 +92,7 @@ function isBudget(word) {
 }
 
 /** Returns what a new instance of a module exports. */
-function instanceOf(module) {
+function makeInstance(module) {
   return new WebAssembly.Instance(module, {}).exports;
 }
 
@@ -106,7 +106,7 @@ function isShort({ isFault, isTooLong, out }) {
  * @param {Uint8Array} bytes
  * @returns {Promise<WebAssembly.Module | null>}
  */
-export async function compiled(bytes) {
+export async function compileModule(bytes) {
   try {
     return bytes.length ? await WebAssembly.compile(bytes) : null;
   } catch {
@@ -114,18 +114,21 @@ export async function compiled(bytes) {
   }
 }
 
-/** Calls with as much memory as the browser gives. */
-function callWithMuch(module, words, text) {
+/** The name that `compileModule` had: pages that import it go on working. */
+export const compiled = compileModule;
+
+/** Makes a call with as much memory as the browser gives. Throws the browser's error if it refuses the least amount. */
+function makeLargeCall(module, words, text) {
   for (const size of MUCH) {
     try {
-      return new Call(instanceOf(module), words, text, size);
+      return new Call(makeInstance(module), words, text, size);
     } catch (error) {
       if (size === MUCH.at(-1)) throw error;
     }
   }
 }
 
-/** Calls an instance, which is passed by what it exports. */
+/** A call of an instance, which is passed by what it exports. For each part of memory `at` has its address, and `sizes` its bytes. */
 class Call {
   constructor(exports, words, text, size) {
     Object.assign(this, { exports, words });
@@ -158,29 +161,29 @@ class Call {
   /** Copies an argument to its place in memory. Returns the place, and the number of bytes. */
   put(name) {
     new Uint8Array(this.exports.memory.buffer).set(this.given[name], this.at[name]);
-    return this.placeOf(name);
+    return this.findPlace(name);
   }
 
   /** Returns where a part of the memory is, and how many bytes it has. */
-  placeOf(name) {
+  findPlace(name) {
     return [BigInt(this.at[name]), BigInt(this.sizes[name])];
   }
 
   /** Calls the export for the command, and returns its result. */
   run() {
     const view = new DataView(this.exports.memory.buffer);
-    for (const [number, value] of this.placeOf("heap").entries()) view.setBigUint64(this.at.memory + 8 * number, value, true);
+    for (const [number, value] of this.findPlace("heap").entries()) view.setBigUint64(this.at.memory + 8 * number, value, true);
     const front = [BigInt(this.at.memory), ...this.put("text")];
-    const behind = [...this.placeOf("room"), BigInt(this.at.result)];
+    const behind = [...this.findPlace("room"), BigInt(this.at.result)];
     const [task, argument, output] = this.words;
     if (REPLAYS.includes(task)) this.exports[`lw_${task}`](...front, ...this.put("schedule"), this.words[3] === "moesi" ? 1 : 0, ...behind);
     else if (task === BUDGET) this.exports[`lw_reach_${output}`](...front, BigInt(argument), ...behind);
     else this.exports[`lw_${task}`](...front, ...behind);
-    return this.result();
+    return this.readResult();
   }
 
   /** Returns the result of the call, copied out of the module's memory. */
-  result() {
+  readResult() {
     const { buffer } = this.exports.memory;
     const view = new DataView(buffer);
     const status = view.getUint32(this.at.result, true);

@@ -5,7 +5,10 @@ const TIME = 280;
 const EASE = "cubic-bezier(.3, .1, .2, 1)";
 const less = matchMedia("(prefers-reduced-motion: reduce)");
 
-/** Returns whether nothing is to move. */
+/**
+ * Returns whether nothing is to move.
+ * @returns {boolean}
+ */
 export function isStill() {
   return less.matches;
 }
@@ -15,7 +18,7 @@ export function isStill() {
  * @param {Element} place
  * @returns {Map<string, DOMRect>}
  */
-export function placesIn(place) {
+export function measurePlaces(place) {
   return new Map([...place.querySelectorAll("[data-key]")].map((it) => [it.dataset.key, it.getBoundingClientRect()]));
 }
 
@@ -47,9 +50,9 @@ export function fly(over, from, to, { word, kind, arrived = null }) {
   ghost.setAttribute("aria-hidden", "true");
   over.append(ghost);
   const own = ghost.getBoundingClientRect();
-  const middle = (box) => [box.left - base.left + (box.width - own.width) / 2, box.top - base.top + (box.height - own.height) / 2];
-  const spot = (box) => `translate(${middle(box).map((it) => `${it}px`).join(", ")})`;
-  const [begin, end] = [spot(from), spot(to)];
+  const findMiddle = (box) => [box.left - base.left + (box.width - own.width) / 2, box.top - base.top + (box.height - own.height) / 2];
+  const formatSpot = (box) => `translate(${findMiddle(box).map((it) => `${it}px`).join(", ")})`;
+  const [begin, end] = [formatSpot(from), formatSpot(to)];
   const flight = ghost.animate([{ transform: begin }, { transform: end }], { duration: TIME, easing: EASE, fill: "both" });
   flight.finished.catch(() => null).then(() => ghost.remove());
   arrived?.animate([{ opacity: 0 }, { opacity: 0, offset: 0.8 }, { opacity: 1 }], { duration: TIME, easing: "linear" });

@@ -1,14 +1,14 @@
 // Proposes what to look at next: the same test with fences, or without additions; and what there is to read, and for a class.
 
-import { button, byId, el } from "./dom.js";
+import { el, findById, makeButton } from "./dom.js";
 import { documents } from "./supplies.js";
 
-// The documents that are named with a test, by their files, with what a reader finds there.
-const NAMED = [["tutorial.html", "Tutorial", ""], ["lab.html", "Lab for a class", ": sheet, slides, quiz"]];
+// The documents that are named with a test, by their files, with the names of others that belong to them.
+const NAMED = [["tutorial.html", "Tutorial", []], ["lab.html", "Lab for a class", ["sheet", "slides", "quiz"]]];
 
 /** Returns the words on the example to which the next step leads. */
-function nextWords(examples, name, partner) {
-  if (examples.fencedOf(name) === partner) return `the same test with ${/\+.*(?:xchg|xadd)/.test(partner) ? "locked instructions" : "fences"}: `;
+function describeNext(examples, name, partner) {
+  if (examples.findFenced(name) === partner) return `the same test with ${/\+.*(?:xchg|xadd)/.test(partner) ? "locked instructions" : "fences"}: `;
   if (partner === `${name}-x86`) return "the same test on x86, without the compiler's fences: ";
   return "the same test without what was added: ";
 }
@@ -20,13 +20,17 @@ function nextWords(examples, name, partner) {
  * @param {{choose: function(string): void, compare: function(string): void, browse: function(): void}} actions
  */
 export function showNextStep(examples, name, { choose, compare, browse }) {
-  const partner = examples.tests.has(name) ? examples.relativeOf(name) : undefined;
-  const another = ["Next: ", button("another example", browse, { class: "link", id: "next-example" }), ". "];
+  const partner = examples.tests.has(name) ? examples.findRelative(name) : undefined;
+  const another = ["Next: ", makeButton("another example", browse, { class: "link", id: "next-example" }), ". "];
   const step = !partner ? another : [
-    "Next: ", nextWords(examples, name, partner), button(partner, () => choose(partner), { class: "link", id: "next-test" }), ", or ",
-    button("compare both", () => compare(partner), { class: "link", id: "next-compare" }), ". ",
+    "Next: ", describeNext(examples, name, partner), makeButton(partner, () => choose(partner), { class: "link", id: "next-test" }), ", or ",
+    makeButton("compare both", () => compare(partner), { class: "link", id: "next-compare" }), ". ",
   ];
-  const named = NAMED.filter(([name]) => documents.some(([file]) => file === name));
-  const link = ([file, title, words]) => el("span", { class: "unbroken" }, el("a", { href: file, target: "reading" }, title), words);
-  byId("next").replaceChildren(...step, ...named.flatMap((it, index) => [index ? " · " : "", link(it)]));
+  const isThere = (name) => documents.some(([file]) => file === name);
+  const named = NAMED.filter(([name]) => isThere(name));
+  const makeLink = ([file, title, others]) => {
+    const words = others.filter((it) => isThere(`${it}.html`)).join(", ");
+    return el("span", { class: "unbroken" }, el("a", { href: file, target: "reading" }, title), words && `: ${words}`);
+  };
+  findById("next").replaceChildren(...step, ...named.flatMap((it, index) => [index ? " · " : "", makeLink(it)]));
 }

@@ -20,7 +20,7 @@ export function save(name, kind, content) {
  * @param {string} ending
  * @returns {string}
  */
-export function fileName(name, ending) {
+export function makeFileName(name, ending) {
   return `${name.replace(/[^\w+.-]/g, "_")}.${ending}`;
 }
 

@@ -1,6 +1,6 @@
 // Keeps the last test that the reader has written or opened, when another takes its place in the editor, so that it can be brought back.
 
-import { byId } from "./dom.js";
+import { findById } from "./dom.js";
 
 const KEY = "own";
 
@@ -11,8 +11,8 @@ export class Own {
     this.editor = editor;
     this.bringText = bring;
     this.isHere = false;
-    this.kept = stored();
-    byId("bring-back").addEventListener("click", () => this.bring());
+    this.kept = readStored();
+    findById("bring-back").addEventListener("click", () => this.bring());
   }
 
   /** Returns the reader's own test, whether it is in the editor or kept; null if there is none. */
@@ -23,7 +23,7 @@ export class Own {
   /** Says whether the text in the editor is the reader's own. */
   put(isHere) {
     this.isHere = isHere;
-    byId("bring-back").hidden = this.kept === null || this.kept === this.editor.text;
+    findById("bring-back").hidden = this.kept === null || this.kept === this.editor.text;
   }
 
   /** Keeps the text in the editor, if it is the reader's own: another is about to take its place. */
@@ -42,7 +42,7 @@ export class Own {
 }
 
 /** Returns the reader's own test, as it is stored, or null. */
-function stored() {
+function readStored() {
   try {
     return sessionStorage.getItem(KEY);
   } catch {

@@ -38,7 +38,7 @@ function escapeMarkup(text) {
  * @param {number} number
  * @returns {string}
  */
-export function digits(number) {
+export function formatNumber(number) {
   return String(Number(number.toPrecision(6)));
 }
 
@@ -51,12 +51,12 @@ export class Drawing {
   /** Draws a text, whose class is `kind`. */
   drawText(x, y, text, kind = "") {
     const attributes = kind ? ` class="${kind}"` : "";
-    this.elements.push(`<text x="${digits(x)}" y="${digits(y)}"${attributes}>${escapeMarkup(text)}</text>`);
+    this.elements.push(`<text x="${formatNumber(x)}" y="${formatNumber(y)}"${attributes}>${escapeMarkup(text)}</text>`);
   }
 
   /** Draws a box with round corners, whose class is `kind`. */
   drawBox(x, y, width, height, kind = "box") {
-    const attributes = `x="${digits(x)}" y="${digits(y)}" width="${digits(width)}" height="${digits(height)}"`;
+    const attributes = `x="${formatNumber(x)}" y="${formatNumber(y)}" width="${formatNumber(width)}" height="${formatNumber(height)}"`;
     this.elements.push(`<rect ${attributes} rx="4" class="${kind}"/>`);
   }
 
@@ -70,7 +70,7 @@ export class Drawing {
 
   /** Returns the picture as SVG. */
   makeSvg(width, height, title) {
-    const [w, h] = [digits(width), digits(height)];
+    const [w, h] = [formatNumber(width), formatNumber(height)];
     const head = `<svg xmlns="http://www.w3.org/2000/svg" width="${w}" height="${h}" viewBox="0 0 ${w} ${h}" role="img">`;
     const named = `<title>${escapeMarkup(title)}</title>\n<style>${STYLE}</style>`;
     return [head, named, `<rect width="${w}" height="${h}" class="ground"/>`, ...this.elements, "</svg>\n"].join("\n");

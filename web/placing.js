@@ -1,6 +1,6 @@
 // Places the parts of the page: by the width of the window, by the size of the graph, and on a projector.
 
-import { button, byId, el } from "./dom.js";
+import { el, findById, makeButton } from "./dom.js";
 
 // In a window that is narrower the page has one column.
 const NARROW = "(max-width: 69.99rem)";
@@ -15,25 +15,25 @@ const PHONE = "(max-width: 40rem)";
  */
 export function placeParts(present, fit) {
   const [narrow, phone] = [NARROW, PHONE].map((it) => matchMedia(it));
-  const graph = byId("graph-place");
+  const graph = findById("graph-place");
   const placeGraph = () => {
     const drawn = graph.querySelector(".graph");
     const needed = drawn ? parseFloat(getComputedStyle(drawn).minWidth) : 0;
-    const isBelow = narrow.matches || present.isOpen || needed > byId("test").clientWidth - 4;
-    const place = isBelow ? byId("answers") : byId("test");
+    const isBelow = narrow.matches || present.isOpen || needed > findById("test").clientWidth - 4;
+    const place = isBelow ? findById("answers") : findById("test");
     if (graph.parentElement !== place) place.insertBefore(graph, place.querySelector(":scope > .folded"));
   };
-  const about = byId("about");
-  const brief = el("div", { class: "brief" }, moreOf(about));
+  const about = findById("about");
+  const brief = el("div", { class: "brief" }, makeMoreButton(about));
   const placeAbout = () => {
-    byId("editor").before(about);
+    findById("editor").before(about);
     brief.remove();
     if (!phone.matches) return;
-    byId("outcome").querySelector(".verdicts").after(brief);
+    findById("outcome").querySelector(".verdicts").after(brief);
     brief.prepend(about);
   };
   const place = () => {
-    byId(narrow.matches ? "beside" : "answers").before(byId("test"));
+    findById(narrow.matches ? "beside" : "answers").before(findById("test"));
     fold(narrow.matches);
     placeGraph();
   };
@@ -48,7 +48,8 @@ export function placeParts(present, fit) {
     setRoom();
     fit();
   });
-  for (const name of ["answers", "outcome"]) measured.observe(byId(name));
+  for (const name of ["answers", "outcome"]) measured.observe(findById(name));
+  new ResizeObserver(() => placeNext(!narrow.matches && !present.isOpen)).observe(findById("watching"));
   present.onChange(() => {
     placeGraph();
     fit(true);
@@ -57,20 +58,33 @@ export function placeParts(present, fit) {
   placeAbout();
 }
 
+/** Puts what to look at next below the run; or below the text, if it is seen only there, since memory covers it below the run or it is cut. */
+function placeNext(hasTwoColumns) {
+  const [next, test] = ["next", "test"].map((name) => findById(name));
+  const [below, memory] = [".after-run", ".memory"].map((css) => document.querySelector(`#watching ${css}`));
+  if (next.contains(document.activeElement)) return;
+  const isSeen = () => next.getBoundingClientRect().bottom <= innerHeight;
+  below.append(next);
+  const isCovered = memory?.getBoundingClientRect().bottom > next.getBoundingClientRect().top;
+  if (!hasTwoColumns || (isSeen() && !isCovered)) return;
+  test.insertBefore(next, test.querySelector(":scope > .folded"));
+  if (!isSeen()) below.append(next);
+}
+
 /** Returns a button that shows the whole of a text of which a phone shows the first line only. */
-function moreOf(place) {
+function makeMoreButton(place) {
   const toggle = () => {
     const isWhole = place.classList.toggle("whole");
     more.setAttribute("aria-expanded", String(isWhole));
     more.textContent = isWhole ? "less" : "more";
   };
-  const more = button("more", toggle, { class: "link small", "aria-expanded": "false", "aria-controls": place.id });
+  const more = makeButton("more", toggle, { class: "link small", "aria-expanded": "false", "aria-controls": place.id });
   return more;
 }
 
 /** Sets how high the machine may be so that it is in sight, with the graph below it. */
 export function setRoom() {
-  const [answers, watching] = ["answers", "watching"].map((name) => byId(name));
+  const [answers, watching] = ["answers", "watching"].map((name) => findById(name));
   if (watching.hidden) return;
   const above = watching.getBoundingClientRect().top - answers.getBoundingClientRect().top + answers.scrollTop;
   watching.style.setProperty("--room", `${Math.floor(answers.clientHeight - above)}px`);
@@ -81,11 +95,14 @@ export function setRoom() {
  * @param {boolean} isClosed
  */
 export function fold(isClosed) {
-  byId("test").classList.toggle("folded-up", isClosed);
-  byId("unfold").setAttribute("aria-expanded", String(!isClosed));
+  findById("test").classList.toggle("folded-up", isClosed);
+  findById("unfold").setAttribute("aria-expanded", String(!isClosed));
 }
 
-/** Returns whether the text of the test is folded. */
+/**
+ * Returns whether the text of the test is folded.
+ * @returns {boolean}
+ */
 export function isFolded() {
-  return byId("test").classList.contains("folded-up");
+  return findById("test").classList.contains("folded-up");
 }

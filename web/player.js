@@ -1,7 +1,7 @@
 // The row that plays a run: buttons for its steps, and its schedule, a button for each event, along which the reader goes.
 
-import { button, el } from "./dom.js";
-import { threadClass } from "./tint.js";
+import { el, makeButton } from "./dom.js";
+import { makeThreadClass } from "./tint.js";
 
 const PAUSE = 1000;
 
@@ -10,12 +10,12 @@ export class Player {
   /** Makes the row. `id` makes the ids of the buttons, `go` goes to a step, `isSeen` says whether the run is in sight; `more` is shown at the end. */
   constructor(id, { go, isSeen, more }) {
     Object.assign(this, { go, isSeen, step: 0, events: [], timer: null, isFresh: false });
-    const to = (text, step, attributes) => button(text, () => this.jump(step()), attributes);
-    this.first = to("|◀", () => 0, { "aria-label": "To the start", title: "To the start (Home)" });
-    this.last = to("▶|", () => this.events.length, { "aria-label": "To the end", title: "To the end (End)" });
-    this.back = to("◀", () => this.step - 1, { id: id("back"), "aria-label": "Back", title: "Back (←)" });
-    this.forward = to("Step ▶", () => this.step + 1, { id: id("forward"), class: "main", title: "Forward (→)" });
-    this.playing = button("▶ Play", () => (this.timer ? this.stop() : this.play()), { id: id("play"), class: "play" });
+    const makeButtonTo = (text, step, attributes) => makeButton(text, () => this.jump(step()), attributes);
+    this.first = makeButtonTo("|◀", () => 0, { "aria-label": "To the start", title: "To the start (Home)" });
+    this.last = makeButtonTo("▶|", () => this.events.length, { "aria-label": "To the end", title: "To the end (End)" });
+    this.back = makeButtonTo("◀", () => this.step - 1, { id: id("back"), "aria-label": "Back", title: "Back (←)" });
+    this.forward = makeButtonTo("Step ▶", () => this.step + 1, { id: id("forward"), class: "main", title: "Forward (→)" });
+    this.playing = makeButton("▶ Play", () => (this.timer ? this.stop() : this.play()), { id: id("play"), class: "play" });
     const scrub = (event) => this.scrub(event);
     this.schedule = el("ol", { class: "events", id: id("schedule"), "aria-label": "The schedule", pointerdown: scrub, pointermove: scrub });
     this.count = el("span", { class: "count" });
@@ -39,20 +39,21 @@ export class Player {
   /** Draws the events of the schedule as buttons, and scrolls to the present one. */
   drawSchedule() {
     const hadFocus = this.schedule.contains(document.activeElement);
-    this.schedule.replaceChildren(...this.events.map((event, index) => el("li", {}, this.buttonOf(event, index))));
+    this.schedule.replaceChildren(...this.events.map((event, index) => el("li", {}, this.makeEventButton(event, index))));
     const now = this.schedule.querySelector("[tabindex='0']");
     if (hadFocus) now?.focus({ preventScroll: true });
     if (now) this.schedule.scrollLeft = Math.max(0, now.offsetLeft - this.schedule.offsetLeft - this.schedule.clientWidth / 2);
   }
 
   /** Returns the button of an event, which goes to the step after it. */
-  buttonOf(event, index) {
+  makeEventButton(event, index) {
     const [isDone, isNow] = [index < this.step, index === this.step - 1];
-    const kinds = ["event", threadClass(event[1]), event[0] === "D" && "drains", isDone && "behind", isNow && "now"];
-    return button(event, () => this.jump(index + 1), {
+    const kinds = ["event", makeThreadClass(event[1]), event[0] === "D" && "drains", isDone && "behind", isNow && "now"];
+    return makeButton(event, () => this.jump(index + 1), {
       class: kinds.filter(Boolean).join(" "),
       "data-step": String(index + 1),
       "data-at": this.places[index] ?? null,
+      title: event[0] === "P" ? `${event}: its next step` : event[0] === "D" ? `${event}: P${event[1]}'s oldest store goes to memory` : null,
       "aria-label": `Event ${index + 1} of ${this.events.length}: ${event}`,
       "aria-current": isNow ? "step" : null,
       tabindex: index === Math.max(this.step - 1, 0) ? "0" : "-1",

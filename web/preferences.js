@@ -3,7 +3,7 @@
 /** A switch that is kept under a name. */
 class Preference {
   constructor(name) {
-    Object.assign(this, { name, listeners: [], isOn: stored(name) === "1" });
+    Object.assign(this, { name, listeners: [], isOn: readStored(name) === "1" });
   }
 
   /** Switches it, and calls back all that depends on it. */
@@ -30,7 +30,7 @@ class Preference {
  * @param {string} name
  * @returns {string | null}
  */
-function stored(name) {
+function readStored(name) {
   try {
     return localStorage.getItem(name);
   } catch {
@@ -58,7 +58,7 @@ export function bindTheme(list) {
     if (theme === THEMES[0]) delete document.documentElement.dataset.theme;
     else document.documentElement.dataset.theme = theme;
   };
-  const kept = stored("theme");
+  const kept = readStored("theme");
   list.value = THEMES.includes(kept) ? kept : THEMES[0];
   show(list.value);
   list.addEventListener("change", () => {
@@ -73,10 +73,13 @@ export const caches = new Preference("caches");
 /** Whether the type is large. */
 export const largeType = new Preference("large");
 
+/** Whether the reader has gone a step in a run. */
+export const hasStepped = new Preference("stepped");
+
 /** Gives the page the size of its type. It is called first: what depends on the size is laid out after it. */
-function scale() {
+function applyScale() {
   document.documentElement.classList.toggle("large", largeType.isOn);
 }
 
-largeType.onChange(scale);
-scale();
+largeType.onChange(applyScale);
+applyScale();

@@ -1,9 +1,9 @@
 // The view for a projector: only the question, the verdict, the list, the machine and the graph, in the largest type in which all of it fits,
-// and never in less than a least size, nor in less than the page itself has; if it takes that, the graph goes. If not all fits in that, long code
-// is scrolled inside its box, and the next instruction stays in sight.
+// and never in less than a least size, nor in less than the page itself has; if it takes that, the graph goes. Its letters are as large as the rest
+// if they can be. If not all fits in the least size, long code is scrolled inside its box, and the next instruction stays in sight.
 
 import { showNext } from "./code_window.js";
-import { byId } from "./dom.js";
+import { findById } from "./dom.js";
 
 // The least size of type in pixels, of one test and of two, the least of one test as a part of the height of the window, and the largest.
 const MIN_TYPE = 18;
@@ -12,8 +12,11 @@ const MIN_PART_OF_HEIGHT = 0.024;
 const MAX_TYPE = 44;
 // The largest ratio of the machine's type to the rest, if there is room: with at most two threads, and with more.
 const [MAX_SCALE, MAX_TIGHT_SCALE] = [1.5, 1.2];
-// The possible places of the graph, the best first: beside the machine, beside all, or nowhere.
-const GRAPH_PLACES = ["machine", "all", "none"];
+// The possible places of the graph: beside the machine, and beside all. Its possible sizes there: that in which its letters are as large as the rest, a
+// smaller one, and as it is drawn; and the largest if there is room.
+const GRAPH_PLACES = ["machine", "all"];
+const GRAPH_SIZES = [1.24, 1.12, 1];
+const MAX_GRAPH_SIZE = 1.6;
 // The elements that are no smaller than on the page itself, by the property of the style sheet that has their size there.
 const USUAL = {
   "--usual-verdict": "#outcome .verdict",
@@ -22,7 +25,7 @@ const USUAL = {
   "--usual-code": "#watching .code",
   "--usual-word": "#watching .word",
 };
-// Of how many lines the verdict is at most if it can be, with a part of a line to spare, since its first word is larger.
+// The largest number of lines of the verdict, if it can be, with a part of a line to spare, since its first word is larger.
 const LINES_OF_VERDICT = 2.7;
 // The least number of lines of code that are shown, and how often their room is made smaller at most.
 const MIN_LINES = 3;
@@ -32,8 +35,8 @@ const MAX_TRIES = 4;
 export class Present {
   constructor() {
     Object.assign(this, { isOpen: false, changed: () => null });
-    byId("present").addEventListener("click", () => this.open());
-    byId("end-present").addEventListener("click", () => this.close());
+    findById("present").addEventListener("click", () => this.open());
+    findById("end-present").addEventListener("click", () => this.close());
     addEventListener("resize", () => this.fit());
     document.addEventListener("fullscreenchange", () => (document.fullscreenElement ? this.fit() : this.wasFull && this.close()));
     document.addEventListener("keydown", (event) => event.key === "Escape" && !document.querySelector("dialog[open]") && this.close());
@@ -48,7 +51,7 @@ export class Present {
   async open() {
     this.isOpen = true;
     document.documentElement.classList.add("present");
-    byId("end-present").hidden = false;
+    findById("end-present").hidden = false;
     this.changed();
     this.fit();
     try {
@@ -67,11 +70,11 @@ export class Present {
     this.wasFull = false;
     document.documentElement.classList.remove("present");
     document.documentElement.style.fontSize = "";
-    for (const name of ["--code-room", "--of-machine", ...Object.keys(USUAL)]) document.documentElement.style.removeProperty(name);
-    byId("end-present").hidden = true;
+    for (const name of ["--code-room", "--of-machine", "--of-graph", ...Object.keys(USUAL)]) document.documentElement.style.removeProperty(name);
+    findById("end-present").hidden = true;
     this.changed();
     if (document.fullscreenElement) document.exitFullscreen().catch(() => null);
-    byId("present").focus();
+    findById("present").focus();
   }
 
   /** Chooses the largest type in which all fits. */
@@ -84,16 +87,35 @@ export class Present {
     style.removeProperty("--code-room");
     document.documentElement.classList.remove("close");
     this.keepUsual();
-    for (const place of GRAPH_PLACES) {
-      dataset.graph = place;
-      if (this.fits(least)) break;
-    }
+    this.placeGraph(dataset, least);
     document.documentElement.classList.toggle("close", !this.fits(least));
     if (!this.fits(least)) return this.foldCode();
     const isShort = hasShortVerdict();
-    const size = largest([least, most, 0.5], (it) => this.fits(it) && (!isShort || hasShortVerdict()));
-    const ofMachine = document.querySelector("#watching .machine.tight") ? MAX_TIGHT_SCALE : MAX_SCALE;
-    this.fits(size, isOne ? largest([1, ofMachine, 0.05], (it) => this.fits(size, it)) : 1);
+    const size = findLargest([least, most, 0.5], (it) => this.fits(it) && (!isShort || hasShortVerdict()));
+    this.fits(size);
+    if (isOne) this.enlarge(size);
+  }
+
+  /** Puts the graph, as large as can be, where all fits in the least size of type, or if there is no such place, nowhere. */
+  placeGraph(dataset, least) {
+    for (const ofGraph of GRAPH_SIZES) {
+      for (const place of GRAPH_PLACES) {
+        dataset.graph = place;
+        if (this.fits(least, { ofMachine: 1, ofGraph })) return;
+      }
+    }
+    dataset.graph = "none";
+  }
+
+  /** Makes the machine as large as the room beside the rest allows, in a size of type, and then the graph. */
+  enlarge(size) {
+    const isTight = document.querySelector("#watching .machine.tight") !== null;
+    const grow = (name, most) => {
+      const accepts = (it) => this.fits(size, { [name]: it });
+      accepts(findLargest([this[name], most, 0.05], accepts));
+    };
+    grow("ofMachine", isTight ? MAX_TIGHT_SCALE : MAX_SCALE);
+    grow("ofGraph", MAX_GRAPH_SIZE);
   }
 
   /** Keeps the sizes of type that the page itself has in this window. */
@@ -111,19 +133,21 @@ export class Present {
   foldCode() {
     const root = document.documentElement;
     const codes = [...document.querySelectorAll(".code")].filter((it) => it.offsetParent !== null);
-    const most = () => Math.max(...codes.map((it) => it.clientHeight));
+    const measureTallest = () => Math.max(...codes.map((it) => it.clientHeight));
     for (let tries = 0; codes.length && tries < MAX_TRIES && root.scrollHeight > innerHeight; tries += 1) {
       const least = MIN_LINES * codes[0].firstElementChild.offsetHeight;
-      root.style.setProperty("--code-room", `${Math.max(least, most() - (root.scrollHeight - innerHeight))}px`);
+      root.style.setProperty("--code-room", `${Math.max(least, measureTallest() - (root.scrollHeight - innerHeight))}px`);
     }
     for (const it of document.querySelectorAll(".machine")) showNext(it);
   }
 
-  /** Returns whether all fits in a size of type, with the machine larger by a factor, and leaves the page in that size. */
-  fits(size, ofMachine = 1) {
+  /** Returns whether all fits in a size of type, with the machine and the graph larger by factors, and leaves the page in that size. */
+  fits(size, factors = {}) {
     const root = document.documentElement;
+    Object.assign(this, factors);
     root.style.fontSize = `${size}px`;
-    root.style.setProperty("--of-machine", ofMachine);
+    root.style.setProperty("--of-machine", this.ofMachine);
+    root.style.setProperty("--of-graph", this.ofGraph);
     const isWhole = (box) => box.scrollWidth <= box.clientWidth + 1 && box.scrollHeight <= box.clientHeight + 1;
     const scrolled = [...document.querySelectorAll(".code, .wide, .registers")].filter((it) => it.offsetParent !== null);
     return scrolled.every(isWhole) && root.scrollHeight <= innerHeight && root.scrollWidth <= innerWidth;
@@ -131,7 +155,7 @@ export class Present {
 }
 
 /** Returns about the largest number between two, to within a step, that a test accepts; it accepts the smallest. */
-function largest([small, large, step], accepts) {
+function findLargest([small, large, step], accepts) {
   let [best, above] = [small, large];
   while (above - best > step) {
     const middle = (best + above) / 2;

@@ -17,8 +17,8 @@ const SHORT_OF_MEMORY = "lw: memory";
 const MAX_KEPT = 4096;
 const MAX_CHARACTERS = 16384;
 
-/** The workbench refuses what it was given: `fault` says so. */
-export class Fault extends Error {
+/** The workbench refuses what it was given: `fault` says what and why. */
+export class Refused extends Error {
   constructor(fault) {
     super(fault.line);
     this.fault = fault;
@@ -41,7 +41,7 @@ export class NoAnswer extends Error {
  * @param {string} text
  * @returns {Uint8Array}
  */
-export function bytesOf(text) {
+export function encodeText(text) {
   return new TextEncoder().encode(text);
 }
 
@@ -50,17 +50,17 @@ export function bytesOf(text) {
  * @param {Uint8Array} bytes
  * @returns {string}
  */
-export function textOf(bytes) {
+export function decodeText(bytes) {
   return new TextDecoder("utf-8", { ignoreBOM: true }).decode(bytes);
 }
 
 /**
- * Returns the language of a test that the workbench has taken.
+ * Returns the language of a text. Throws NoTest if the text has no heading, as no text that the workbench takes.
  * @param {Uint8Array} text
  * @returns {"SRC" | "X86"}
  */
-export function languageOf(text) {
-  return parseHeading(textOf(text)).language;
+export function parseLanguage(text) {
+  return parseHeading(decodeText(text)).language;
 }
 
 /**
@@ -76,7 +76,8 @@ export class Program {
   }
 
   /**
-   * Returns what is printed of a list, `states` or `schedules`; of one by a search `onProgress` is called with words on how far that is.
+   * Returns what is printed of a list, `states` or `schedules`; of one by a search `onProgress` is called with words on how far that is. Throws as
+   * `askAnew` does; and NoAnswer if a search ends without a list.
    * @param {string} output
    * @param {Uint8Array} text
    * @param {{search?: boolean, onProgress?: function(string): void}} [options]
@@ -94,12 +95,12 @@ export class Program {
    * @returns {string}
    */
   search(output, text, onProgress) {
-    this.keptOf(text);
+    this.findKept(text);
     if (!this.searched.has(output)) this.searched.set(output, this.searchAnew(output, text, onProgress));
     return this.searched.get(output);
   }
 
-  /** Searches with one budget after another, until one suffices. Throws NoAnswer if none does. */
+  /** Returns a list by searches with one budget after another, until one suffices. Throws NoAnswer if none does. */
   searchAnew(output, text, onProgress) {
     for (const budget of BUDGETS) {
       try {
@@ -114,35 +115,36 @@ export class Program {
   }
 
   /**
-   * Returns the output. Short answers are kept as long as the same text is asked about: films and runs by hand ask for many again.
+   * Returns what is printed. Short answers are kept as long as the same text is asked about: films and runs by hand ask for many again. Throws as `askAnew`
+   * does.
    * @param {string[]} words
    * @param {Uint8Array} text
    * @returns {string}
    */
   ask(words, text) {
-    const kept = this.keptOf(text);
+    const kept = this.findKept(text);
     const key = words.join(" ");
     const printed = kept.get(key) ?? this.askAnew(words, text);
     if (printed.length <= MAX_CHARACTERS) kept.set(key, printed);
     return printed;
   }
 
-  /** Returns the answers that are kept of a text; those of another text are forgotten. */
-  keptOf(text) {
-    const decoded = textOf(text);
+  /** Returns the answers that are kept of a text, a map by the words that were asked. Forgets those of another text. */
+  findKept(text) {
+    const decoded = decodeText(text);
     if (decoded !== this.textOfKept || this.kept.size >= MAX_KEPT) this.kept = new Map();
     if (decoded !== this.textOfKept) this.searched = new Map();
     this.textOfKept = decoded;
     return this.kept;
   }
 
-  /** Returns what is printed. Throws Fault if the workbench refuses the words or the text, and NoAnswer if memory runs out. */
+  /** Returns what is printed. Throws Refused if the workbench refuses the words or the text, and NoAnswer if memory runs out. */
   askAnew(words, text) {
     const { status, isFault, out } = this.run(words, text);
-    const printed = textOf(out);
+    const printed = decodeText(out);
     if (!isFault) return printed;
     if (printed === SHORT_OF_MEMORY) throw new NoAnswer(`The run needed more memory than ${this.workbench.room}.`, { isBeyond: true });
-    throw new Fault(faultOf(printed.trim(), status, text, words[0] === "replay" ? words[1] : ""));
+    throw new Refused(parseFault(printed.trim(), status, text, words[0] === "replay" ? words[1] : ""));
   }
 
   /** Runs the workbench. Throws NoAnswer if the browser ends the module. */
@@ -156,38 +158,38 @@ export class Program {
   }
 
   /**
-   * Returns the state that a schedule leads to.
+   * Returns the state that a schedule leads to, or in which it stops. Throws as `askAnew` does.
    * @param {Uint8Array} text
    * @param {string} schedule
    * @param {string} protocol
    * @returns {State}
    */
-  replayed(text, schedule, protocol) {
+  replay(text, schedule, protocol) {
     return parseReplayState(this.ask(["replay", schedule, "--protocol", protocol], text));
   }
 
   /**
-   * Returns the states to which all prefixes of a schedule lead, the shortest first: one call, if the workbench has films.
+   * Returns the states to which all prefixes of a schedule lead, the shortest first: one call, if the workbench has films. Throws as `askAnew` does.
    * @param {Uint8Array} text
    * @param {string[]} events
    * @param {string} protocol
    * @returns {State[]}
    */
-  statesAlong(text, events, protocol) {
+  listStatesAlong(text, events, protocol) {
     if (!this.workbench.hasFilmsAndMarks) {
-      return Array.from({ length: events.length + 1 }, (_, count) => this.replayed(text, events.slice(0, count).join(" "), protocol));
+      return Array.from({ length: events.length + 1 }, (_, count) => this.replay(text, events.slice(0, count).join(" "), protocol));
     }
     const pages = this.ask(["film", events.join(" "), "--protocol", protocol], text).split("\n\n");
     return pages.slice(0, -1).map((page) => parseReplayState(`${page}\n`));
   }
 
   /**
-   * Returns the list of states with a mark on each, as `list` makes it, or null if the workbench has no marks.
+   * Returns the lines of the list of states, each with its mark, listed as by `list`; null if the workbench has no marks. Throws as `list` does.
    * @param {Uint8Array} text
    * @param {{search?: boolean, onProgress?: function(string): void}} [options]
    * @returns {string[] | null}
    */
-  marked(text, { search = false, onProgress = () => null } = {}) {
+  listMarked(text, { search = false, onProgress = () => null } = {}) {
     if (!this.workbench.hasFilmsAndMarks) return null;
     const marks = search ? this.search("marks", text, onProgress) : this.ask(["--budget", "0", "marks"], text);
     return marks.split("\n").slice(0, -1);
@@ -195,18 +197,18 @@ export class Program {
 }
 
 /**
- * Returns a fault with its place: the row and the column, which counts characters, and the index in a string.
+ * Returns the fault that lw's line states: if it has a place, with its row and its column, which counts characters, and its index in a string.
  * @param {string} line
  * @param {number} status
  * @param {Uint8Array} text
  * @param {string} schedule
  * @returns {Fault}
  */
-function faultOf(line, status, text, schedule) {
+function parseFault(line, status, text, schedule) {
   const [, kind, number, name, digits] = FAULT.exec(line) ?? [];
   if (kind) {
     const offset = Number(digits);
-    const front = textOf((kind === "schedule" ? bytesOf(schedule) : text).subarray(0, offset));
+    const front = decodeText((kind === "schedule" ? encodeText(schedule) : text).subarray(0, offset));
     const last = front.slice(front.lastIndexOf("\n") + 1);
     const where = { row: front.split("\n").length, column: [...last].length + 1, index: front.length };
     return { line, status, kind, number: Number(number), name, place: offset, ...where };

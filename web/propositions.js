@@ -14,7 +14,7 @@ import { REGISTERS } from "./token_reader.js";
  * @param {Site} site
  * @returns {string}
  */
-export function siteKey(site) {
+export function makeSiteKey(site) {
   return site.location === undefined ? `${site.thread}:${site.register}` : `[${site.location}]`;
 }
 
@@ -41,9 +41,9 @@ export function countNodes(proposition) {
  * @param {Site[]} sites
  * @returns {Site[]}
  */
-export function sortedSites(sites) {
-  const place = (site) => (site.location === undefined ? site.thread * 6 + site.register : 1000 + site.location);
-  return [...new Map(sites.map((it) => [siteKey(it), it])).values()].sort((a, b) => place(a) - place(b));
+export function sortSites(sites) {
+  const makeSortKey = (site) => (site.location === undefined ? site.thread * 6 + site.register : 1000 + site.location);
+  return [...new Map(sites.map((it) => [makeSiteKey(it), it])).values()].sort((a, b) => makeSortKey(a) - makeSortKey(b));
 }
 
 /**
@@ -52,7 +52,7 @@ export function sortedSites(sites) {
  * @returns {Site[]}
  */
 export function listObservedSites(test) {
-  return sortedSites([...test.listed, ...listSites(test.proposition)]);
+  return sortSites([...test.listed, ...listSites(test.proposition)]);
 }
 
 /**
@@ -95,14 +95,14 @@ export function formatSite(test, site) {
  * @returns {string}
  */
 function formatProposition(test, { kind, parts, site, word }) {
-  const part = (inner, kinds) => {
+  const formatPart = (inner, kinds) => {
     const text = formatProposition(test, inner);
     return kinds.includes(inner.kind) ? `(${text})` : text;
   };
   if (kind === "Eq") return `${formatSite(test, site)}=${word}`;
-  if (kind === "Not") return `~${part(parts[0], ["And", "Or"])}`;
-  if (kind === "And") return `${part(parts[0], ["Or"])} /\\ ${part(parts[1], ["And", "Or"])}`;
-  if (kind === "Or") return `${part(parts[0], [])} \\/ ${part(parts[1], ["Or"])}`;
+  if (kind === "Not") return `~${formatPart(parts[0], ["And", "Or"])}`;
+  if (kind === "And") return `${formatPart(parts[0], ["Or"])} /\\ ${formatPart(parts[1], ["And", "Or"])}`;
+  if (kind === "Or") return `${formatPart(parts[0], [])} \\/ ${formatPart(parts[1], ["Or"])}`;
   return kind === "True" ? "true" : "false";
 }
 

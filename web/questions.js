@@ -3,36 +3,38 @@
 // in which state a run by hand has ended, the rows of statements, texts without fences, and the schedule of a source run.
 //
 // An answer has `fault` if lw refuses the text, the schedule or the list, and `error` if there is no answer at all; `isBeyond` says that
-// the program itself may have one, and `refused` is the event of a schedule that is refused.
+// the program itself may have one, and `refused` is the event of a schedule that is refused. Within this module the first is thrown as Refused, and the
+// second as NoAnswer, or as NoTest if the page's own reader does not read the test; `answerQuestion` catches them.
 
 import { formatCanonicalText, listSourceCells, listX86Cells } from "./canonical.js";
 import { describeEvent, describeRefusal } from "./effects.js";
+import { makeExchangeTable } from "./exchanges.js";
 import { makeExecution } from "./executions.js";
-import { compiledSchedule, listCells, makeFilm, makeSourceFilm, toTheEnd } from "./films.js";
+import { compileSchedule, completeSchedule, findInterleavedSchedule, listCells, makeFilm, makeSourceFilm } from "./films.js";
 import { findHelpingSets, insertFences, listFencePlaces } from "./fencing.js";
 import { drawExecution, formatExecution } from "./graphs.js";
-import { endingOf, isTooDeep, listOrNull, reportOf, scheduleTo } from "./lists.js";
+import { describeEnding, findSchedule, isTooDeep, listOrNull, makeReport } from "./lists.js";
 import { drawFilmState, drawStrip } from "./pictures.js";
-import { Fault, NoAnswer, bytesOf, languageOf, textOf } from "./program.js";
+import { NoAnswer, Refused, decodeText, encodeText, parseLanguage } from "./program.js";
 import { formatCondition } from "./propositions.js";
-import { eventsIn, isFinalIn } from "./replays.js";
+import { isFinalIn, parseSchedule } from "./replays.js";
 import { listFences, makeFenceTable, removeFences, showEverything } from "./sparing.js";
 import { readTest } from "./tests.js";
 import { REGISTERS } from "./token_reader.js";
 import { NoTest } from "./tokens.js";
-import { verdictOf } from "./verdicts.js";
+import { describeReport } from "./verdicts.js";
 import { explainStates } from "./why_not.js";
 
 // One byte more than a text may have.
 const MAX_TEXT = 65537;
-// Of how many events at most it is found which registers they have put words into.
+// The largest number of events of a run whose written registers are looked for.
 const MAX_LOOKED_AT = 100;
 
 /** Returns the report, with `search` by a search; `onProgress` is called with words on how far that is. */
 function answerStates(program, text, { search = false }, onProgress) {
-  const report = reportOf(program, text, { search, onProgress });
-  const language = languageOf(text);
-  return { report, language, words: verdictOf(language, report) };
+  const report = makeReport(program, text, { search, onProgress });
+  const language = parseLanguage(text);
+  return { report, language, words: describeReport(language, report) };
 }
 
 /**
@@ -40,8 +42,8 @@ function answerStates(program, text, { search = false }, onProgress) {
  * that to the state, or to `otherwise`.
  */
 function answerFilm(program, text, { own = null, state, otherwise = null, ...how }, onProgress) {
-  const film = own === null ? null : ownFilmOrNull(program, text, own, how);
-  return film && (state ?? film.state) === film.state ? film : listedFilm(program, text, { state: state ?? otherwise, ...how }, onProgress);
+  const film = own === null ? null : makeOwnFilmOrNull(program, text, own, how);
+  return film && (state ?? film.state) === film.state ? film : makeListedFilm(program, text, { state: state ?? otherwise, ...how }, onProgress);
 }
 
 /**
@@ -52,56 +54,77 @@ function answerFilm(program, text, { own = null, state, otherwise = null, ...how
  * @param {{protocol: string}} how
  * @returns {object | null}
  */
-function ownFilmOrNull(program, text, schedule, how) {
+function makeOwnFilmOrNull(program, text, schedule, how) {
   try {
-    return ownFilm(program, text, schedule, how);
+    return makeOwnFilm(program, text, schedule, how);
   } catch (error) {
-    if (error instanceof Fault || error instanceof NoAnswer || error instanceof NoTest) return null;
+    if (error instanceof Refused || error instanceof NoAnswer || error instanceof NoTest) return null;
     throw error;
   }
 }
 
-/** Returns the film of a schedule that a test has of its own; of a source test also that of the compiled program, which follows it. Or null. */
-function ownFilm(program, text, own, { protocol }) {
-  const isSource = languageOf(text) === "SRC";
-  const film = makeFilm(program, text, isSource ? own : toTheEnd(program, text, own), isSource ? "mesi" : protocol);
-  const state = endingOf(text, film.states.at(-1))?.line;
+/**
+ * Returns the film of a schedule that a test has of its own, of a source test also that of the compiled program, which follows it; null if the schedule is
+ * no run to the end.
+ */
+function makeOwnFilm(program, text, own, { protocol }) {
+  const isSource = parseLanguage(text) === "SRC";
+  const film = makeFilm(program, text, isSource ? own : completeSchedule(program, text, own), isSource ? "mesi" : protocol);
+  const state = describeEnding(text, film.states.at(-1))?.line;
   if (film.refused || state === undefined) return null;
   if (!isSource) return { state, schedule: film.events.join(" "), films: { x86: film }, isOwn: true };
-  const compiled = bytesOf(program.ask(["compile"], text));
-  const schedule = compiledSchedule(program, compiled, readTest(textOf(text)), own);
+  const compiled = encodeText(program.ask(["compile"], text));
+  const schedule = compileSchedule(program, compiled, readTest(decodeText(text)), own);
   const x86 = schedule === null ? null : makeFilm(program, compiled, schedule, protocol);
   return x86 && isFinalIn(x86.states.at(-1), state) ? { state, schedule, films: { x86, source: film }, isOwn: true } : null;
 }
 
-/** Returns the film to a state; of a source test that of its compiled program, and that of the source run. */
-function listedFilm(program, text, { state, protocol, search = false }, onProgress) {
-  const schedule = scheduleTo(program, text, state, { search, onProgress });
-  const isSource = languageOf(text) === "SRC";
-  const compiled = isSource ? bytesOf(program.ask(["compile"], text)) : text;
+/**
+ * Returns the film to a state; of a source test that of its compiled program, and that of the source run. With `isByTurns` it is a run of an x86 test by
+ * interleaving, if one ends in the state. Throws NoAnswer if no run does, or the film does not.
+ */
+function makeListedFilm(program, text, { state, protocol, search = false, isByTurns = false }, onProgress) {
+  const turns = isByTurns ? makeFilmByTurnsOrNull(program, text, { state, protocol, search, onProgress }) : null;
+  if (turns) return turns;
+  const schedule = findSchedule(program, text, state, { search, onProgress });
+  const isSource = parseLanguage(text) === "SRC";
+  const compiled = isSource ? encodeText(program.ask(["compile"], text)) : text;
   const films = { x86: makeFilm(program, compiled, schedule, protocol) };
   if (isSource) films.source = makeSourceFilm(program, text, films.x86, state);
   if (!isFinalIn(films.x86.states.at(-1), state)) throw new NoAnswer("The schedule's replay does not end in that state.");
   return { state, schedule, films };
 }
 
+/** Returns the film of a run of an x86 test by interleaving to a state; null if none is known, or the page's own reader reads no x86 test. */
+function makeFilmByTurnsOrNull(program, text, { state, protocol, ...how }) {
+  try {
+    if (parseLanguage(text) === "SRC") return null;
+    const schedule = findInterleavedSchedule(program, text, state, how);
+    const x86 = schedule === null ? null : makeFilm(program, text, schedule, protocol);
+    return x86 && !x86.refused && isFinalIn(x86.states.at(-1), state) ? { state, schedule, films: { x86 }, isByTurns: true } : null;
+  } catch (error) {
+    if (error instanceof NoTest || isTooDeep(error)) return null;
+    throw error;
+  }
+}
+
 /**
  * Returns a state with what led to it, in what it ends, and what the machine can do next: each event, with its cause if it is refused; with
- * `whole` also of each thread the registers that events have put words into.
+ * `whole` also of each thread the registers that events have put words into. Throws NoAnswer if an event of the schedule is refused.
  */
 function answerMoves(program, text, { schedule, protocol, whole = false }) {
-  const state = program.replayed(text, schedule, protocol);
-  if (state.end.kind === "Stopped") throw noAnswerOfRefusal(state.end, eventsIn(schedule));
-  const language = languageOf(text);
-  const events = state.threads.flatMap((_, thread) => eventsOfThread(thread, language === "X86" ? state.content : null));
+  const state = program.replay(text, schedule, protocol);
+  if (state.end.kind === "Stopped") throw makeNoAnswer(state.end, parseSchedule(schedule));
+  const language = parseLanguage(text);
+  const events = state.threads.flatMap((_, thread) => listThreadEvents(thread, language === "X86" ? state.content : null));
   const moves = events.map((event) => {
-    const { end } = program.replayed(text, `${schedule} ${event}`, protocol);
+    const { end } = program.replay(text, `${schedule} ${event}`, protocol);
     const refused = end.kind === "Stopped" ? { number: end.number, cause: end.cause } : null;
     return { event, thread: Number(event[1]), refused };
   });
   const cells = listCells(program, text);
-  const ending = endingOf(text, state);
-  const registers = whole ? registersWritten(program, text, { schedule, protocol }, cells) : null;
+  const ending = describeEnding(text, state);
+  const registers = whole ? listWrittenRegisters(program, text, { schedule, protocol }, cells) : null;
   return { state, ...describeLastEvent(program, text, { schedule, protocol }, cells, state), written: registers, ending, moves, cells, language };
 }
 
@@ -113,10 +136,10 @@ function answerMoves(program, text, { schedule, protocol, whole = false }) {
  * @param {Cell[][]} cells
  * @returns {string[][] | null}
  */
-function registersWritten(program, text, { schedule, protocol }, cells) {
-  const events = eventsIn(schedule);
+function listWrittenRegisters(program, text, { schedule, protocol }, cells) {
+  const events = parseSchedule(schedule);
   if (events.length > MAX_LOOKED_AT) return null;
-  const states = program.statesAlong(text, events, protocol);
+  const states = program.listStatesAlong(text, events, protocol);
   const written = cells.map(() => []);
   for (const [index, event] of events.entries()) {
     const { thread, register } = describeEvent(event, cells, states[index], states[index + 1]);
@@ -131,7 +154,7 @@ function registersWritten(program, text, { schedule, protocol }, cells) {
  * @param {string[]} events
  * @returns {NoAnswer}
  */
-function noAnswerOfRefusal({ at, number, cause }, events) {
+function makeNoAnswer({ at, number, cause }, events) {
   const refused = { event: events[at], at, number, cause };
   return new NoAnswer(`Event ${at + 1} of the schedule, ${events[at]}, is refused: ${describeRefusal(number)}.`, { refused });
 }
@@ -147,10 +170,10 @@ function noAnswerOfRefusal({ at, number, cause }, events) {
  * @returns {{before: State, effect: Effect | null}}
  */
 function describeLastEvent(program, text, { schedule, protocol }, cells, state) {
-  const events = eventsIn(schedule);
+  const events = parseSchedule(schedule);
   const last = events.pop();
   if (!last) return { before: state, effect: null };
-  const before = program.replayed(text, events.join(" "), protocol);
+  const before = program.replay(text, events.join(" "), protocol);
   return { before, effect: describeEvent(last, cells, before, state) };
 }
 
@@ -160,7 +183,7 @@ function describeLastEvent(program, text, { schedule, protocol }, cells, state) 
  * @param {[string, number][] | null} content
  * @returns {string[]}
  */
-function eventsOfThread(thread, content) {
+function listThreadEvents(thread, content) {
   return content ? [`P${thread}`, `D${thread}`, ...content.map(([name]) => `E${thread}:${name}`)] : [`P${thread}`];
 }
 
@@ -170,25 +193,44 @@ function answerCompile(program, text) {
   const test = readTest(compiled);
   const fences = listFences(test);
   const bare = formatCanonicalText(removeFences(test, fences));
-  const language = languageOf(text);
+  const language = parseLanguage(text);
   const answer = { language, compiled, bare, cells: listX86Cells(compiled), bare_cells: listX86Cells(bare), fences };
-  return language === "SRC" ? { ...answer, cells_of_source: listSourceCells(readTest(textOf(text))) } : answer;
+  return language === "SRC" ? { ...answer, cells_of_source: listSourceCells(readTest(decodeText(text))) } : answer;
 }
 
 /** Returns the table of fences, with the maker of its lists (with `search` a search), and for each row the text without its fence. */
 function answerFences(program, text, { everything, search = false }, onProgress) {
   const test = readTest(program.ask(["compile"], text));
-  const listOf = (canonical) => listOrNull(program, bytesOf(canonical), { search, onProgress });
+  const listOf = (canonical) => listOrNull(program, encodeText(canonical), { search, onProgress });
   const compared = everything ? showEverything(test) : test;
   const texts = listFences(compared).map((fence) => formatCanonicalText(removeFences(compared, [fence])));
-  return { table: makeFenceTable(compared, listOf), condition: formatCondition(test), texts, language: languageOf(text) };
+  return { table: makeFenceTable(compared, listOf), condition: formatCondition(test), texts, language: parseLanguage(text) };
 }
 
-/** Returns where further fences would leave no unwanted state of an x86 test; for a source test, whose compiler adds them, nothing. */
-function answerMoreFences(program, text, { search = false }, onProgress) {
-  if (languageOf(text) === "SRC") return { fenced: null };
-  const listOf = (canonical) => listOrNull(program, bytesOf(canonical), { search, onProgress });
-  return { fenced: findHelpingSets(readTest(program.ask(["compile"], text)), listOf) };
+/** Returns a function that lists the states of a text, as listOrNull does. It throws NoAnswer if more lists are made than a limit has, or later than that. */
+function makeLister(program, { search = false, limit = { lists: Infinity, milliseconds: Infinity } }, onProgress) {
+  const end = performance.now() + limit.milliseconds;
+  let count = 0;
+  return (canonical) => {
+    count += 1;
+    if (count > limit.lists || performance.now() > end) throw new NoAnswer("This takes longer than it may.");
+    return listOrNull(program, encodeText(canonical), { search, onProgress });
+  };
+}
+
+/** Returns which exchanges of a test need their lock, by its question or by everything. Throws NoAnswer as answerMoreFences does. */
+function answerExchanges(program, text, fields, onProgress) {
+  const test = readTest(program.ask(["compile"], text));
+  return { exchanges: makeExchangeTable(fields.everything ? showEverything(test) : test, makeLister(program, fields, onProgress)) };
+}
+
+/**
+ * Returns where further fences would leave no unwanted state of an x86 test; for a source test, whose compiler adds them, nothing. Throws NoAnswer if the
+ * answer needs more lists or milliseconds than the `limit`.
+ */
+function answerMoreFences(program, text, fields, onProgress) {
+  if (parseLanguage(text) === "SRC") return { fenced: null };
+  return { fenced: findHelpingSets(readTest(program.ask(["compile"], text)), makeLister(program, fields, onProgress)) };
 }
 
 /**
@@ -197,7 +239,7 @@ function answerMoreFences(program, text, { search = false }, onProgress) {
  */
 function answerInterleaved(program, text, { search = false }, onProgress) {
   const test = readTest(program.ask(["compile"], text));
-  const list = listOrNull(program, bytesOf(formatCanonicalText(insertFences(test, listFencePlaces(test)))), { search, onProgress });
+  const list = listOrNull(program, encodeText(formatCanonicalText(insertFences(test, listFencePlaces(test)))), { search, onProgress });
   return { interleaved: list && list.lines };
 }
 
@@ -207,10 +249,13 @@ function answerPicture(program, text, { schedule, protocol, strip }) {
   return { picture: strip ? drawStrip(film) : drawFilmState(film, film.events.length) };
 }
 
-/** Returns the execution of a run to its end, of a source test one of its compiled program, as a picture and in words. */
+/**
+ * Returns the execution of a run to its end, of a source test one of its compiled program, as a picture and in words. Throws NoAnswer if the schedule is no
+ * run to the end.
+ */
 function answerGraph(program, text, { schedule }) {
   const canonical = program.ask(["compile"], text);
-  const film = makeFilm(program, bytesOf(canonical), schedule, "mesi");
+  const film = makeFilm(program, encodeText(canonical), schedule, "mesi");
   const last = film.states.at(-1);
   if (last.end.kind !== "Final") throw new NoAnswer("The schedule is no run to the end.", { isUnended: true });
   const test = readTest(canonical);
@@ -222,19 +267,20 @@ function answerGraph(program, text, { schedule }) {
 
 /** Returns why a test does not end in a state. A source test's registers are those of its compiled program, by their numbers. */
 function answerWhyNot(program, text, { state }) {
-  const language = languageOf(text);
+  const language = parseLanguage(text);
   const test = readTest(program.ask(["compile"], text));
   if (language === "X86") return { ...explainStates(test, state), language };
   try {
     const { lines, cycles } = explainStates(test, renameRegisters(state, REGISTERS.SRC, REGISTERS.X86));
-    return { lines: lines.map(inSource), cycles: cycles.map((it) => ({ ...it, words: inSource(it.words) })), language };
+    return { lines: lines.map(renameToSource), cycles: cycles.map((it) => ({ ...it, words: renameToSource(it.words) })), language };
   } catch (error) {
-    if (error instanceof NoAnswer) error.message = inSource(error.message);
+    if (error instanceof NoAnswer) error.message = renameToSource(error.message);
     throw error;
   }
 }
 
-const inSource = (words) => renameRegisters(words, REGISTERS.X86, REGISTERS.SRC);
+/** Returns words on a compiled program, in which registers have the names of its source. */
+const renameToSource = (words) => renameRegisters(words, REGISTERS.X86, REGISTERS.SRC);
 
 /**
  * Returns words in which registers have their names of another language, by their numbers.
@@ -257,6 +303,7 @@ const QUESTIONS = {
   compile: answerCompile,
   fences: answerFences,
   "more fences": answerMoreFences,
+  exchanges: answerExchanges,
   interleaved: answerInterleaved,
   picture: answerPicture,
   graph: answerGraph,
@@ -271,11 +318,11 @@ const QUESTIONS = {
  * @param {function(string): void} [onProgress]
  * @returns {object}
  */
-export function answerTo(program, question, { text, ...more }, onProgress = () => null) {
+export function answerQuestion(program, question, { text, ...more }, onProgress = () => null) {
   try {
-    return QUESTIONS[question](program, bytesOf(text).subarray(0, MAX_TEXT), more, onProgress);
+    return QUESTIONS[question](program, encodeText(text).subarray(0, MAX_TEXT), more, onProgress);
   } catch (error) {
-    if (error instanceof Fault) return { fault: error.fault };
+    if (error instanceof Refused) return { fault: error.fault };
     if (error instanceof NoAnswer) return { error: error.message, ...error.more };
     if (!(error instanceof NoTest) && !isTooDeep(error)) throw error;
     return { error: "The page's own reader of tests, which this needs, does not read this test (it may be nested too deeply)." };

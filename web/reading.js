@@ -6,7 +6,7 @@
   const KEY = "theme";
 
   /** Returns the choice that the browser keeps, or null. */
-  function stored() {
+  function readStored() {
     try {
       return localStorage.getItem(KEY);
     } catch {
@@ -25,7 +25,7 @@
   /** Lets the list choose the theme, and keeps the choice for the page and the other documents. */
   function bind() {
     const list = document.getElementById("theme");
-    show(stored(), list);
+    show(readStored(), list);
     list.addEventListener("change", () => {
       show(list.value, list);
       try {
@@ -39,6 +39,6 @@
 
   const { pathname, hash } = location;
   if (pathname.endsWith("/page.html") && /^#(?:.*&)?(?:example|test|text)=/.test(hash)) location.replace(`index.html${hash}`);
-  show(stored());
+  show(readStored());
   addEventListener("DOMContentLoaded", bind);
 })();

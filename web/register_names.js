@@ -7,7 +7,7 @@ import { REGISTERS } from "./token_reader.js";
  * @param {string} text
  * @returns {string}
  */
-export function mappedNames(text) {
+export function describeMapping(text) {
   const used = REGISTERS.X86.map((name, index) => [name, REGISTERS.SRC[index]]).filter(([name]) => new RegExp(`\\b${name}\\b`).test(text));
   if (!used.length) return "";
   const pairs = used.map(([name, source]) => `\`${name}\` is \`${source}\``);

@@ -24,7 +24,7 @@ export class NoReplay extends Error {}
 const parsePairs = (text) => text.split(" ").filter(Boolean).map((it) => it.split("="));
 
 /** Returns whether the names of two lists of pairs are the same, in the same order. */
-const sameNames = (actual, names) => actual.map(([name]) => name).join(" ") === names.join(" ");
+const hasNames = (actual, names) => actual.map(([name]) => name).join(" ") === names.join(" ");
 
 /** The lines of a text, which are read one after another. */
 class Page {
@@ -35,7 +35,7 @@ class Page {
   }
 
   /**
-   * Returns the groups of a pattern's match in the next line. Refuses a line that does not match.
+   * Takes the next line, and returns the groups of a pattern's match in it. Throws NoReplay if it does not match, or there is none.
    * @param {string} pattern
    * @returns {string[]}
    */
@@ -48,7 +48,7 @@ class Page {
   }
 
   /**
-   * Returns the pairs of a name and a word in the line that was read last.
+   * Returns the pairs of a name and a word in a part of the line that was read last. Throws NoReplay if a word has more than 32 bits.
    * @param {string} text
    * @returns {[string, number][]}
    */
@@ -58,12 +58,12 @@ class Page {
     return found;
   }
 
-  /** Refuses the line that was read last unless a condition holds. */
+  /** Throws NoReplay with the line that was read last unless a condition holds. */
   require(condition) {
     if (!condition) throw new NoReplay(this.line);
   }
 
-  /** Refuses what follows the last line of a replay. */
+  /** Throws NoReplay if something follows the lines that were read. */
   close() {
     if (this.lines.length || this.rest) throw new NoReplay(this.lines[0] ?? this.rest);
   }
@@ -75,7 +75,8 @@ function makeEnd([kind, at, number, cause]) {
 }
 
 /**
- * Returns the state of the thread with a number, whose registers are those of one of some languages.
+ * Reads the lines of the thread with a number, whose registers have to be those of one of some languages. Throws NoReplay if they are not. Returns its
+ * state.
  * @param {Page} page
  * @param {number} number
  * @param {string[][]} languages
@@ -84,14 +85,14 @@ function makeEnd([kind, at, number, cause]) {
 function readThread(page, number, languages) {
   const [at, text] = page.takeLine(`P${number} at ${NUMBER}${WORDS}`);
   const thread = { at: Number(at), registers: page.parseWords(text) };
-  page.require(languages.some((names) => sameNames(thread.registers, names)));
-  if (!sameNames(thread.registers, REGISTERS)) return thread;
+  page.require(languages.some((names) => hasNames(thread.registers, names)));
+  if (!hasNames(thread.registers, REGISTERS)) return thread;
   const buffer = page.parseWords(page.takeLine(`P${number} buffer${WORDS}`)[0]);
   return { ...thread, buffer, lines: parsePairs(page.takeLine(`P${number} lines${LETTERS}`)[0]) };
 }
 
 /**
- * Returns the states of all threads, which are of one language.
+ * Reads the lines of all threads, which have to be of one language. Throws NoReplay if they are not. Returns their states.
  * @param {Page} page
  * @returns {ThreadState[]}
  */
@@ -103,7 +104,7 @@ function readThreads(page) {
 }
 
 /**
- * Returns the state that a replay's text says.
+ * Returns the state that a replay's text says. Throws NoReplay if the text is no replay's.
  * @param {string} text
  * @returns {State}
  */
@@ -116,9 +117,9 @@ export function parseReplayState(text) {
   const memory = page.parseWords(page.takeLine(`Memory${WORDS}`)[0]);
   const names = memory.map(([it]) => it);
   const ofX86 = threads.filter((it) => it.lines);
-  page.require(ofX86.every((it) => sameNames(it.lines, names) && it.buffer.every(([location]) => names.includes(location))));
+  page.require(ofX86.every((it) => hasNames(it.lines, names) && it.buffer.every(([location]) => names.includes(location))));
   const content = ofX86.length ? page.parseWords(page.takeLine(`Content${WORDS}`)[0]) : memory;
-  page.require(sameNames(content, names));
+  page.require(hasNames(content, names));
   page.close();
   return { name, steps, end, threads, memory, content };
 }
@@ -149,11 +150,11 @@ export function parseReportLine(line) {
  */
 export function isFinalIn(state, line) {
   const content = new Map(state.content);
-  const wordIn = (name) => {
+  const findWord = (name) => {
     const [, thread, register] = /^(\d):(\w+)$/.exec(name) ?? [];
     return thread === undefined ? content.get(name) : state.threads[thread].registers[parseRegister(register)][1];
   };
-  return state.end.kind === "Final" && parseReportLine(line).every(([name, word]) => wordIn(name) === word);
+  return state.end.kind === "Final" && parseReportLine(line).every(([name, word]) => findWord(name) === word);
 }
 
 /**
@@ -161,6 +162,6 @@ export function isFinalIn(state, line) {
  * @param {string} schedule
  * @returns {string[]}
  */
-export function eventsIn(schedule) {
+export function parseSchedule(schedule) {
   return schedule.split(/\s+/).filter(Boolean);
 }

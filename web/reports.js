@@ -1,7 +1,7 @@
 // The parts of a report that are shown in several places.
 
 import { el } from "./dom.js";
-import { fileName, save } from "./output.js";
+import { makeFileName, save } from "./output.js";
 import { parseReportLine } from "./replays.js";
 
 /**
@@ -9,7 +9,7 @@ import { parseReportLine } from "./replays.js";
  * @param {Report} report
  * @returns {string[]}
  */
-export function namesOf({ states }) {
+export function listNames({ states }) {
   return states.length ? parseReportLine(states[0].line).map(([name]) => name) : [];
 }
 
@@ -18,7 +18,7 @@ export function namesOf({ states }) {
  * @param {Report} report
  * @returns {string}
  */
-export function propositionOf({ condition }) {
+export function parseProposition({ condition }) {
   return condition.slice(condition.indexOf(" ") + 1);
 }
 
@@ -27,7 +27,7 @@ export function propositionOf({ condition }) {
  * @param {Report} report
  * @returns {Element | null}
  */
-export function leftOut(report) {
+export function describeLeftOut(report) {
   if (!report.left_out) return null;
   const [number, out, kept] = [report.number, report.left_out, report.most].map((it) => it.toLocaleString("en"));
   const words = `Of ${number} states ${out} are left out here: shown are the first ${kept}, and up to ${kept} in which the condition holds.`;
@@ -39,7 +39,7 @@ export function leftOut(report) {
  * @param {Report} report
  * @returns {string}
  */
-export function asPrinted(report) {
+export function formatReport(report) {
   return [...report.head, ...report.states.map((it) => it.line), ...report.tail].join("\n");
 }
 
@@ -48,5 +48,5 @@ export function asPrinted(report) {
  * @param {Report} report
  */
 export function saveReport(report) {
-  save(fileName(report.head[0].split(" ")[1] ?? "test", "states.txt"), "text/plain", `${asPrinted(report)}\n`);
+  save(makeFileName(report.head[0].split(" ")[1] ?? "test", "states.txt"), "text/plain", `${formatReport(report)}\n`);
 }

@@ -1,11 +1,11 @@
 // A list of many states as rows below each other. Of these only the rows in sight are made, so that a list of any length is smooth. Arrow
 // keys go through it.
 
-import { button, el } from "./dom.js";
+import { el, makeButton } from "./dom.js";
 import { largeType } from "./preferences.js";
 import { parseReportLine } from "./replays.js";
 import { saveReport } from "./reports.js";
-import { siteNode } from "./tint.js";
+import { renderSite } from "./tint.js";
 
 // The height of a row in letters of the page's size, how many rows are in sight, how many if the window is low or narrow, and how many if two tests
 // are beside each other in it, or if the type is large.
@@ -21,9 +21,9 @@ export class Rows {
   constructor(strip) {
     const { report } = strip;
     Object.assign(this, { strip, report, shown: report.states, at: 0 });
-    this.columns = this.widths();
-    this.never = this.neverButton();
-    this.head = this.headRow();
+    this.columns = this.measureWidths();
+    this.never = this.makeNeverButton();
+    this.head = this.makeHeadRow();
     this.spacer = el("div", { class: "spacer" });
     this.body = el("div", {
       class: "rows",
@@ -31,14 +31,14 @@ export class Rows {
       tabindex: "0",
       "aria-label": `All ${report.number} states in which a run ends`,
       scroll: () => this.draw(),
-      keydown: (event) => this.key(event),
-      click: (event) => this.clicked(event),
+      keydown: (event) => this.handleKey(event),
+      click: (event) => this.chooseClicked(event),
     }, this.spacer);
-    this.place = el("div", { class: "rows-place" }, el("div", { class: "rows-box" }, this.head, this.body), this.tools());
+    this.place = el("div", { class: "rows-place" }, el("div", { class: "rows-box" }, this.head, this.body), this.makeTools());
   }
 
   /** Returns the columns of a row, as a grid has them: the number, the names, the mark, and what is said at the end. */
-  widths() {
+  measureWidths() {
     const { names } = this.strip;
     const measured = this.report.states.slice(0, MEASURED).map(({ line }) => parseReportLine(line).map(([, word]) => String(word).length));
     const longest = names.map((name, index) => Math.max(name.length, ...measured.map((it) => it[index])));
@@ -46,32 +46,34 @@ export class Rows {
   }
 
   /** Returns the row of names above the list. */
-  headRow() {
+  makeHeadRow() {
     const { names, tints } = this.strip;
     const mark = this.report.is_marked ? el("span", { title: "the condition holds there" }, "✓") : null;
-    const cells = [el("span", { class: "index" }, "#"), names.map((name) => el("span", {}, siteNode(name, tints))), mark];
+    const cells = [el("span", { class: "index" }, "#"), names.map((name) => el("span", {}, renderSite(name, tints))), mark];
     const head = el("div", { class: "row-head", "aria-hidden": "true" }, cells);
     head.style.gridTemplateColumns = this.columns;
     return head;
   }
 
   /** Returns the elements beside the list: the number of states, the choice of those in which the condition holds, and the list as a file. */
-  tools() {
+  makeTools() {
     const { report } = this;
-    const withCommas = (number) => number.toLocaleString("en");
+    const formatNumber = (number) => number.toLocaleString("en");
     const box = el("input", { type: "checkbox", change: (event) => this.filter(event.target.checked) });
     const hasChoice = report.is_marked && report.positive && report.positive < report.number;
-    const only = hasChoice ? el("label", {}, box, ` only the ${withCommas(report.positive)} where the condition holds`) : null;
-    const file = button("Save the list as a file", () => saveReport(report), { class: "save-list" });
-    return el("div", { class: "rows-tools" }, el("span", { class: "small" }, `${withCommas(report.number)} states`), this.never, only, file);
+    const only = hasChoice ? el("label", {}, box, ` only the ${formatNumber(report.positive)} where the condition holds`) : null;
+    const file = makeButton("Save the list as a file", () => saveReport(report), { class: "save-list" });
+    return el("div", { class: "rows-tools" }, el("span", { class: "small" }, `${formatNumber(report.number)} states`), this.never, only, file);
   }
 
   /** Returns the button of a state that the condition asks about and that no run ends in, with its words in the order of the columns. */
-  neverButton() {
+  makeNeverButton() {
     const { missing, why } = this.strip;
-    if (!missing || !why) return el("span", { hidden: true });
+    if (!missing) return el("span", { hidden: true });
+    const words = `never ${parseReportLine(missing).map(([, word]) => word).join(" ")}`;
+    if (!why) return el("span", { class: "never", title: "No run ends this way." }, words);
     const attributes = { class: "never", "aria-label": `No run ends in ${missing} Why not?`, title: "No run ends this way. Why?" };
-    return button(`never ${parseReportLine(missing).map(([, word]) => word).join(" ")}`, () => why(missing), attributes);
+    return makeButton(words, () => why(missing), attributes);
   }
 
   /** Shows the rows, once the list has its place. */
@@ -118,38 +120,39 @@ export class Rows {
     this.first = first;
     const last = Math.min(this.shown.length, first + Math.ceil((this.body.clientHeight || 200) / this.height) + BELOW);
     this.spacer.style.height = `${this.shown.length * this.height}px`;
-    this.spacer.replaceChildren(...this.shown.slice(first, last).map((state, index) => this.rowOf(state, first + index)));
-    this.body.setAttribute("aria-activedescendant", this.idOf(this.at));
+    this.spacer.replaceChildren(...this.shown.slice(first, last).map((state, index) => this.makeRow(state, first + index)));
+    this.body.setAttribute("aria-activedescendant", this.makeRowId(this.at));
   }
 
   /** Returns the id of the element of a row. */
-  idOf(index) {
-    return this.strip.editor.id(`${this.strip.name}-${index}`);
+  makeRowId(index) {
+    return this.strip.editor.makeId(`${this.strip.name}-${index}`);
   }
 
   /** Returns the element of a row. */
-  rowOf(state, index) {
+  makeRow(state, index) {
     const { strip } = this;
     const isShown = strip.isShown(state);
     const words = parseReportLine(state.line).map(([, word]) => el("span", {}, isShown ? String(word) : "·"));
     const mark = this.report.is_marked ? el("span", {}, isShown && state.holds ? "✓" : "") : null;
+    const buffered = isShown && strip.buffered.has(state.line) ? el("span", { class: "hidden" }, "only by store buffers") : null;
     const alone = strip.alone?.has(state.line) ? el("span", { class: "small" }, `+ ${strip.aloneWords}`) : null;
     const attributes = {
-      class: `row-line ${strip.kindOf(state)}${index === this.at ? " at" : ""}`,
+      class: `row-line ${strip.findKinds(state)}${index === this.at ? " at" : ""}`,
       role: "option",
-      id: this.idOf(index),
+      id: this.makeRowId(index),
       "aria-selected": String(state.line === strip.chosen),
       "aria-setsize": String(this.shown.length),
       "aria-posinset": String(index + 1),
       "data-at": String(index),
     };
-    const row = el("div", attributes, el("span", { class: "index" }, String(state.index + 1)), words, mark, alone);
+    const row = el("div", attributes, el("span", { class: "index" }, String(state.index + 1)), words, mark, alone, buffered);
     Object.assign(row.style, { gridTemplateColumns: this.columns, top: `${index * this.height}px`, height: `${this.height}px` });
     return row;
   }
 
   /** Chooses the row that is clicked. */
-  clicked(event) {
+  chooseClicked(event) {
     const index = event.target.closest("[data-at]")?.dataset.at;
     if (index === undefined) return;
     this.at = Number(index);
@@ -163,7 +166,7 @@ export class Rows {
   }
 
   /** Goes through the list by keys, and chooses by Enter or the space bar. */
-  key(event) {
+  handleKey(event) {
     const { at: index } = this;
     const [page, last] = [Math.floor(this.body.clientHeight / this.height), this.shown.length - 1];
     const to = { ArrowDown: index + 1, ArrowUp: index - 1, PageDown: index + page, PageUp: index - page, Home: 0, End: last }[event.key];

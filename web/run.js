@@ -4,13 +4,13 @@
 
 import * as address from "./address.js";
 import { ask } from "./ask.js";
-import { labelled } from "./labels.js";
+import { makeLabeller } from "./labels.js";
 import { isStill } from "./motion.js";
 import { caches, largeType } from "./preferences.js";
-import { eventsIn } from "./replays.js";
+import { parseSchedule } from "./replays.js";
 import { PROTOCOLS, RunView } from "./run_view.js";
-import { tintsOf } from "./tint.js";
-import { refusalOf, showError } from "./errors.js";
+import { findTints } from "./tint.js";
+import { explainRefusal, showError } from "./errors.js";
 
 const PROGRAMS = ["test", "compiled", "bare"];
 // How long a step is shown before it is asked what can be done there, and how many answers are kept.
@@ -25,18 +25,19 @@ const PRESSED = "button, input, summary, a, label";
 const shown = new WeakMap();
 
 /** Returns the step at which most stores wait, since there is the most to see. */
-function tellingStep(frames) {
+function findTellingStep(frames) {
   const waiting = frames.map(({ state }) => state.threads.reduce((sum, it) => sum + (it.buffer?.length ?? 0), 0));
   return Math.max(0, waiting.indexOf(Math.max(...waiting)));
 }
 
 /** Returns for each thread the registers into which events have put words: those before the last event, and the one that its effect names. */
-function writtenAfter(before, effect) {
+function addWritten(before, effect) {
   const register = effect?.register;
   return before.map((names, thread) => (register !== undefined && thread === effect.thread ? [...new Set([...names, register])] : names));
 }
 
-const protocolOf = (name) => (PROTOCOLS.includes(name) ? name : "mesi");
+/** Returns the protocol of a name; if there is none, `mesi`. */
+const findProtocol = (name) => (PROTOCOLS.includes(name) ? name : "mesi");
 
 /** A run that is shown event by event. */
 export class Run {
@@ -49,10 +50,11 @@ export class Run {
     const nothing = () => null;
     Object.assign(this, { editor, onEnd: nothing, onDraw: nothing, onStep: nothing, onFence: nothing, truthOf: nothing, ...called });
     Object.assign(this, { isLinked: isLinked && editor.isAlone, isOpen: false, isLocked: false, protocol: "mesi" });
+    // `kept` has answers by their schedules; `queue` ends when all clicked events are carried out; an answer is dropped if `ticket` has changed meanwhile.
     Object.assign(this, { kept: new Map(), queue: Promise.resolve(), ticket: 0 });
     this.view = new RunView(this, graphPlace);
     this.place = this.view.place;
-    document.addEventListener("keydown", (event) => this.key(event));
+    document.addEventListener("keydown", (event) => this.handleKey(event));
     for (const it of [caches, largeType]) it.onChange(() => this.isOpen && this.redraw());
   }
 
@@ -72,17 +74,18 @@ export class Run {
    * Shows the run that is listed to a state; of a source test that of the source, unless `run` is "x86" or it is not known. `step` is a number or
    * "telling"; `of` says of which text the run is, if it is not that in the editor; `search` says that the list was made by a search. `own` is a
    * schedule that the test has of its own, or null: that run is shown if it ends in the state, or if `state` is null, and otherwise the run that is
-   * listed to the state, or to `otherwise`. `opening` returns what is said of the run at first, given its state and whether it is the test's own, or null.
+   * listed to the state, or to `otherwise`; with `isByTurns` it is one of an x86 test by interleaving, if there is one. `opening` returns what is said of the
+   * run at first, given the answer that has it, or null.
    */
   async show(state, { step = 0, run = null, protocol = this.protocol, text = this.editor.text, of = [], play = false, ...how } = {}) {
-    const { search = false, own = null, otherwise = null, opening = null } = how;
+    const { search = false, own = null, otherwise = null, opening = null, isByTurns = false } = how;
     const ticket = this.prepare(protocol, false);
-    const fields = { text, state, own, otherwise, protocol: this.protocol, search };
+    const fields = { text, state, own, otherwise, protocol: this.protocol, search, isByTurns };
     const answer = await ask(this.editor, "film", fields, { place: this.isOpen ? null : this.place });
     if (!answer || ticket !== this.ticket) return;
     if (!answer.films) return this.fail(answer);
     Object.assign(this, { listed: answer, of, asked: text, goal: answer.state, isSearched: search, own });
-    this.opening = opening?.(answer.state, answer.isOwn) ?? null;
+    this.opening = opening?.(answer) ?? null;
     this.openListed(run === "x86" || !answer.films.source ? "x86" : "source");
     await this.go(step);
     if (play && !isStill()) this.view.player.play();
@@ -92,7 +95,7 @@ export class Run {
   openListed(program) {
     const film = this.listed.films[program];
     const frames = film.states.map((state, index) => ({ state, before: film.states[Math.max(index - 1, 0)], effect: film.effects[index - 1] ?? null }));
-    for (const [at, it] of frames.entries()) it.written = writtenAfter(frames[at - 1]?.written ?? film.cells.map(() => []), it.effect);
+    for (const [at, it] of frames.entries()) it.written = addWritten(frames[at - 1]?.written ?? film.cells.map(() => []), it.effect);
     Object.assign(this, { isByHand: false, program, isX86: program === "x86", isSource: "source" in this.listed.films });
     this.open(film.text, film.cells, film.events, frames);
   }
@@ -107,13 +110,13 @@ export class Run {
     const texts = program === "test" ? { test: text } : await ask(this.editor, "compile", { text });
     if (!texts || ticket !== this.ticket) return;
     if (!texts[program]) return this.fail(texts);
-    const answer = await this.leadTo(texts[program], schedule);
+    const answer = await this.askWhere(texts[program], schedule);
     if (!answer || ticket !== this.ticket) return;
     if (!answer.moves) return this.fail(answer);
     const isSource = (texts.language ?? answer.language) === "SRC";
     const isX86 = answer.language === "X86";
     Object.assign(this, { listed: null, of, asked: text, isByHand: true, program, isSource, isX86 });
-    this.open(texts[program], answer.cells, eventsIn(schedule), []);
+    this.open(texts[program], answer.cells, parseSchedule(schedule), []);
     this.keep(schedule, Promise.resolve(answer));
     this.frames[this.events.length] = answer;
     await this.go(this.events.length);
@@ -125,7 +128,7 @@ export class Run {
     shown.set(this.editor, this);
     this.view.player.stop();
     clearTimeout(this.learning);
-    Object.assign(this, { isLocked, protocol: protocolOf(protocol) });
+    Object.assign(this, { isLocked, protocol: findProtocol(protocol) });
     this.ticket += 1;
     return this.ticket;
   }
@@ -140,8 +143,8 @@ export class Run {
   /** Shows the parts of a run. `frames` has what is known of each step: its state, the state before, and the effect of its event. */
   open(text, cells, events, frames) {
     if (text !== this.text) this.kept.clear();
-    const names = labelled(this.asked);
-    Object.assign(this, { text, events, frames, names, step: null, ending: null, isOpen: true, tints: tintsOf(this.asked) });
+    const names = makeLabeller(this.asked);
+    Object.assign(this, { text, events, frames, names, step: null, ending: null, isOpen: true, tints: findTints(this.asked) });
     this.cells = cells.map((column, thread) => column.map((it) => ({ ...it, text: names(it.text, thread) })));
     this.slots = cells.map((column) => column.filter(({ text: code }) => /^(?:\w+: *)*MOV \[/.test(code)).length);
     this.view.menu.reset();
@@ -162,9 +165,9 @@ export class Run {
     return this.isLinked && !this.of.length && this.asked === this.editor.text;
   }
 
-  /** Returns whether the run is one that the example has of its own. */
-  get isOwn() {
-    return !this.isByHand && Boolean(this.listed?.isOwn);
+  /** Returns whether the run is another one than lw lists to its state: one that the example has of its own, or one by interleaving. */
+  get isOther() {
+    return !this.isByHand && Boolean(this.listed?.isOwn ?? this.listed?.isByTurns);
   }
 
   /** Shows from its start the run that lw lists to the same state. */
@@ -176,16 +179,16 @@ export class Run {
   /** Runs the same over caches of another protocol. */
   chooseProtocol(protocol) {
     const { step, program, asked: text, of, isSearched: search, own } = this;
-    if (this.isByHand) return this.begin({ schedule: this.scheduleTo(step), run: program, protocol }, { text, of });
-    return this.show(this.goal, { step, run: program, protocol, text, of, search, own });
+    if (this.isByHand) return this.begin({ schedule: this.formatScheduleTo(step), run: program, protocol }, { text, of });
+    return this.show(this.goal, { step, run: program, protocol, text, of, search, own, isByTurns: Boolean(this.listed?.isByTurns) });
   }
 
   /** Goes to the state that a schedule reaches. Returns the answer that says why there is none, or null. */
   async follow(schedule) {
-    const answer = await this.leadTo(this.text, schedule);
+    const answer = await this.askWhere(this.text, schedule);
     if (!answer) return null;
     if (!answer.moves) return answer;
-    this.events = eventsIn(schedule);
+    this.events = parseSchedule(schedule);
     this.frames = [];
     this.frames[this.events.length] = answer;
     this.leaveSchedule();
@@ -194,7 +197,7 @@ export class Run {
   }
 
   /** Returns the answer on the state that a schedule reaches, and on the events that are possible there. */
-  leadTo(text, schedule) {
+  askWhere(text, schedule) {
     return ask(this.editor, "moves", { text, schedule, protocol: this.protocol, whole: true }, { name: "where a schedule leads" });
   }
 
@@ -206,20 +209,20 @@ export class Run {
   }
 
   /** Returns the schedule up to a step. */
-  scheduleTo(step) {
+  formatScheduleTo(step) {
     return this.events.slice(0, step).join(" ");
   }
 
   /** Shows a step. What moves from one step to the next is animated. */
   async go(wanted) {
     const last = this.events.length;
-    const step = wanted === "telling" ? tellingStep(this.frames) : Math.max(0, Math.min(Math.floor(Number(wanted) || 0), last));
+    const step = wanted === "telling" ? findTellingStep(this.frames) : Math.max(0, Math.min(Math.floor(Number(wanted) || 0), last));
     this.ticket += 1;
     const { ticket } = this;
     if (!this.frames[step]) {
-      const answer = await this.movesAt(step);
+      const answer = await this.findMoves(step);
       if (!answer?.state || ticket !== this.ticket) return;
-      this.frames[step] = { ...answer, written: answer.written ?? this.writtenAt(step, answer.effect) };
+      this.frames[step] = { ...answer, written: answer.written ?? this.listWrittenAt(step, answer.effect) };
     }
     const direction = this.step === null || Math.abs(step - this.step) !== 1 ? 0 : step - this.step;
     Object.assign(this, { step, ending: null, isOpening: wanted === "telling" });
@@ -227,14 +230,14 @@ export class Run {
     this.onStep();
     this.putAddress();
     clearTimeout(this.learning);
-    const isKnown = this.kept.has(this.keyOf(this.scheduleTo(step)));
+    const isKnown = this.kept.has(this.makeKey(this.formatScheduleTo(step)));
     if (!this.view.player.timer) this.learning = setTimeout(() => this.learn(ticket), isKnown ? 0 : LEARN);
   }
 
   /** Returns the registers that events have put words into up to a step whose event has an effect, or null if that is not known. */
-  writtenAt(step, effect) {
+  listWrittenAt(step, effect) {
     const before = this.frames[step - 1]?.written;
-    return before ? writtenAfter(before, effect) : null;
+    return before ? addWritten(before, effect) : null;
   }
 
   /** Shows the same step again, after a choice has changed how it is shown. */
@@ -249,20 +252,20 @@ export class Run {
   // The possible events.
 
   /** Returns the key under which the answer on a schedule is kept. */
-  keyOf(schedule) {
+  makeKey(schedule) {
     return `${this.protocol} ${schedule}`;
   }
 
   /** Keeps the answer on a schedule, or its promise. */
   keep(schedule, answer) {
     if (this.kept.size > MAX_KEPT) this.kept.clear();
-    this.kept.set(this.keyOf(schedule), answer);
+    this.kept.set(this.makeKey(schedule), answer);
   }
 
   /** Returns the possible events after a number of events: each event, with its cause if it is refused. */
-  movesAt(step) {
-    const schedule = this.scheduleTo(step);
-    const key = this.keyOf(schedule);
+  findMoves(step) {
+    const schedule = this.formatScheduleTo(step);
+    const key = this.makeKey(schedule);
     if (!this.kept.has(key)) {
       const whole = !this.frames[step]?.written && !this.frames[step - 1]?.written;
       const answering = ask(this.editor, "moves", { text: this.text, schedule, protocol: this.protocol, whole }).then((answer) => {
@@ -277,7 +280,7 @@ export class Run {
   /** Learns what can be done at the step, and in which state a run by hand has ended. */
   async learn(ticket) {
     if (!this.isOpen) return;
-    const answer = await this.movesAt(this.step);
+    const answer = await this.findMoves(this.step);
     if (!answer?.moves || ticket !== this.ticket || !this.isOpen) return;
     this.view.stage.allow(answer.moves);
     if (answer.state.end.kind !== "Final") return;
@@ -302,10 +305,10 @@ export class Run {
   async takeNow(event) {
     if (!this.isOpen) return;
     clearTimeout(this.learning);
-    const answer = await this.movesAt(this.step);
+    const answer = await this.findMoves(this.step);
     const move = answer?.moves?.find((it) => it.event === event);
     if (!move || !this.isOpen) return;
-    if (move.refused) return this.view.refuse(refusalOf(event, move.refused));
+    if (move.refused) return this.view.refuse(explainRefusal(event, move.refused));
     this.view.player.touch();
     if (this.events[this.step] !== event) {
       this.events = [...this.events.slice(0, this.step), event];
@@ -331,8 +334,8 @@ export class Run {
     const protocol = this.protocol === "mesi" ? null : this.protocol;
     const usual = this.isByHand ? "test" : this.isSource ? "source" : "x86";
     const run = this.program === usual ? null : this.program;
-    const byHand = { view: "hand", schedule: this.scheduleTo(this.step), state: null, own: null, step: null };
-    const listed = { view: "states", state: this.goal, own: this.isOwn ? "1" : null, step: this.step, schedule: null };
+    const byHand = { view: "hand", schedule: this.formatScheduleTo(this.step), state: null, own: null, step: null };
+    const listed = { view: "states", state: this.goal, own: this.isOther ? "1" : null, step: this.step, schedule: null };
     address.put({ ...(this.isByHand ? byHand : listed), run, protocol });
   }
 
@@ -342,7 +345,7 @@ export class Run {
   }
 
   /** Steps by keys, if they mean nothing else: arrows, and what presenters send. Digits carry out an instruction, with Shift they drain. */
-  key(event) {
+  handleKey(event) {
     if (!this.isOpen || !this.isSeen() || !this.editor.hasKeys || event.altKey || event.ctrlKey || event.metaKey) return;
     const { key, target } = event;
     if (target.closest(WRITTEN_IN)) return;

@@ -2,7 +2,7 @@
 // writes.
 
 import { ask } from "./ask.js";
-import { button, el } from "./dom.js";
+import { el, makeButton } from "./dom.js";
 import { copy, save } from "./output.js";
 import { showError } from "./errors.js";
 
@@ -10,28 +10,28 @@ import { showError } from "./errors.js";
 export class RunMenu {
   constructor(run) {
     this.run = run;
-    const id = (name) => run.editor.id(name);
+    const id = (name) => run.editor.makeId(name);
     this.said = el("span", { role: "status" });
     this.wrong = el("div", { role: "status", class: "small" });
     const enter = (event) => event.key === "Enter" && this.follow();
     this.written = el("input", { type: "text", size: "22", id: id("written"), placeholder: "P0 D0 P1", keydown: enter });
-    this.listed = button("Watch the run that lw lists", () => this.run.chooseListed(), { class: "listed-run" });
+    this.listed = makeButton("Watch the run that lw lists", () => this.run.chooseListed(), { class: "listed-run" });
     this.opener = el("summary", { "aria-label": "More on this run" }, "⋯");
     this.place = el("details", { class: "menu" }, this.opener, el("div", { class: "sheet-menu" },
       this.listed,
-      button("Copy the schedule", () => copy(run.events.join(" "), this.said)),
-      button("Save this picture", () => this.savePicture(false), { id: id("save-picture") }),
-      button("Save all steps as a strip", () => this.savePicture(true), { id: id("save-strip") }),
+      makeButton("Copy the schedule", () => copy(run.events.join(" "), this.said)),
+      makeButton("Save this picture", () => this.savePicture(false), { id: id("save-picture") }),
+      makeButton("Save all steps as a strip", () => this.savePicture(true), { id: id("save-strip") }),
       this.said,
       el("label", {}, "Follow a schedule ", this.written),
-      button("Follow", () => this.follow(), { id: id("follow") }),
+      makeButton("Follow", () => this.follow(), { id: id("follow") }),
       this.wrong));
   }
 
-  /** Closes it: another run is shown. If that is one that the example has of its own, the run that lw lists is offered. */
+  /** Closes it: another run is shown. If that is not the one that lw lists, the listed one is offered. */
   reset() {
     this.place.open = false;
-    this.listed.hidden = !this.run.isOwn;
+    this.listed.hidden = !this.run.isOther;
     this.said.replaceChildren();
     this.wrong.replaceChildren();
     this.written.value = "";

@@ -1,19 +1,19 @@
 // Shows a run: the row that plays it, the sentence on its step, the machine, and the graph of its events.
 
-import { cutOf, hiddenHeight, isScrolled, spareHeight } from "./code_window.js";
-import { button, byId, el, plainMark } from "./dom.js";
-import { graphOf } from "./execution_graph.js";
-import { leastHeight, usedRegisters } from "./machine_size.js";
+import { isScrolled, measureCut, measureHiddenHeight, measureSpareHeight } from "./code_window.js";
+import { el, findById, makeButton, makePlainMark } from "./dom.js";
+import { showGraph } from "./execution_graph.js";
+import { computeLeastHeight, listUsedRegisters } from "./machine_size.js";
 import { isStill } from "./motion.js";
 import { Player } from "./player.js";
 import { setRoom } from "./placing.js";
-import { caches } from "./preferences.js";
+import { caches, hasStepped } from "./preferences.js";
 import { parseRegister } from "./replays.js";
 import { RunMenu } from "./run_menu.js";
-import { hintOn, stepWords } from "./run_words.js";
+import { describeStep, describeWays } from "./run_words.js";
 import { Stage } from "./stage.js";
-import { threadClass, tintedSentence } from "./tint.js";
-import { refusalOf } from "./errors.js";
+import { makeThreadClass, renderTintedSentence } from "./tint.js";
+import { explainRefusal } from "./errors.js";
 
 export const PROTOCOLS = ["mesi", "moesi"];
 // The forms of a source test that can be run by hand, and those that are listed, with a description of each.
@@ -31,7 +31,7 @@ const WAYS = ["", "beside", "small", "beside small", "small low", "beside small 
 const KINDS = WAYS.at(-1).split(" ");
 // More lines than any code has, for a machine that is out of sight in part.
 const OUT_OF_SIGHT = 10000;
-// Of how many steps of a run at most the sentences are measured.
+// The largest number of steps of a run whose sentences are measured.
 const MAX_MEASURED = 100;
 const LOCKED = "First say what you expect: then the machine runs.";
 const OF_COMPILED = "This is the compiled run: ";
@@ -42,15 +42,15 @@ export class RunView {
   /** Makes the parts. `graphPlace` is where the graph is drawn, if it is apart from the machine; then it is drawn from the beginning. */
   constructor(run, graphPlace) {
     Object.assign(this, { run, hasGraph: graphPlace !== null, isGraphAside: graphPlace !== null });
-    const id = (name) => run.editor.id(name);
+    const id = (name) => run.editor.makeId(name);
     this.stage = new Stage({
       act: (event) => run.take(event),
-      refuse: (event, refused) => this.refuse(refusalOf(event, refused)),
+      refuse: (event, refused) => this.refuse(explainRefusal(event, refused)),
       explain: (words) => run.isByHand && (run.isLocked ? this.showLocked() : this.refuse(words)),
       fence: (...fence) => run.onFence(...fence),
     });
     this.graph = graphPlace ?? el("div", { class: "graph-place", role: "status" });
-    this.graphSwitch = button("Graph", () => this.chooseGraph(), {
+    this.graphSwitch = makeButton("Graph", () => this.chooseGraph(), {
       class: "draw-execution", "aria-pressed": "false", id: id("graph-switch"), title: "The run as a graph of events",
     });
     this.isGraphSeen = false;
@@ -79,9 +79,9 @@ export class RunView {
     const { run } = this;
     const goal = run.isByHand ? [] : ["to ", el("code", {}, run.goal)];
     const title = run.of.length ? [el("p", { class: "of" }, "A run ", run.of, goal)] : [];
-    this.choice.replaceChildren(...[this.programChoice(), this.protocolChoice()].filter(Boolean));
+    this.choice.replaceChildren(...[this.makeProgramChoice(), this.makeProtocolChoice()].filter(Boolean));
     this.choice.hidden = !this.choice.childElementCount;
-    this.hint.textContent = hintOn(run);
+    this.showHint();
     const head = el("div", { class: "run-head" }, this.player.place, el("div", { class: "step-row" }, this.words, this.choice));
     const body = el("div", { class: "body" }, this.stage.place, this.isGraphAside ? null : this.graph);
     this.place.replaceChildren(...title, head, body, this.hint);
@@ -90,54 +90,62 @@ export class RunView {
     if (this.hasGraph && !run.isLocked) this.drawGraph();
   }
 
+  /** Says where to start, or what can be clicked. */
+  showHint() {
+    this.hint.replaceChildren(...describeWays(this.run));
+  }
+
   /** Returns the choice of which program of a source test runs. */
-  programChoice() {
+  makeProgramChoice() {
     const { run } = this;
     if (!run.isSource) return null;
     const isPlain = run.program === "bare" || run.program === "source";
-    const mark = isPlain ? [" ", plainMark()] : null;
-    if (!run.isByHand) return el("span", { class: "row", role: "group", "aria-label": "What runs" }, this.listedChoice(), mark);
+    const mark = isPlain ? [" ", makePlainMark()] : null;
+    if (!run.isByHand) return el("span", { class: "row", role: "group", "aria-label": "What runs" }, this.makeListedChoice(), mark);
     const options = BY_HAND.map(([value, text]) => el("option", { value, selected: value === run.program }, text));
-    const select = el("select", { id: run.editor.id("hand-runs"), change: (event) => run.chooseProgram(event.target.value) }, options);
+    const select = el("select", { id: run.editor.makeId("hand-runs"), change: (event) => run.chooseProgram(event.target.value) }, options);
     return el("label", {}, el("span", { class: "what-runs" }, "What runs "), select, mark);
   }
 
   /** Returns buttons that choose which of the two listed runs is shown: of the source and of its compiled program. */
-  listedChoice() {
+  makeListedChoice() {
     const { run } = this;
     if (!run.listed.films.source) return el("span", { class: "small" }, "The run is that of the compiled program.");
     return LISTED.map(([program, text, title]) => {
-      const id = run.editor.id(`run-${program}`);
+      const id = run.editor.makeId(`run-${program}`);
       const choose = () => {
         run.chooseProgram(program);
-        byId(id)?.focus({ preventScroll: true });
+        findById(id)?.focus({ preventScroll: true });
       };
-      return button(text, choose, { id, title, "aria-pressed": String(program === run.program) });
+      return makeButton(text, choose, { id, title, "aria-pressed": String(program === run.program) });
     });
   }
 
   /** Returns the choice of the protocol of caches; null if there are none. */
-  protocolChoice() {
+  makeProtocolChoice() {
     const { run } = this;
     if (!caches.isOn || !run.isX86) return null;
     const options = PROTOCOLS.map((it) => el("option", { value: it, selected: it === run.protocol }, it.toUpperCase()));
-    const select = el("select", { id: run.editor.id("protocol"), change: (event) => run.chooseProtocol(event.target.value) }, options);
+    const select = el("select", { id: run.editor.makeId("protocol"), change: (event) => run.chooseProtocol(event.target.value) }, options);
     return el("label", {}, "Caches keep ", select);
   }
 
   /** Shows the step that the run is at; `direction` is 1 if it is one step forward, -1 if it is one back, and 0 for a jump. */
   draw(direction) {
     const { run } = this;
-    const places = placesOfEvents(run);
-    const shown = { ...shownOf(run, places), direction };
+    const places = listPlaces(run);
+    const shown = { ...makeShown(run, places), direction };
     if (!direction) this.spare = 0;
-    this.setLeast(leastHeight(shown) - this.spare);
+    this.setLeast(computeLeastHeight(shown) - this.spare);
     this.stage.forgetMoves();
     this.stage.draw(shown);
     this.player.show(run.events, run.step, { isOpen: run.isByHand, places });
     this.showStep();
     if (direction) this.keepRoom();
     else this.fit();
+    if (!direction || hasStepped.isOn) return;
+    hasStepped.set(true);
+    this.showHint();
   }
 
   /** Says how high the threads' boxes are at least, in letters of the page's size. */
@@ -163,7 +171,7 @@ export class RunView {
    * `drawIn` does.
    */
   chooseWay() {
-    const least = leastHeight(this.stage.shown);
+    const least = computeLeastHeight(this.stage.shown);
     let [best, fewest] = ["", Infinity];
     for (const way of isScrolled(this.stage.place) ? WAYS : [""]) {
       if (!fewest || (fewest < OUT_OF_SIGHT && way.includes("cramped"))) break;
@@ -177,7 +185,7 @@ export class RunView {
   /** Fits the machine again after the room for it has changed: if a part of it is cut, or in any case. */
   refit(isAnyway = false) {
     const { place, shown } = this.stage;
-    if (this.run.isOpen && shown && (isAnyway || cutOf(place) || isOutOfSight(place))) this.fit();
+    if (this.run.isOpen && shown && (isAnyway || measureCut(place) || isOutOfSight(place))) this.fit();
   }
 
   /**
@@ -191,16 +199,16 @@ export class RunView {
     this.stage.size();
     setRoom();
     this.setLeast(least);
-    this.spare = spareHeight(place) / letter;
+    this.spare = measureSpareHeight(place) / letter;
     this.setLeast(least - this.spare);
-    return cutOf(place) + (isOutOfSight(place) ? OUT_OF_SIGHT : 0);
+    return measureCut(place) + (isOutOfSight(place) ? OUT_OF_SIGHT : 0);
   }
 
   /** Says what the step has done. */
   showStep() {
     const { effect } = this.run.frame;
-    this.words.className = effect ? `step ${threadClass(effect.thread)}` : "step";
-    this.words.replaceChildren(...stepWords(this.run));
+    this.words.className = effect ? `step ${makeThreadClass(effect.thread)}` : "step";
+    this.words.replaceChildren(...describeStep(this.run));
   }
 
   /** Gives the row of the sentence the height that it needs at any known step of the run, so that the machine stays where it is. */
@@ -208,8 +216,8 @@ export class RunView {
     const { run, words } = this;
     const row = words.parentElement;
     if (!run.editor.isAlone) return;
-    const wordsAt = (step) => stepWords(Object.create(run, { step: { value: step }, isOpening: { value: run.isOpening && step === run.step } }));
-    const probes = run.frames.slice(0, MAX_MEASURED).map((_, step) => el("p", { class: "step" }, wordsAt(step)));
+    const describeStepAt = (step) => describeStep(Object.create(run, { step: { value: step }, isOpening: { value: run.isOpening && step === run.step } }));
+    const probes = run.frames.slice(0, MAX_MEASURED).map((_, step) => el("p", { class: "step" }, describeStepAt(step)));
     const box = el("div", { class: "probe" }, probes.filter(Boolean));
     box.style.width = `${words.offsetWidth}px`;
     row.style.minHeight = "";
@@ -228,7 +236,7 @@ export class RunView {
   /** Says why what is clicked can't be carried out. */
   refuse(why) {
     this.words.className = "step refusal";
-    this.words.replaceChildren(...tintedSentence(why, this.run.tints));
+    this.words.replaceChildren(...renderTintedSentence(why, this.run.tints));
   }
 
   /** Says that the reader has to predict first. */
@@ -264,17 +272,17 @@ export class RunView {
     const { run } = this;
     const { isX86, isByHand, editor, tints } = run;
     this.graph.classList.toggle("of-compiled", !isX86);
-    if (isX86) return graphOf(editor, run.text, run.events.join(" "), this.graph, tints);
-    const lead = (words, text, program) => [words, button(text, () => run.chooseProgram(program), { class: "link to-compiled" }), ". "];
-    if (isByHand) return this.graph.replaceChildren(el("p", { class: "small" }, lead(NO_GRAPH, "Run the compiled program by hand", "compiled")));
+    if (isX86) return showGraph(editor, run.text, run.events.join(" "), this.graph, tints);
+    const makeLead = (words, text, program) => [words, makeButton(text, () => run.chooseProgram(program), { class: "link to-compiled" }), ". "];
+    if (isByHand) return this.graph.replaceChildren(el("p", { class: "small" }, makeLead(NO_GRAPH, "Run the compiled program by hand", "compiled")));
     const { films, schedule } = run.listed;
-    return graphOf(editor, films.x86.text, schedule, this.graph, tints, lead(OF_COMPILED, "watch it", "x86"));
+    return showGraph(editor, films.x86.text, schedule, this.graph, tints, makeLead(OF_COMPILED, "watch it", "x86"));
   }
 }
 
 /** Returns whether a part of a machine is out of sight. */
 function isOutOfSight(machine) {
-  return hiddenHeight(machine) >= 2;
+  return measureHiddenHeight(machine) >= 2;
 }
 
 /** Returns whether an element is in sight, given what its observer reports: nearly all of it, or as much as the window has room for. */
@@ -283,7 +291,7 @@ function isInSight({ intersectionRect, intersectionRatio }) {
 }
 
 /** Returns, for each event of a run, the place of its instruction, as far as it is known; a drain has that of its store. */
-function placesOfEvents({ events, frames, cells }) {
+function listPlaces({ events, frames, cells }) {
   const stores = cells.map(() => []);
   return events.map((event, index) => {
     const thread = Number(event[1]);
@@ -300,10 +308,10 @@ function placesOfEvents({ events, frames, cells }) {
  * Returns the data of the machine's drawing: the registers that are used in the whole run, how many entries have left each buffer, and more. `places` has
  * the places of the run's events.
  */
-function shownOf(run, places) {
+function makeShown(run, places) {
   const { cells, frame, frames, tints, slots, step, events, isByHand } = run;
   const known = isByHand ? [frame.state, frame.before] : frames.flatMap((it) => [it.state, it.before]);
-  const used = cells.map((_, thread) => usedRegisters(cells, known, thread));
+  const used = cells.map((_, thread) => listUsedRegisters(cells, known, thread));
   const drained = cells.map((_, thread) => events.slice(0, step).filter((it) => it === `D${thread}`).length);
   // A compiled program's registers have the numbers of the source's.
   const inSource = run.isSource && run.isX86 ? (name) => `r${parseRegister(name)}` : null;

@@ -1,8 +1,8 @@
 // Describes a step of a run: what its event has done, and at the end the state in which the run has ended.
 
 import { el } from "./dom.js";
-import { caches } from "./preferences.js";
-import { tintedSentence } from "./tint.js";
+import { caches, hasStepped } from "./preferences.js";
+import { renderTintedSentence } from "./tint.js";
 
 const LOCKED = "This is the machine before the run. What do you expect?";
 const BEGIN = "Nothing has happened yet.";
@@ -10,6 +10,8 @@ const BEGIN_OF_X86 = "Click an instruction to carry it out; then an entry of a s
 const BEGIN_OF_SOURCE = "Click a statement to carry it out: the threads take turns.";
 const HINT_OF_X86 =
   "Click a framed instruction to carry it out, or the lowest entry of a store buffer to let it go to memory: from any step, in any order.";
+const START = "Start here: ";
+const START_BY_KEYS = "→ or Step goes one step on, |◀ to the beginning. Or click a framed ";
 const HINT_OF_SOURCE = "Click a framed statement to carry it out: from any step, in any order.";
 const LETTERS_OF_MESI =
   "Cache lines: M modified (memory's own word is old), E exclusive, S shared, I invalid (not held). Click one to give it up.";
@@ -20,12 +22,21 @@ const KEYS_OF_X86 =
 const KEYS_OF_SOURCE = "By keys: 0 to 3 carry out the next statement of that thread; ← and → go back and forward.";
 
 /**
+ * Returns what is said below the machine: to a reader who has not gone a step yet, where to start, and otherwise what can be clicked.
+ * @param {Run} run
+ * @returns {(Node | string)[]}
+ */
+export function describeWays(run) {
+  const isFirst = !hasStepped.isOn && !run.isByHand && !caches.isOn;
+  const clicked = run.slots.some(Boolean) ? "instruction, or a buffer's lowest entry." : "statement.";
+  return isFirst ? [el("b", {}, START), START_BY_KEYS, clicked] : [describeClicks(run)];
+}
+
+/**
  * Returns a sentence that says what can be clicked; of a run by hand, where the sentence on its start says that, which keys do the same. If cache
  * lines are shown, it says what their letters mean.
- * @param {Run} run
- * @returns {string}
  */
-export function hintOn({ slots, isByHand, isX86: hasCaches, protocol }) {
+function describeClicks({ slots, isByHand, isX86: hasCaches, protocol }) {
   if (caches.isOn && hasCaches) return protocol === "moesi" ? LETTERS_OF_MOESI : LETTERS_OF_MESI;
   const isX86 = slots.some(Boolean);
   if (isByHand) return isX86 ? KEYS_OF_X86 : KEYS_OF_SOURCE;
@@ -37,36 +48,36 @@ export function hintOn({ slots, isByHand, isX86: hasCaches, protocol }) {
  * @param {Run} run
  * @returns {Node[]}
  */
-export function stepWords(run) {
+export function describeStep(run) {
   const { effect } = run.frame;
-  const number = numberWords(run);
+  const number = describeNumber(run);
   const step = number && el("span", { class: "number-of-step" }, number, " ");
-  const done = effect ? tintedSentence(`${run.names(doneWords(effect), effect.thread)}.`, run.tints) : [beginWords(run)];
-  return [step, ...done, ...endWords(run), run.isOpening ? openingWords(run) : null].filter(Boolean);
+  const done = effect ? renderTintedSentence(`${run.names(describeEffect(effect), effect.thread)}.`, run.tints) : [describeBegin(run)];
+  return [step, ...done, ...describeEnd(run), run.isOpening ? describeOpening(run) : null].filter(Boolean);
 }
 
 /** Returns which run is shown first, or why it opens at a step in its middle; null if it opens at its start. */
-function openingWords({ opening, step, frame }) {
+function describeOpening({ opening, step, frame }) {
   const count = frame.state.threads.reduce((sum, it) => sum + (it.buffer?.length ?? 0), 0);
   const words = opening ?? (step ? `This step is shown first: ${count === 1 ? "a store waits" : `${count} stores wait`}.` : null);
   return words && el("span", { class: "opening" }, ` ${words}`);
 }
 
 /** Returns the number of the step; of a run by hand its length only if events follow, and nothing before the first event. */
-function numberWords({ isLocked, isByHand, step, events }) {
+function describeNumber({ isLocked, isByHand, step, events }) {
   if (isLocked || (isByHand && events.length === 0)) return "";
   return isByHand && step === events.length ? `Step ${step}:` : `Step ${step} of ${events.length}:`;
 }
 
 /** Returns the words at the start of a run. */
-function beginWords({ isLocked, isByHand, events, frame }) {
+function describeBegin({ isLocked, isByHand, events, frame }) {
   if (isLocked) return LOCKED;
   if (!isByHand || events.length) return BEGIN;
   return frame.state.threads[0].buffer ? BEGIN_OF_X86 : BEGIN_OF_SOURCE;
 }
 
 /** Returns the effect of an event in words. The words name memory, or the cache that has the word if the reader looks at cache lines. */
-function doneWords({ thread, words, cache }) {
+function describeEffect({ thread, words, cache }) {
   if (cache === undefined || !caches.isOn) return words;
   const owner = cache === thread ? "its own" : `P${cache}'s`;
   return words.replace(/ (from|for) memory/, (_, way) => ` ${way} ${owner} cache`);
@@ -76,7 +87,7 @@ function doneWords({ thread, words, cache }) {
  * Returns the words that say that the run has ended, in which state, and whether the condition holds there: as the list says, or otherwise as the
  * page finds it. If the list shows the state, it is not named. There are no words if the run has not ended.
  */
-function endWords({ frame, isByHand, ending, goal, isLinked, editor, truthOf }) {
+function describeEnd({ frame, isByHand, ending, goal, isLinked, editor, truthOf }) {
   if (frame.state.end.kind !== "Final") return [];
   const line = isByHand ? ending?.line : goal;
   const state = line && !isLinked && editor.isAlone ? [" in ", el("code", {}, line)] : [];
@@ -94,7 +105,7 @@ function endWords({ frame, isByHand, ending, goal, isLinked, editor, truthOf }) 
  * @param {[string, number][] | undefined} buffer
  * @returns {string}
  */
-export function notNext(thread, text, next, buffer) {
+export function explainNotNext(thread, text, next, buffer) {
   if (text.endsWith(":")) return `\`${text}\` is a label, to which jumps go: there is nothing to carry out.`;
   const why = next && !next.text.endsWith(":") ? `its next ${buffer ? "instruction" : "statement"} is \`${next.text}\`` : "it is at its end";
   return `P${thread} can't carry out \`${text}\` now: ${why}.`;
@@ -107,6 +118,6 @@ export function notNext(thread, text, next, buffer) {
  * @param {[string, number]} oldest
  * @returns {string}
  */
-export function notOldest(thread, entry, oldest) {
+export function explainNotOldest(thread, entry, oldest) {
   return `P${thread}'s \`${entry.join("=")}\` can't leave the store buffer now: the buffer is a queue, and \`${oldest.join("=")}\` goes first.`;
 }

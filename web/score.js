@@ -1,19 +1,19 @@
 // The reader's score in this tab: on how many tests the first prediction was right. It lasts until the tab is closed.
 
-import { byId } from "./dom.js";
+import { findById } from "./dom.js";
 
 const KEY = "score";
 // The largest number of lines of a test that is short enough to be predicted.
 const MAX_LINES = 9;
 
 // For each text whether the first prediction on it was right.
-const results = new Map(stored());
+const results = new Map(readStored());
 
 /**
  * Returns the results that the tab has stored.
  * @returns {[string, boolean][]}
  */
-function stored() {
+function readStored() {
   try {
     return JSON.parse(sessionStorage.getItem(KEY)) ?? [];
   } catch {
@@ -40,8 +40,8 @@ export function countPrediction(text, isRight) {
 /** Shows the score beside the choice to predict, if there is one. */
 export function showScore() {
   const right = [...results.values()].filter(Boolean).length;
-  byId("score").textContent = results.size ? `${right} of ${results.size} right` : "";
-  byId("score").className = right === 0 ? "none" : right === results.size ? "all" : "";
+  findById("score").textContent = results.size ? `${right} of ${results.size} right` : "";
+  findById("score").className = right === 0 ? "none" : right === results.size ? "all" : "";
 }
 
 /**
@@ -50,7 +50,7 @@ export function showScore() {
  * @param {string} name The test that is shown, which is left out.
  * @returns {string}
  */
-export function randomTest(tests, name) {
+export function chooseRandomTest(tests, name) {
   const short = tests.filter((it) => it.name !== name && it.text.trim().split("\n").length <= MAX_LINES);
   const others = short.filter(({ text }) => !results.has(text));
   const from = others.length ? others : short;

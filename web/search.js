@@ -1,6 +1,6 @@
 // A list that is refused because its test has too many orders can be made by a search of the machine's states instead. Both ways are proved.
 
-import { button, el } from "./dom.js";
+import { el, makeButton } from "./dom.js";
 
 const TITLE = "List the states by a proved search of the machine's states, which counts no orders";
 
@@ -19,6 +19,6 @@ export function isTooLong(answer) {
  * @param {string} id
  * @returns {Element}
  */
-export function searchOffer(search, id) {
-  return el("p", { class: "row" }, button("Search instead", search, { id, class: "main", title: TITLE }));
+export function makeSearchOffer(search, id) {
+  return el("p", { class: "row" }, makeButton("Search instead", search, { id, class: "main", title: TITLE }));
 }

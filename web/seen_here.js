@@ -5,7 +5,7 @@
 // An answer of the server is what tools/on_machine.py prints as JSON: the numbers of `runs`, `seconds`, `processors` and `listed` states; the states that
 // were `seen`, each with its `count` and whether it is `listed`, and those `not_seen`; who made the `list`; and `notes`. Or it has an `error`.
 
-import { button, el } from "./dom.js";
+import { el, makeButton } from "./dom.js";
 import { NO_SERVER } from "./served.js";
 import { hasServer } from "./supplies.js";
 
@@ -24,27 +24,27 @@ export class SeenHere {
   /** Offers to run the test of a text, in place of what was shown; of none if there is null. */
   offer(text) {
     this.text = this.isOffered ? text : null;
-    this.place.replaceChildren(...this.button());
+    this.place.replaceChildren(...this.makeButtons());
   }
 
   /** Returns the button that runs the test, in a list that is empty if there is no test. */
-  button() {
+  makeButtons() {
     const run = () => this.run(this.text);
-    return this.text === null ? [] : [button(`Run it on this machine for ${SECONDS} seconds`, run, { class: "run-here" })];
+    return this.text === null ? [] : [makeButton(`Run it on this machine for ${SECONDS} seconds`, run, { class: "run-here" })];
   }
 
   /** Runs a test, and shows what was seen, unless another is offered meanwhile. */
   async run(text) {
     const notice = el("p", { class: "row asking", role: "status" }, `Running on this machine for ${SECONDS} seconds …`);
     this.place.replaceChildren(notice);
-    const answer = await answerOf(text);
+    const answer = await askServer(text);
     if (!this.place.contains(notice)) return;
-    this.place.replaceChildren(...(answer.error ? [el("p", { class: "notice", role: "alert" }, answer.error)] : shown(answer)), ...this.button());
+    this.place.replaceChildren(...(answer.error ? [el("p", { class: "notice", role: "alert" }, answer.error)] : makeSeenTable(answer)), ...this.makeButtons());
   }
 }
 
 /** Asks the server to run the test of a text. Returns its answer, or one with an `error` if the server does not answer. */
-async function answerOf(text) {
+async function askServer(text) {
   try {
     const body = JSON.stringify({ text, seconds: SECONDS });
     return await (await fetch("machine", { method: "POST", headers: { "Content-Type": "application/json" }, body })).json();
@@ -58,10 +58,10 @@ async function answerOf(text) {
  * @param {object} answer
  * @returns {[string, string][]}
  */
-export function rowsOf({ seen, not_seen: notSeen }) {
+export function listRows({ seen, not_seen: notSeen }) {
   const ordered = [...seen].sort((one, other) => Number(one.listed) - Number(other.listed) || other.count - one.count);
-  const words = ({ count, listed }) => (listed ? count.toLocaleString("en") : `${count.toLocaleString("en")}, and it is not listed`);
-  return [...ordered.map((it) => [it.state, words(it)]), ...notSeen.map((state) => [state, "not seen"])];
+  const describeCount = ({ count, listed }) => (listed ? count.toLocaleString("en") : `${count.toLocaleString("en")}, and it is not listed`);
+  return [...ordered.map((it) => [it.state, describeCount(it)]), ...notSeen.map((state) => [state, "not seen"])];
 }
 
 /**
@@ -69,17 +69,17 @@ export function rowsOf({ seen, not_seen: notSeen }) {
  * @param {object} answer
  * @returns {string}
  */
-export function sentenceOn({ runs, seconds, processors, listed, seen, list }) {
+export function describeMeasurement({ runs, seconds, processors, listed, seen, list }) {
   const seenOfListed = seen.filter((it) => it.listed).length;
   const howOften = `${runs.toLocaleString("en")} runs in ${seconds.toFixed(1)} seconds on ${processors} processor${processors === 1 ? "" : "s"}`;
   return `${howOften}: seen here ${seenOfListed} of ${listed} listed states (the list by ${list}).`;
 }
 
 /** Returns the table of what was seen on this machine. */
-function shown(answer) {
-  const rows = rowsOf(answer).map(([state, said]) => el("tr", {}, el("th", { scope: "row" }, el("code", {}, state)), el("td", {}, said)));
+function makeSeenTable(answer) {
+  const rows = listRows(answer).map(([state, said]) => el("tr", {}, el("th", { scope: "row" }, el("code", {}, state)), el("td", {}, said)));
   const head = el("tr", {}, el("th", { scope: "col" }, "State"), el("th", { scope: "col" }, "Seen on this machine"));
   const notes = answer.notes.map((it) => el("p", { class: "small" }, it));
   const table = el("table", {}, el("thead", {}, head), el("tbody", {}, rows));
-  return [el("p", { role: "status" }, sentenceOn(answer)), table, ...notes, el("p", { class: "small" }, ABOUT)];
+  return [el("p", { role: "status" }, describeMeasurement(answer)), table, ...notes, el("p", { class: "small" }, ABOUT)];
 }

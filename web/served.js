@@ -1,7 +1,7 @@
 // The proved program on this machine, by the server of the page: a workbench that answers as that of module.js does. It waits for each
 // answer, as a worker may; if the worker is ended, the server ends the run.
 
-import { NoAnswer, bytesOf, textOf } from "./program.js";
+import { NoAnswer, decodeText, encodeText } from "./program.js";
 
 export const NO_SERVER = "The server does not answer. Start ./page again.";
 
@@ -11,15 +11,16 @@ export class Served {
   room = "it may have (1 GiB)";
 
   /**
-   * Returns the answer to words as on the command line: the status, whether it is a fault, and the bytes of the answer or of the fault.
+   * Returns the answer to words as on the command line: the status, whether it is a fault, and the bytes of the answer or of the fault. Throws NoAnswer if
+   * the server has none.
    * @param {string[]} words
    * @param {Uint8Array} text
    * @returns {{status: number, isFault: boolean, out: Uint8Array}}
    */
   run(words, text) {
-    const { status, printed, fault, error } = ask("run", { words, text: textOf(text) });
+    const { status, printed, fault, error } = ask("run", { words, text: decodeText(text) });
     if (error) throw new NoAnswer(error);
-    return { status, isFault: fault !== null, out: bytesOf(fault ?? printed) };
+    return { status, isFault: fault !== null, out: encodeText(fault ?? printed) };
   }
 }
 

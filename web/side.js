@@ -1,12 +1,12 @@
 // One of two tests that are shown side by side: its text, its states, and the films to them.
 
-import { aligned } from "./aligned.js";
-import { forget } from "./ask.js";
+import { alignCells } from "./aligned.js";
+import { endQuestions } from "./ask.js";
 import { el } from "./dom.js";
 import { largeType } from "./preferences.js";
 import { States } from "./states.js";
-import { textNodes, tintsOf } from "./tint.js";
-import { nameOf } from "./tokens.js";
+import { findTints, renderText } from "./tint.js";
+import { parseName } from "./tokens.js";
 
 // A text is broad if one of its lines has more letters; of how many letters it has no room beside what is said of the test, in a window of less
 // than a width, and in a wider one.
@@ -26,7 +26,7 @@ class Sheet {
   }
 
   /** Returns the id of a part of the sheet. */
-  id(name) {
+  makeId(name) {
     return `${this.name}-${name}`;
   }
 
@@ -35,9 +35,10 @@ class Sheet {
     return this.shown;
   }
 
+  /** Shows a text in place of the one before. */
   set text(text) {
     this.shown = text;
-    this.place.replaceChildren(...textNodes(aligned(text).trimEnd(), tintsOf(text)));
+    this.place.replaceChildren(...renderText(alignCells(text).trimEnd(), findTints(text)));
     this.fit();
   }
 
@@ -57,7 +58,7 @@ export class Side {
    */
   constructor(name, label, { onChoose, onReveal, ...called }) {
     this.sheet = new Sheet(name);
-    const [titled, listed] = [this.sheet.id("title"), this.sheet.id("example")];
+    const [titled, listed] = [this.sheet.makeId("title"), this.sheet.makeId("example")];
     this.title = el("h2", { id: titled });
     this.select = el("select", { id: listed, change: () => onChoose(this.select.value) });
     const head = el("div", { class: "head row" }, this.title, el("label", { for: listed, class: "hidden" }, label), this.select);
@@ -71,8 +72,8 @@ export class Side {
     this.select.value = option;
     if (text === this.sheet.text) return;
     this.sheet.text = text;
-    this.title.textContent = nameOf(text);
-    forget(this.sheet);
+    this.title.textContent = parseName(text);
+    endQuestions(this.sheet);
     this.states.clear();
     this.states.ask();
   }

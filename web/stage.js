@@ -4,13 +4,13 @@
 
 import { fitCodes, showNext, watchCodes } from "./code_window.js";
 import { el } from "./dom.js";
-import { fenceButton, goToFence } from "./fence_buttons.js";
-import { flightsOf } from "./flights.js";
-import { MAX_SLOTS, hasLongStores, isStacked, sizeClassesOf } from "./machine_size.js";
-import { fly, glow, isStill, placesIn, settle } from "./motion.js";
+import { goToFence, makeFenceButton } from "./fence_buttons.js";
+import { listFlights } from "./flights.js";
+import { MAX_SLOTS, hasLongStores, isStacked, listSizeClasses } from "./machine_size.js";
+import { fly, glow, isStill, measurePlaces, settle } from "./motion.js";
 import { caches } from "./preferences.js";
-import { notNext, notOldest } from "./run_words.js";
-import { codeNodes, threadClass } from "./tint.js";
+import { explainNotNext, explainNotOldest } from "./run_words.js";
+import { makeThreadClass, renderCode } from "./tint.js";
 
 // Causes that need no words: no event is left.
 const NOTHING_LEFT = ["Ended", "BufferEmpty", "NotHeld"];
@@ -38,13 +38,13 @@ export class Stage {
    */
   draw(shown) {
     const { event: focused = null, fence = null } = this.place.contains(document.activeElement) ? document.activeElement.dataset : {};
-    const was = placesIn(this.place);
+    const was = measurePlaces(this.place);
     const before = this.shown;
     this.shown = shown;
-    const threads = shown.state.threads.map((it, thread) => this.threadOf(it, thread));
+    const threads = shown.state.threads.map((it, thread) => this.makeThread(it, thread));
     this.place.style.setProperty("--threads", String(threads.length));
     this.size();
-    this.place.replaceChildren(el("div", { class: "threads" }, threads), this.memory());
+    this.place.replaceChildren(el("div", { class: "threads" }, threads), this.makeMemory());
     this.mark();
     showNext(this.place);
     if (focused) (this.find(`[data-event="${CSS.escape(focused)}"]`) ?? this.find("[data-event]"))?.focus();
@@ -55,7 +55,7 @@ export class Stage {
   /** Chooses the size in which the machine is drawn; one that is `small` is not drawn large, whatever the window. */
   size() {
     const isSmall = this.place.classList.contains("small");
-    for (const [kind, is] of Object.entries(sizeClassesOf(this.shown))) this.place.classList.toggle(kind, is && !(kind === "roomy" && isSmall));
+    for (const [kind, is] of Object.entries(listSizeClasses(this.shown))) this.place.classList.toggle(kind, is && !(kind === "roomy" && isSmall));
   }
 
   /** Fits the code into the room that there is, once all that is above the machine is shown. */
@@ -85,20 +85,20 @@ export class Stage {
 
   /** Marks the events that are refused now. */
   mark() {
-    const refusedOf = (event) => this.moves.get(event)?.refused ?? null;
+    const findRefusal = (event) => this.moves.get(event)?.refused ?? null;
     const hasWords = (refused) => refused !== null && !NOTHING_LEFT.includes(refused.cause);
     for (const button of this.place.querySelectorAll("button[data-event]")) {
-      const refused = refusedOf(button.dataset.event);
+      const refused = findRefusal(button.dataset.event);
       button.setAttribute("aria-disabled", String(refused !== null));
       button.classList.toggle("refused", hasWords(refused));
     }
     for (const [thread, it] of [...this.place.querySelectorAll(".waits")].entries()) {
-      it.textContent = hasWords(refusedOf(`P${thread}`)) ? "waits for its buffer" : "";
+      it.textContent = hasWords(findRefusal(`P${thread}`)) ? "waits for its buffer" : "";
     }
   }
 
   /** Returns the button of an event, which says why the event is refused if it is. */
-  buttonOf(event, label, attributes, ...inner) {
+  makeEventButton(event, label, attributes, ...inner) {
     const clicked = () => {
       const refused = this.moves.get(event)?.refused;
       if (refused) this.refuse(event, refused);
@@ -115,40 +115,41 @@ export class Stage {
     const { state, cells, drained } = this.shown;
     const { at: place, buffer } = state.threads[thread];
     const entry = buffer?.[at - drained[thread]];
-    this.explain(kind === "b" ? notOldest(thread, entry, buffer[0]) : notNext(thread, thing.textContent, cells[thread].findLast((it) => it.at === place), buffer));
+    const next = cells[thread].findLast((it) => it.at === place);
+    this.explain(kind === "b" ? explainNotOldest(thread, entry, buffer[0]) : explainNotNext(thread, thing.textContent, next, buffer));
   }
 
   // A thread.
 
   /** Returns a thread: its code, its registers and its store buffer. */
-  threadOf(state, thread) {
-    const registers = this.registersOf(state, thread);
+  makeThread(state, thread) {
+    const registers = this.listRegisters(state, thread);
     const stacked = isStacked(this.shown, registers.length) ? ` stacked${hasLongStores(this.shown.cells) ? " long" : ""}` : "";
-    const below = [this.registerList(registers, thread), state.buffer ? this.buffer(state.buffer, thread) : null];
+    const below = [this.makeRegisterList(registers, thread), state.buffer ? this.makeBuffer(state.buffer, thread) : null];
     return el(
       "section",
-      { class: `thread ${threadClass(thread)}`, "aria-label": `Thread ${thread}` },
+      { class: `thread ${makeThreadClass(thread)}`, "aria-label": `Thread ${thread}` },
       el("h3", {}, el("span", { class: "badge-thread" }, `P${thread}`), " ", el("span", { class: "lines-in-sight" })),
-      this.code(state, thread),
+      this.makeCode(state, thread),
       el("p", { class: "waits" }),
       el("div", { class: `below${stacked}` }, below),
-      caches.isOn && state.lines ? this.lines(state.lines, thread) : null,
+      caches.isOn && state.lines ? this.makeLines(state.lines, thread) : null,
     );
   }
 
   /** Returns the code of a thread, in which the next instruction is marked. */
-  code(state, thread) {
+  makeCode(state, thread) {
     const cells = this.shown.cells[thread];
     const isEnd = cells.every((it) => it.at < state.at || it.text.endsWith(":"));
     const end = el("li", { class: isEnd ? "end reached" : "end" }, el("span", { class: "line" }, isEnd ? "at its end" : "end"));
-    const fences = this.shown.hasFences ? cells.map((it) => fenceButton(it, cells, thread, this.fence)) : [];
+    const fences = this.shown.hasFences ? cells.map((it) => makeFenceButton(it, cells, thread, this.fence)) : [];
     const first = fences.find(Boolean);
     if (first) first.tabIndex = 0;
-    return el("ol", { class: "code", "aria-label": "code" }, cells.map((it, index) => this.lineOf(it, state, thread, fences[index])), end);
+    return el("ol", { class: "code", "aria-label": "code" }, cells.map((it, index) => this.makeLine(it, state, thread, fences[index])), end);
   }
 
   /** Returns a line of code; the next instruction is a button. */
-  lineOf(cell, state, thread, fence = null) {
+  makeLine(cell, state, thread, fence = null) {
     const { tints, effect, event, before, cells, isSkipped } = this.shown;
     const isLabel = cell.text.endsWith(":");
     const isNext = cell.at === state.at && !isLabel;
@@ -159,20 +160,20 @@ export class Stage {
     const kinds = [isNext ? "next" : isBehind && "behind", isDone && "done", skipped && "skipped"];
     const key = `${thread}:${cell.at}`;
     const attributes = { class: "line", "data-key": `c:${key}${isLabel ? "l" : ""}`, "data-at": isLabel ? null : key };
-    const text = codeNodes(cell.text, tints, thread);
+    const text = renderCode(cell.text, tints, thread);
     const label = `P${thread}: carry out ${cell.text}`;
-    const line = isNext ? this.buttonOf(`P${thread}`, label, attributes, text) : el("span", attributes, text);
+    const line = isNext ? this.makeEventButton(`P${thread}`, label, attributes, text) : el("span", attributes, text);
     const marks = { "aria-current": isNext ? "step" : null, title: skipped ? "A jump has passed over it." : null };
-    return el("li", { class: kinds.filter(Boolean).join(" "), ...marks }, line, said(skipped && "skipped"), fence);
+    return el("li", { class: kinds.filter(Boolean).join(" "), ...marks }, line, makeHiddenWords(skipped && "skipped"), fence);
   }
 
   /** Returns the registers of a thread that are shown, with their words. */
-  registersOf(state, thread) {
+  listRegisters(state, thread) {
     return state.registers.filter(([name]) => this.shown.used[thread].has(name));
   }
 
   /** Returns the registers of a thread, in which changes are marked. */
-  registerList(registers, thread) {
+  makeRegisterList(registers, thread) {
     const { before, effect } = this.shown;
     const old = new Map(before.threads[thread].registers);
     const rows = registers.map(([name, word]) => {
@@ -182,16 +183,16 @@ export class Stage {
       const source = this.shown.inSource?.(name);
       const inSource = source && el("span", { class: "in-source", title: "its name in the source" }, ` ${source}`);
       const initial = isInitial && el("span", { class: "at-first", title: "its initial value: no instruction has written it yet" }, " initial");
-      return el("li", attributes, el("span", { class: "name" }, name), inSource, " ", valueOf(word), initial, said(isPut && "put"));
+      return el("li", attributes, el("span", { class: "name" }, name), inSource, " ", makeValue(word), initial, makeHiddenWords(isPut && "put"));
     });
     return el("ul", { class: "registers", "aria-label": "registers" }, rows);
   }
 
   /** Returns the queue: the newest entry on top, the oldest below, next to memory. */
-  buffer(entries, thread) {
+  makeBuffer(entries, thread) {
     const slots = Math.max(Math.min(this.shown.slots[thread], MAX_SLOTS), entries.length, 1);
     const empty = Array.from({ length: slots - entries.length }, () => el("li", { class: "slot", "aria-hidden": "true" }));
-    const full = entries.map((_, index) => el("li", {}, this.entryOf(entries, index, thread))).reverse();
+    const full = entries.map((_, index) => el("li", {}, this.makeEntry(entries, index, thread))).reverse();
     const label = entries.length ? "store buffer, the oldest entry last" : "store buffer: empty";
     const caption = el("span", { class: "caption" }, el("span", { class: "long-word" }, "store "), "buffer");
     const kind = this.shown.slots[thread] ? "buffer" : "buffer without-stores";
@@ -199,29 +200,29 @@ export class Stage {
   }
 
   /** Returns an entry of a store buffer; the oldest is a button. */
-  entryOf(entries, at, thread) {
+  makeEntry(entries, at, thread) {
     const { before, effect, tints, drained } = this.shown;
     const [name, word] = entries[at];
     const old = before.threads[thread].buffer ?? [];
     const isNew = entries.length > old.length && at === entries.length - 1;
     const isRead = effect?.thread === thread && effect.entry === at;
-    const kind = `entry ${tints.of(name)}${isNew ? " changed" : ""}${isRead ? " read" : ""}`;
+    const kind = `entry ${tints.findClass(name)}${isNew ? " changed" : ""}${isRead ? " read" : ""}`;
     const attributes = { class: kind, "data-key": `b:${thread}:${drained[thread] + at}` };
-    const inner = [el("span", { class: "name" }, name), valueOf(word), said(isRead && "read")];
+    const inner = [el("span", { class: "name" }, name), makeValue(word), makeHiddenWords(isRead && "read")];
     if (at > 0) return el("span", attributes, inner);
     const label = `P${thread}: the oldest entry, ${name}=${word}, leaves the store buffer for memory`;
-    return this.buttonOf(`D${thread}`, label, attributes, inner, el("span", { class: "drain", "aria-hidden": "true" }, "↓"));
+    return this.makeEventButton(`D${thread}`, label, attributes, inner, el("span", { class: "drain", "aria-hidden": "true" }, "↓"));
   }
 
   /** Returns the lines of a thread's cache, each a button that gives it up. */
-  lines(now, thread) {
+  makeLines(now, thread) {
     const old = new Map(this.shown.before.threads[thread].lines);
     const rows = now.map(([name, letter]) => {
-      const kind = `cacheline ${this.shown.tints.of(name)}${old.get(name) !== letter ? " changed" : ""}${letter === "I" ? " invalid" : ""}`;
+      const kind = `cacheline ${this.shown.tints.findClass(name)}${old.get(name) !== letter ? " changed" : ""}${letter === "I" ? " invalid" : ""}`;
       const label = `P${thread}: the cache gives up its line of ${name}, which is ${letter}, ${LETTERS[letter]}`;
-      const inner = [el("span", { class: "name" }, name), valueOf(letter)];
+      const inner = [el("span", { class: "name" }, name), makeValue(letter)];
       const attributes = { class: kind, title: `${letter}: ${LETTERS[letter]}. Click to give it up.` };
-      return el("li", {}, this.buttonOf(`E${thread}:${name}`, label, attributes, inner));
+      return el("li", {}, this.makeEventButton(`E${thread}:${name}`, label, attributes, inner));
     });
     return el("div", { class: "cache" }, el("span", { class: "caption" }, "cache lines"), el("ul", {}, rows));
   }
@@ -229,24 +230,24 @@ export class Stage {
   // Memory.
 
   /** Returns the words of memory. */
-  memory() {
+  makeMemory() {
     const { state } = this.shown;
     const hasLines = caches.isOn && state.threads.some((it) => it.lines);
     const title = hasLines ? "Memory, as a load finds it beyond its own buffer; own: the words of memory itself" : "Memory";
-    const words = state.content.map(([name, word]) => this.wordOf(name, word, hasLines));
+    const words = state.content.map(([name, word]) => this.makeWord(name, word, hasLines));
     return el("section", { class: "memory", "aria-label": title }, el("h3", {}, hasLines ? "memory with caches" : "memory"), el("ul", {}, words));
   }
 
   /** Returns a word of memory, in which changes are marked. */
-  wordOf(name, word, hasLines) {
+  makeWord(name, word, hasLines) {
     const { state, before, effect, tints } = this.shown;
-    const wordIn = (pairs) => new Map(pairs).get(name);
-    const isNew = word !== wordIn(before.content);
+    const findWord = (pairs) => new Map(pairs).get(name);
+    const isNew = word !== findWord(before.content);
     const isRead = effect?.location === name;
-    const kind = `word ${tints.of(name)}${isNew ? " changed" : ""}${isRead ? " read" : ""}`;
-    const isOwnNew = wordIn(state.memory) !== wordIn(before.memory);
-    const own = hasLines ? el("span", { class: `own${isOwnNew ? " changed" : ""}` }, ` own ${wordIn(state.memory)}`) : null;
-    const inner = [el("span", { class: "name" }, name), valueOf(word), own, said((isNew && "changed") || (isRead && "read"))];
+    const kind = `word ${tints.findClass(name)}${isNew ? " changed" : ""}${isRead ? " read" : ""}`;
+    const isOwnNew = findWord(state.memory) !== findWord(before.memory);
+    const own = hasLines ? el("span", { class: `own${isOwnNew ? " changed" : ""}` }, ` own ${findWord(state.memory)}`) : null;
+    const inner = [el("span", { class: "name" }, name), makeValue(word), own, makeHiddenWords((isNew && "changed") || (isRead && "read"))];
     return el("li", { class: kind, "data-key": `m:${name}` }, inner);
   }
 
@@ -254,24 +255,24 @@ export class Stage {
 
   /** Moves the words that the step between two states has moved, or back if `direction` is -1. `step` is the later of the two. */
   move(was, step, direction) {
-    const placed = (key) => this.find(`[data-key="${CSS.escape(key)}"]`);
+    const findPlaced = (key) => this.find(`[data-key="${CSS.escape(key)}"]`);
     for (const it of this.place.querySelectorAll(".entry[data-key]")) if (was.has(it.dataset.key)) settle(it, was.get(it.dataset.key));
-    for (const { from, to, word, kind } of flightsOf(step)) {
+    for (const { from, to, word, kind } of listFlights(step)) {
       const [begin, end] = direction > 0 ? [from, to] : [to, from];
-      const beginBox = was.get(begin) ?? placed(begin)?.getBoundingClientRect();
-      const endBox = placed(end)?.getBoundingClientRect() ?? was.get(end);
-      fly(this.place, beginBox, endBox, { word, kind, arrived: direction > 0 ? placed(end)?.querySelector(".value") : null });
-      if (direction > 0 && /^[mb]:/.test(from)) glow(placed(from));
+      const beginBox = was.get(begin) ?? findPlaced(begin)?.getBoundingClientRect();
+      const endBox = findPlaced(end)?.getBoundingClientRect() ?? was.get(end);
+      fly(this.place, beginBox, endBox, { word, kind, arrived: direction > 0 ? findPlaced(end)?.querySelector(".value") : null });
+      if (direction > 0 && /^[mb]:/.test(from)) glow(findPlaced(from));
     }
   }
 }
 
 /** Returns the element of a word. */
-function valueOf(word) {
+function makeValue(word) {
   return el("span", { class: "value" }, String(word));
 }
 
 /** Returns words for readers who do not see colours. */
-function said(words) {
+function makeHiddenWords(words) {
   return words ? el("span", { class: "hidden" }, ` ${words}`) : null;
 }

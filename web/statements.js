@@ -1,7 +1,8 @@
 // Reads the cells of a test: statements of the source language, instructions of x86, and their labels. Not proved.
 //
 // A `Statement` has a `kind` and, if it has one, a `register`, a `location`, a `value`, the first register of a sum (`left`), and the position that its
-// jump targets (`target`; while a thread is read that is a label). A `Value` is { number } or { register }. Registers and locations are indices.
+// jump targets (`target`; while a thread is read that is a label). A `Value` is { number } or { register }. Registers and locations are indices. A reader
+// passes on the NoTest that TokenReader throws.
 
 import { TokenReader, isReserved } from "./token_reader.js";
 import { NoTest } from "./tokens.js";

@@ -2,44 +2,48 @@
 // is refused by count can be made by a search instead.
 
 import { ask } from "./ask.js";
-import { describeCondition, questionOf } from "./condition_words.js";
-import { keyOf } from "./differences.js";
-import { button, el, plainMark, sentence } from "./dom.js";
+import { describeCondition, parseQuestion } from "./condition_words.js";
+import { makeStateKey } from "./differences.js";
+import { el, makeButton, makePlainMark, renderSentence } from "./dom.js";
 import * as guess from "./guess.js";
-import { closest, differing, missingState } from "./missing.js";
+import { countDifferences, findClosest, findMissingState } from "./missing.js";
 import { largeType } from "./preferences.js";
-import { asPrinted, leftOut, saveReport } from "./reports.js";
+import { describeLeftOut, formatReport, saveReport } from "./reports.js";
 import { Run } from "./run.js";
 import { countPrediction } from "./score.js";
-import { isTooLong, searchOffer } from "./search.js";
+import { isTooLong, makeSearchOffer } from "./search.js";
 import { SeenHere } from "./seen_here.js";
 import { Strip } from "./strip.js";
-import { codeNodes, testName, tintedSentence, tintsOf } from "./tint.js";
+import { findTints, renderCode, renderTestName, renderTintedSentence } from "./tint.js";
 import { showError, clearFault } from "./errors.js";
-import { countWords, describeVerdict, interleavedWords } from "./verdicts.js";
+import { describeBuffered, describeCount, describeInterleaved, describeVerdict } from "./verdicts.js";
 
 // How many milliseconds it may take to find which states interleaving gives.
 const MAX_MILLISECONDS = 10000;
-// Of how many states at most the list is shown as lw prints it.
+// The largest number of letters of a short note.
+const SHORT_NOTE = 64;
+// The largest number of states of a list that is shown as lw prints it.
 const MAX_PRINTED = 500;
 // The two ways in which a list is made, in words.
 const BY = {
   enumerated: ["complete (proved)", "lw went through all orders of accesses that conflict. That lists all final states and no others, which is proved."],
   searched: ["complete (proved), by a search", "lw searched the states of the machine. That lists all final states and no others, which is proved."],
 };
+const SIGNS_IN_WORDS = "/\\ and, \\/ or, ~ not";
 const SIGNS = { can: "○", yes: "✓", no: "⊘", wrong: "!" };
 const VEILED = "The answer comes when a run of yours decides it, when you have found all states, or in Watch.";
-const unmarked = () => [
-  "States are not marked, since the page's own reader ", plainMark(), " does not find as many in which the condition holds as lw counts.",
+/** Returns, as children for `el`, why states are not marked. */
+const makeUnmarkedNote = () => [
+  "States are not marked, since the page's own reader ", makePlainMark(), " does not find as many in which the condition holds as lw counts.",
 ];
 
 /** Returns the words on the reader's guess, if there is one, with the `reason` if it was wrong, and buttons that ask again and on another test. */
-function guessedWords(guessed, isSo, askAgain, reason) {
+function makeGuessWords(guessed, isSo, askAgain, reason) {
   const words = guessed === null ? "" : guessed === isSo ? "✓ As you said." : "✗ Not as you said.";
   const kind = guessed === null ? "" : guessed === isSo ? " right" : " wrong";
   const why = kind === " wrong" && reason.length ? el("span", { class: "reason" }, reason, " ") : null;
-  const surprise = button("Surprise me", () => null, { class: "link again surprise" });
-  const buttons = [button("Predict again", askAgain, { class: "link again" }), " ", surprise];
+  const surprise = makeButton("Surprise me", () => null, { class: "link again surprise" });
+  const buttons = [makeButton("Predict again", askAgain, { class: "link again" }), " ", surprise];
   return el("p", { class: `said${kind}` }, words, " ", why, buttons);
 }
 
@@ -51,18 +55,20 @@ export class States {
    * it is at another step, `onFence` if a fence is put into the test or taken out, and `onVeil` with whether the verdict is kept back. Runs are
    * shown in `runPanel`, and their graph in `graphPlace`. `firstStep` is the step at which the first run is shown: "telling", or a number. `ownOf`
    * returns the schedule that a text has of its own, or null, and `noteOf` a note on a text, given whether its outcome is allowed, or "", or null if it
-   * is to be found out which states interleaving gives. `next` is shown below the run.
+   * is to be found out which states interleaving gives. `onUnlisted` is called with the state of a link that the list does not have. `next` is shown below
+   * the run.
    */
   constructor(panel, editor, onReveal = () => null, more = {}) {
     const { why = null, runPanel = panel, graphPlace = null, firstStep = "telling", next = null, ...others } = more;
-    const { onVeil = () => null, ownOf = () => null, noteOf = () => "", onWatch = null, ...called } = others;
-    Object.assign(this, { editor, onReveal, onVeil, ownOf, noteOf, firstStep, why, onWatch });
+    const { onVeil = () => null, ownOf = () => null, noteOf = () => "", onWatch = null, onUnlisted = () => null, ...called } = others;
+    Object.assign(this, { editor, onReveal, onVeil, ownOf, noteOf, firstStep, why, onWatch, onUnlisted });
+    // `found` has the keys of the states that are found by hand, `answered` the text of which the verdict was shown.
     Object.assign(this, { report: null, isByHand: false, isSearched: false, isVeiled: false, found: new Set(), answered: null });
     this.verdict = el("div", { role: "status", tabindex: "-1", class: "verdicts" });
     this.list = el("div", { class: "list-place" });
     this.strip = new Strip(editor, { choose: (line) => this.choose(line), why });
     const onEnd = (line, program) => this.reach(line, program);
-    this.run = new Run(editor, { onEnd, truthOf: (line) => this.truthOf(line), graphPlace, ...called });
+    this.run = new Run(editor, { onEnd, truthOf: (line) => this.findTruth(line), graphPlace, ...called });
     panel.append(this.verdict, this.list, this.strip.place);
     this.here = new SeenHere(editor);
     largeType.onChange(() => this.strip.layOut());
@@ -96,7 +102,7 @@ export class States {
     this.list.replaceChildren();
     this.isSearched = search;
     if (!answer.report) return this.fail(answer, text, link, search);
-    if (guess.isAwaited(text)) this.question(answer, text, link);
+    if (guess.isAwaited(text)) this.askForGuess(answer, text, link);
     else await this.reveal(answer, link);
     return true;
   }
@@ -107,7 +113,7 @@ export class States {
     showError(answer, this.list, this.editor);
     if (answer.fault) this.verdict.replaceChildren();
     const search = () => this.ask(link, { search: true });
-    if (isSearched || isTooLong(answer)) this.list.append(searchOffer(search, this.editor.id("search-instead")));
+    if (isSearched || isTooLong(answer)) this.list.append(makeSearchOffer(search, this.editor.makeId("search-instead")));
     if (!isTooLong(answer)) return false;
     this.verdict.replaceChildren();
     this.strip.clear();
@@ -117,9 +123,9 @@ export class States {
   }
 
   /** Asks what the reader expects, and shows the machine before its run meanwhile. */
-  question(answer, text, link) {
+  askForGuess(answer, text, link) {
     this.clear();
-    guess.question(text, this.list, answer, (name) => this.editor.id(name), () => this.revealGuessed(answer, link));
+    guess.askForGuess(text, this.list, answer, (name) => this.editor.makeId(name), () => this.revealGuessed(answer, link));
     this.run.begin({}, { isLocked: true });
   }
 
@@ -142,7 +148,8 @@ export class States {
     // States that were found of another text do not count for this one.
     if (this.foundIn !== this.editor.text) Object.assign(this, { foundIn: this.editor.text, found: new Set() });
     Object.assign(this, { report, language, words, isVeiled: this.isKeptBack(this.isByHand || link?.view === "hand") });
-    this.missing = missingState(report, questionOf(this.editor.text));
+    this.missing = findMissingState(report, parseQuestion(this.editor.text));
+    this.strip.buffered = new Set();
     this.showVerdict();
     this.showNotes();
     this.here.offer(this.isByHand ? null : this.editor.text);
@@ -150,7 +157,9 @@ export class States {
     this.onReveal();
     if (this.isByHand) return this.beginByHand(link?.view === "hand" ? link : {});
     if (link?.view === "hand" && link.schedule !== undefined) return this.run.begin(link);
-    const { state = null, protocol = "mesi", run = null } = link ?? {};
+    const { state: named = null, protocol = "mesi", run = null } = link ?? {};
+    const state = named && this.findListedLine(named);
+    if (named && state === null) this.onUnlisted(named);
     const step = state ? Number(link.step) || 0 : this.firstStep;
     return this.watch(state, { step, run, protocol, isOwn: !state || link.own === "1" });
   }
@@ -158,7 +167,7 @@ export class States {
   /** Says what the list leaves out, and that its states are not marked, if that is so. */
   showNotes() {
     const { report } = this;
-    this.list.replaceChildren(leftOut(report) ?? "", report.is_marked ? "" : el("p", { class: "small" }, unmarked()));
+    this.list.replaceChildren(describeLeftOut(report) ?? "", report.is_marked ? "" : el("p", { class: "small" }, makeUnmarkedNote()));
   }
 
   /** Returns whether the verdict is kept back from a reader who looks for the states: one who was shown it on this text knows it. */
@@ -176,9 +185,9 @@ export class States {
   /** Says what the reader looks for by hand, and nothing of the answer. */
   showQuestion() {
     const { text } = this.editor;
-    const note = guess.guessOn(text) === null ? "" : "Your guess is kept. ";
-    const [question, asked] = guess.questionParts(text, this);
-    asked.append(" ", el("span", { class: "by" }, `${note}${VEILED} `), button("Show the answer", () => this.unveil(), { class: "unveil" }));
+    const note = guess.findGuess(text) === null ? "" : "Your guess is kept. ";
+    const [question, asked] = guess.makeQuestionParts(text, this);
+    asked.append(" ", el("span", { class: "by" }, `${note}${VEILED} `), makeButton("Show the answer", () => this.unveil(), { class: "unveil" }));
     this.verdict.className = "verdicts veiled";
     this.verdict.replaceChildren(question, asked);
   }
@@ -201,10 +210,10 @@ export class States {
   /** Shows the list; by hand only the words of the states that are found, and while the verdict is kept back no others: their number says a part of it. */
   showList() {
     const { report, found, isByHand, isVeiled } = this;
-    const known = report.states.filter(({ line }) => isVeiled && found.has(keyOf(line))).map((it, index) => ({ ...it, index }));
+    const known = report.states.filter(({ line }) => isVeiled && found.has(makeStateKey(line))).map((it, index) => ({ ...it, index }));
     this.strip.hide(isByHand ? found : null);
     const shown = isVeiled ? { ...report, states: known, number: known.length, positive: 0 } : report;
-    this.strip.show(shown, tintsOf(this.editor.text), this.missing);
+    this.strip.show(shown, findTints(this.editor.text), this.missing);
   }
 
   /** Shows the verdict, and how good the guess was. */
@@ -212,57 +221,66 @@ export class States {
     const { report, words } = this;
     const { text } = this.editor;
     this.answered = text;
-    const tints = tintsOf(text);
-    const guessed = guess.guessOn(text);
+    const tints = findTints(text);
+    const guessed = guess.findGuess(text);
     if (guessed !== null) countPrediction(text, guessed === words.is_so);
     const [kind, word, sentence] = describeVerdict(this.language, report, describeCondition(text));
     const [by, way] = BY[this.isSearched ? "searched" : "enumerated"];
     const note = this.noteOf(text, kind === "can" || kind === "wrong");
-    const noted = note === "" ? "" : el("p", { class: "small note" }, note ?? "…");
-    if (note === null) setTimeout(() => this.noteInterleaved(noted, report));
+    // Of an example the count is in the note, or beside the condition's if there is none; of another test the note says it.
+    const counted = el("span", { class: "by buffer-words" });
+    const said = note && el("span", { class: note.length < SHORT_NOTE ? "short" : null }, note, " ");
+    const noted = note === "" ? "" : el("p", { class: "small note" }, note === null ? "…" : [said, counted]);
+    const [place, describe] = note === null ? [noted, describeInterleaved] : [counted, describeBuffered];
+    if (this.language === "X86") setTimeout(() => this.noteInterleaved(place, report, describe));
     this.verdict.className = `verdicts ${kind}`;
     this.verdict.replaceChildren(
-      guess.wasAsked(text) ? guessedWords(guessed, words.is_so, () => this.askAgain(), this.reason()) : "",
+      guess.wasAsked(text) ? makeGuessWords(guessed, words.is_so, () => this.askAgain(), this.makeReason()) : "",
       el("p", { class: "verdict" }, el("span", { class: "sign", "aria-hidden": "true" }, SIGNS[kind]),
-        el("span", {}, el("strong", {}, word), " ", el("span", { class: "in-words", title: words.bounds }, tintedSentence(sentence, tints)))),
-      el("p", { class: "asked" }, testName(text), el("code", {}, codeNodes(report.condition, tints, null)),
-        el("span", { class: "count-words" }, ` ${countWords(report)}`), " ",
+        el("span", {}, el("strong", {}, word), " ", el("span", { class: "in-words", title: words.bounds }, renderTintedSentence(sentence, tints)))),
+      el("p", { class: "asked" }, renderTestName(text), el("code", { title: SIGNS_IN_WORDS }, renderCode(report.condition, tints, null)),
+        el("span", { class: "count-words" }, ` ${describeCount(report)}`), " ",
         el("span", { class: "by", title: way }, el("span", { class: "long-by" }, "The list is "), `${by}.`),
-        report.is_proved ? "" : [" ", el("span", { class: "by" }, "Its ticks are "), plainMark(), "."]),
+        report.is_proved ? "" : [" ", el("span", { class: "by" }, "Its ticks are "), makePlainMark(), "."], " ", note === "" ? counted : ""),
       noted,
     );
   }
 
-  /** Says in a place which states of a report of an x86 test interleaving gives, too. */
-  async noteInterleaved(place, report) {
+  /** Says in a place which states of a report of an x86 test interleaving gives, too, in words that `describe` returns; and marks the others in the list. */
+  async noteInterleaved(place, report, describe) {
     const fields = { text: this.editor.text, search: this.isSearched };
     const answer = place.isConnected && (await ask(this.editor, "interleaved", fields, { timeout: MAX_MILLISECONDS }));
-    if (answer) place.replaceChildren(...sentence(interleavedWords(report, report.left_out ? null : answer.interleaved)), " ", plainMark());
+    if (!answer || !place.isConnected) return;
+    const interleaved = report.left_out ? null : (answer.interleaved ?? null);
+    const others = interleaved && report.states.filter(({ line }) => !interleaved.includes(line)).map(({ line }) => line);
+    this.strip.markBuffered(others ?? []);
+    place.replaceChildren(...renderSentence(describe(report, interleaved)), " ", makePlainMark());
+    this.run.onDraw();
   }
 
   /** Returns in a sentence which state shows the answer, with its run, or which is missing, with why; nothing if no single state shows it. */
-  reason() {
+  makeReason() {
     const missing = this.why && this.asked === null ? this.missing : null;
-    const linked = (words, line, text, act) => {
-      const link = el("span", { class: "unbroken" }, "(", button(text, () => act(line), { class: "link" }), ").");
+    const makeLinked = (words, line, text, act) => {
+      const link = el("span", { class: "unbroken" }, "(", makeButton(text, () => act(line), { class: "link" }), ").");
       return [words, el("code", {}, line.replace(/;$/, "")), " ", link];
     };
-    if (missing !== null) return linked("No run ends in ", missing, "why not", this.why);
-    return this.asked !== null && this.onWatch ? linked("A run ends in ", this.asked, "watch it", this.onWatch) : [];
+    if (missing !== null) return makeLinked("No run ends in ", missing, "why not", this.why);
+    return this.asked !== null && this.onWatch ? makeLinked("A run ends in ", this.asked, "watch it", this.onWatch) : [];
   }
 
   /** Returns the state whose run shows what the verdict says, or else that which comes closest, or the first; undefined if there is none. */
   get telling() {
     const { states } = this.report;
-    return states.find((it) => it.index === this.words.telling) ?? closest(states, this.missing) ?? states[0];
+    return states.find((it) => it.index === this.words.telling) ?? findClosest(states, this.missing) ?? states[0];
   }
 
-  /** Returns which run is shown first, to the state of a line, if no run ends as the test asks; or null. `isOwn` says that the test has it of its own. */
-  openingWords(line, isOwn) {
+  /** Returns what is said of the run that an answer has, which is shown first: that no run ends as the test asks, or that it is an interleaving; or null. */
+  describeOpening({ state: line, isOwn, isByTurns }) {
     const { report, missing } = this;
-    if (report?.positive !== 0 || report.asked === "Required") return null;
-    const isClosest = missing !== null && differing(line, missing) === differing(closest(report.states, missing).line, missing);
-    return `No run ends as asked; ${isClosest ? "this one comes closest" : `this is the ${isOwn ? "test's own run" : "first of the list"}`}.`;
+    if (report?.positive !== 0 || report.asked === "Required") return isByTurns ? "This run is an interleaving: each store goes to memory at once." : null;
+    const isClosest = missing !== null && countDifferences(line, missing) === countDifferences(findClosest(report.states, missing).line, missing);
+    return `No run ends so; ${isClosest ? "this one comes closest" : `this is the ${isOwn ? "test's own run" : "first of the list"}`}.`;
   }
 
   /** Returns the line of a state that the condition asks about, or null if no run ends in one or states are not marked. */
@@ -276,16 +294,17 @@ export class States {
   }
 
   /**
-   * Shows a run to a state: the one that the test has of its own if that ends there, unless `isOwn` is false. With no state it is the own run, or
-   * else that to the state which shows what the verdict says.
+   * Shows a run to a state: the one that the test has of its own if that ends there, unless `isOwn` is false; of a test that has none a run by
+   * interleaving, if one ends there. With no state it is the own run, or else that to the state which shows what the verdict says.
    */
   async watch(state, { isOwn = true, ...how }) {
     const own = isOwn ? this.ownOf(this.editor.text) : null;
     const otherwise = this.telling?.line ?? null;
     if (!state && !otherwise) return this.run.clear();
     if (state || own === null) this.strip.select(state ?? otherwise);
-    const opening = state ? null : (...run) => this.openingWords(...run);
-    await this.run.show(own === null ? (state ?? otherwise) : state, { own, otherwise, opening, search: this.isSearched, ...how });
+    const opening = state ? null : (answer) => this.describeOpening(answer);
+    const isByTurns = isOwn && own === null;
+    await this.run.show(own === null ? (state ?? otherwise) : state, { own, otherwise, opening, search: this.isSearched, isByTurns, ...how });
     if (this.run.isOpen && !this.run.isByHand && this.report) this.strip.select(this.run.goal);
     return null;
   }
@@ -296,13 +315,13 @@ export class States {
   }
 
   /** Returns the words on the whole list, and the list as lw prints it; a long list is saved as a file. */
-  printed() {
+  makePrinted() {
     const { report, words } = this;
     if (!report) return [];
-    const list = report.states.length > MAX_PRINTED ? [] : [el("pre", {}, asPrinted(report))];
+    const list = report.states.length > MAX_PRINTED ? [] : [el("pre", {}, formatReport(report))];
     const first = "The first line says what the test asks (`Allowed` for `exists`, `Forbidden` for `~exists`, `Required` for `forall`)";
-    const sentences = [`${first}, and the last line the answer.`, words.bounds].map((it) => el("p", { class: "small" }, sentence(it)));
-    return [...sentences, ...list, button("Save the list as a file", () => saveReport(report))];
+    const sentences = [`${first}, and the last line the answer.`, words.bounds].map((it) => el("p", { class: "small" }, renderSentence(it)));
+    return [...sentences, ...list, makeButton("Save the list as a file", () => saveReport(report))];
   }
 
   // By hand.
@@ -337,8 +356,8 @@ export class States {
   /** Takes note of the state in which a run by hand has ended. */
   reach(line, program) {
     if (!this.report) return;
-    const key = keyOf(line);
-    const state = this.stateOf(key);
+    const key = makeStateKey(line);
+    const state = this.findState(key);
     if (!state) return this.showOther(line, program);
     const isNew = !this.found.has(key);
     this.found.add(key);
@@ -355,17 +374,25 @@ export class States {
   }
 
   /** Returns whether the condition holds in a state of the list, or null if the list has no such state or no marks. */
-  truthOf(line) {
-    return this.report ? (this.stateOf(keyOf(line))?.holds ?? null) : null;
+  findTruth(line) {
+    return this.report ? (this.findState(makeStateKey(line))?.holds ?? null) : null;
   }
 
   /** Returns the state of the list with a key, by a table that is made once for each list. */
-  stateOf(key) {
+  findState(key) {
     if (this.tableOf !== this.report) {
       this.tableOf = this.report;
-      this.byKey = new Map(this.report.states.map((it) => [keyOf(it.line), it]));
+      this.byKey = new Map(this.report.states.map((it) => [makeStateKey(it.line), it]));
     }
     return this.byKey.get(key);
+  }
+
+  /**
+   * Returns the line of the list that says the same as a line, whatever the order of its names; null if there is none, and the line itself if not all are
+   * known.
+   */
+  findListedLine(line) {
+    return this.report.left_out ? line : (this.findState(makeStateKey(line))?.line ?? null);
   }
 
   /** Says that a run has ended in a state that is not in the list, as a run of a program without its fences may. */

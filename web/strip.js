@@ -1,18 +1,18 @@
 // The list of a test's states. Few of them are columns side by side, with a row for each thing that is observed; many are rows below each
 // other (rows.js). If the reader looks for them by hand, each is shown when it is found.
 
-import { keyOf } from "./differences.js";
-import { button, el } from "./dom.js";
+import { makeStateKey } from "./differences.js";
+import { el, makeButton } from "./dom.js";
 import { largeType } from "./preferences.js";
 import { parseReportLine } from "./replays.js";
-import { namesOf } from "./reports.js";
+import { listNames } from "./reports.js";
 import { Rows } from "./rows.js";
-import { siteNode } from "./tint.js";
+import { renderSite } from "./tint.js";
 
-// Of how many states and names at most the list has columns; of how many states these are wide.
+// The largest numbers of states and names of a list in columns; the largest number of states with wide ones.
 const MAX_COLUMNS = 20;
 const MAX_NAMES = 5;
-// Of how many names at most columns are no higher than rows.
+// The largest number of names with which columns are no higher than rows.
 const FEW_NAMES = 2;
 const FEW_COLUMNS = 6;
 const FEW_IN_LARGE_TYPE = 4;
@@ -29,6 +29,7 @@ const TITLES = 6.4;
 const [WIDE_COLUMN, NARROW_COLUMN, NEVER_COLUMN] = [3, 1.85, 4.2];
 const AROUND_ROWS = 18;
 
+const BUFFERED = " Only store buffers reach it.";
 const MARKED = "in which states the condition holds";
 const NOT_PROVED = `${MARKED}: found by the page's own code, which is not proved`;
 
@@ -39,20 +40,20 @@ export class Strip {
    * what a state is that another list has not is said by `aloneWords`.
    */
   constructor(editor, { choose, why = null, name = "row", wide = null, aloneWords = "only here" }) {
-    Object.assign(this, { editor, choose, why, name, wide, aloneWords, report: null, alone: null, found: null, line: null, explained: null });
+    Object.assign(this, { editor, choose, why, name, wide, aloneWords, report: null, alone: null, buffered: new Set(), found: null, line: null, explained: null });
     this.place = el("div", { class: "states-place" });
     this.measured = new ResizeObserver(() => requestAnimationFrame(() => this.fit()));
   }
 
   /** Removes the list. */
   clear() {
-    Object.assign(this, { report: null, alone: null, found: null, line: null, explained: null, rows: null });
+    Object.assign(this, { report: null, alone: null, buffered: new Set(), found: null, line: null, explained: null, rows: null });
     this.place.replaceChildren();
   }
 
   /** Shows a report; `missing` is a state that is not in it, or null. */
   show(report, tints, missing) {
-    Object.assign(this, { report, tints, names: namesOf(report), missing, rows: null });
+    Object.assign(this, { report, tints, names: listNames(report), missing, rows: null });
     this.measured.observe(this.wide ?? this.place.parentElement ?? this.place);
     this.draw();
   }
@@ -72,7 +73,7 @@ export class Strip {
   /** Draws the list anew if it is in sight and has another width now. On a projector the list stays as it is, and the type is fitted to it. */
   fit() {
     const isIdle = !this.report || !this.place.getClientRects().length || document.documentElement.classList.contains("present");
-    if (!isIdle && this.room() !== this.drawnIn) this.draw();
+    if (!isIdle && this.measureRoom() !== this.drawnIn) this.draw();
   }
 
   /** Marks a state as chosen; none if the line is null. */
@@ -99,20 +100,29 @@ export class Strip {
     this.draw();
   }
 
+  /** Marks the states that no interleaving reaches, only store buffers. What is shown of the others stays. */
+  markBuffered(lines) {
+    this.buffered = new Set(lines);
+    if (this.rows && lines.length) this.rows.follow();
+    for (const state of this.report?.states.filter(({ line }) => this.buffered.has(line)) ?? []) {
+      this.place.querySelector(`th [data-line="${CSS.escape(state.line)}"]`)?.parentElement.replaceWith(this.makeHead(state));
+    }
+  }
+
   /** Returns whether the words of a state are shown: the reader has found it, or does not look for the states. */
   isShown({ line }) {
-    return this.found === null || this.found.has(keyOf(line));
+    return this.found === null || this.found.has(makeStateKey(line));
   }
 
   /** Returns the missing state, if it is shown as a column. */
   get ghost() {
-    return this.why && this.found === null ? this.missing : null;
+    return this.found === null ? (this.missing ?? null) : null;
   }
 
   // How it is shown.
 
   /** Returns how wide the list is as columns, and as rows. */
-  widths() {
+  measureWidths() {
     const { length } = this.report.states;
     const names = Math.max(TITLES, ...this.names.map((it) => it.length * LETTER)) + 1;
     const columns = names + length * (this.isNarrow(length) ? NARROW_COLUMN : WIDE_COLUMN) + (this.ghost ? NEVER_COLUMN : 0);
@@ -126,7 +136,7 @@ export class Strip {
   }
 
   /** Returns how wide the place of the list is, in letters of the page's size. */
-  room() {
+  measureRoom() {
     const width = (this.wide ?? this.place.parentElement)?.clientWidth || 600;
     return width / parseFloat(getComputedStyle(document.documentElement).fontSize);
   }
@@ -136,7 +146,7 @@ export class Strip {
     if (!this.report) return;
     const { states } = this.report;
     if (!states.length) return this.place.replaceChildren(this.found ? "" : el("p", { class: "small" }, "No run ends."));
-    const [room, { columns, rows }] = [this.room(), this.widths()];
+    const [room, { columns, rows }] = [this.measureRoom(), this.measureWidths()];
     this.drawnIn = room;
     const beside = room - (largeType.isOn ? LARGE_VERDICT : VERDICT);
     const isHigher = this.editor.isAlone || this.names.length > FEW_NAMES;
@@ -162,7 +172,7 @@ export class Strip {
     const focused = this.place.contains(document.activeElement) ? document.activeElement.dataset.line : null;
     const scrolled = this.place.querySelector(".wide")?.scrollLeft ?? 0;
     const showEdge = () => wide.classList.toggle("more-right", wide.scrollLeft + wide.clientWidth < wide.scrollWidth - 2);
-    const wide = el("div", { class: "wide", scroll: showEdge }, this.columns());
+    const wide = el("div", { class: "wide", scroll: showEdge }, this.makeColumns());
     this.place.replaceChildren(wide);
     wide.scrollLeft = scrolled;
     this.bringChosen(wide);
@@ -180,12 +190,12 @@ export class Strip {
   }
 
   /** Returns the table with a column for each state. */
-  columns() {
+  makeColumns() {
     const { report, names } = this;
     const { states } = report;
-    const head = el("tr", {}, el("th", { scope: "row", class: "corner" }, "state"), states.map((it) => this.headOf(it)), this.headOfGhost());
+    const head = el("tr", {}, el("th", { scope: "row", class: "corner" }, "state"), states.map((it) => this.makeHead(it)), this.makeGhostHead());
     const hasMarks = report.is_marked && report.positive > 0;
-    const body = [...names.map((name, index) => this.rowOf(name, index)), hasMarks ? this.marks() : null, this.alone?.size ? this.alones() : null];
+    const body = [...names.map((name, index) => this.makeRow(name, index)), hasMarks ? this.makeMarks() : null, this.alone?.size ? this.makeAlones() : null];
     const kind = this.isNarrow(states.length) ? "strip many" : "strip";
     const clicked = (event) => {
       const column = event.target.closest("td")?.dataset.column;
@@ -196,25 +206,27 @@ export class Strip {
   }
 
   /** Returns the classes of a column. */
-  kindOf(state) {
+  findKinds(state) {
     if (!this.isShown(state)) return "unfound";
-    const kinds = [state.holds && "holds", state.line === this.chosen && "chosen", this.alone?.has(state.line) && "alone"];
+    const { line, holds } = state;
+    const kinds = [holds && "holds", line === this.chosen && "chosen", this.alone?.has(line) && "alone", this.buffered.has(line) && "buffered"];
     return kinds.filter(Boolean).join(" ");
   }
 
   /** Returns the head of a column, which starts a run to its state. */
-  headOf(state) {
+  makeHead(state) {
     const isShown = this.isShown(state);
-    const truth = state.holds ? " The condition holds there." : "";
+    const truth = `${state.holds ? " The condition holds there." : ""}${this.buffered.has(state.line) ? BUFFERED : ""}`;
     const label = isShown ? `Watch a run to ${state.line}${truth}` : `State ${state.index + 1}, not found yet`;
-    const choose = button(String(state.index + 1), () => isShown && this.choose(state.line), {
+    const choose = makeButton(String(state.index + 1), () => isShown && this.choose(state.line), {
       class: "watch",
       "aria-label": label,
       "aria-pressed": String(state.line === this.chosen),
       "aria-disabled": isShown ? null : "true",
       "data-line": state.line,
+      title: isShown && this.buffered.has(state.line) ? BUFFERED.trim() : null,
     });
-    return el("th", { scope: "col", class: this.kindOf(state) }, choose);
+    return el("th", { scope: "col", class: this.findKinds(state) }, choose);
   }
 
   /** Returns the classes of the column of a state that no run ends in. */
@@ -223,38 +235,41 @@ export class Strip {
   }
 
   /** Returns the head of the column of a state that no run ends in; null if there is none. */
-  headOfGhost() {
+  makeGhostHead() {
     const { ghost } = this;
     if (!ghost) return null;
     const pressed = { "aria-pressed": String(ghost === this.chosen) };
     const attributes = { class: "watch", "aria-label": `No run ends in ${ghost} Why not?`, title: "No run ends this way. Why?", ...pressed };
-    return el("th", { scope: "col", class: this.kindOfGhost }, button("never", () => this.why(ghost), attributes));
+    const head = this.why ? makeButton("never", () => this.why(ghost), attributes) : el("span", { class: "watch", title: "No run ends this way." }, "never");
+    return el("th", { scope: "col", class: this.kindOfGhost }, head);
   }
 
   /** Returns a cell of each state, whose content is what `textOf` returns of it. */
-  cellsOf(textOf, kind = "") {
-    return this.report.states.map((state, index) => el("td", { class: `${kind} ${this.kindOf(state)}`, "data-column": String(index) }, textOf(state)));
+  makeCells(textOf, kind = "") {
+    return this.report.states.map((state, index) => el("td", { class: `${kind} ${this.findKinds(state)}`, "data-column": String(index) }, textOf(state)));
   }
 
   /** Returns the row of a name: its word in each state. */
-  rowOf(name, at) {
+  makeRow(name, at) {
     const { ghost } = this;
-    const word = (line) => String(parseReportLine(line)[at][1]);
-    const cells = this.cellsOf((state) => (this.isShown(state) ? word(state.line) : "·"));
-    return el("tr", {}, el("th", { scope: "row" }, siteNode(name, this.tints)), cells, ghost ? el("td", { class: this.kindOfGhost }, word(ghost)) : null);
+    const formatWord = (line) => String(parseReportLine(line)[at][1]);
+    const cells = this.makeCells((state) => (this.isShown(state) ? formatWord(state.line) : "·"));
+    const ofGhost = ghost ? el("td", { class: this.kindOfGhost }, formatWord(ghost)) : null;
+    return el("tr", {}, el("th", { scope: "row" }, renderSite(name, this.tints)), cells, ofGhost);
   }
 
   /** Returns the row that says in which states the condition holds. */
-  marks() {
-    const mark = (state) => (state.holds ? "✓" : el("span", { class: "hidden" }, "false"));
-    const cells = this.cellsOf((state) => (this.isShown(state) ? mark(state) : ""), "mark");
-    const title = el("th", { scope: "row", class: "small", title: this.report.is_proved ? MARKED : NOT_PROVED }, "condition holds");
+  makeMarks() {
+    const makeMark = (state) => (state.holds ? "✓" : el("span", { class: "hidden" }, "false"));
+    const cells = this.makeCells((state) => (this.isShown(state) ? makeMark(state) : ""), "mark");
+    const words = [el("span", { class: "long-word" }, "condition "), "holds"];
+    const title = el("th", { scope: "row", class: "small", title: this.report.is_proved ? MARKED : NOT_PROVED }, words);
     return el("tr", { class: "marks-row" }, title, cells, this.ghost ? el("td", { class: this.kindOfGhost }) : null);
   }
 
   /** Returns the row that says which states are not in another list. */
-  alones() {
+  makeAlones() {
     const title = el("th", { scope: "row", class: "small" }, this.aloneWords);
-    return el("tr", { class: "alone-row" }, title, this.cellsOf((state) => (this.alone.has(state.line) ? "+" : "")));
+    return el("tr", { class: "alone-row" }, title, this.makeCells((state) => (this.alone.has(state.line) ? "+" : "")));
   }
 }

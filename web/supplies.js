@@ -12,14 +12,20 @@ export const documents = site?.documents ?? [];
 /** The origin of a made site; null if the page has a server. */
 export const origin = site?.origin ?? null;
 
-const tables = site && unpacked(site.tables).then((bytes) => JSON.parse(new TextDecoder().decode(bytes)));
+/**
+ * The archive with the programs and the tools that a made site carries, with the name of its `file` and its `size` in words; null if there is none.
+ * @type {{file: string, size: string} | null}
+ */
+export const archive = site?.archive ?? null;
+
+const tables = site && unpack(site.tables).then((bytes) => JSON.parse(new TextDecoder().decode(bytes)));
 
 /**
- * Returns the bytes of a packed text: gzip in letters, of which the site returns the bytes.
+ * Unpacks a text of the site: letters that stand for bytes (`site.bytesOf`), which are gzip.
  * @param {string} text
  * @returns {Promise<Uint8Array>}
  */
-async function unpacked(text) {
+async function unpack(text) {
   const stream = new Blob([site.bytesOf(text)]).stream().pipeThrough(new DecompressionStream("gzip"));
   return new Uint8Array(await new Response(stream).arrayBuffer());
 }
@@ -29,7 +35,7 @@ async function unpacked(text) {
  * @param {string} name
  * @returns {Promise<object>}
  */
-export async function table(name) {
+export async function fetchTable(name) {
   return site ? (await tables)[name] : (await fetch(`${name}.json`)).json();
 }
 
@@ -37,23 +43,23 @@ export async function table(name) {
  * Yields the bytes of each module, the preferred one first.
  * @returns {AsyncGenerator<Uint8Array>}
  */
-export async function* modules() {
+export async function* fetchModules() {
   // The modules are large: the first comes while the page begins, and another is asked for only if the browser does not take the first.
   for (let at = 0; at < (site?.numberOfModules ?? 0); at += 1) {
     if (at === 0) await site.coming;
-    if (site.moduleFiles[at]) await fetchScript(site.moduleFiles[at]);
+    if (site.moduleFiles[at]) await runScript(site.moduleFiles[at]);
     while (site.modules.length <= at) await new Promise((resolve) => (site.came = resolve));
-    yield unpacked(site.modules[at]);
+    yield unpack(site.modules[at]);
   }
   if (!site) yield new Uint8Array(await (await fetch("lw.wasm")).arrayBuffer());
 }
 
 /**
- * Has the browser run a script of the site.
+ * Has the browser load a script of the site and run it. Rejects if it does not come.
  * @param {string} name
  * @returns {Promise<void>}
  */
-function fetchScript(name) {
+function runScript(name) {
   return new Promise((resolve, reject) => {
     const script = document.createElement("script");
     script.src = name;
@@ -67,7 +73,7 @@ function fetchScript(name) {
  * Returns a worker that runs worker.js. A page that was opened as a file may start one only from its own memory.
  * @returns {Promise<Worker>}
  */
-export async function newWorker() {
+export async function makeWorker() {
   if (!site) return new Worker("worker.js", { type: "module" });
   const address = URL.createObjectURL(new Blob([site.worker], { type: "text/javascript" }));
   const worker = new Worker(address);
@@ -79,7 +85,7 @@ export async function newWorker() {
  * Has the browser keep the site, if it came by a network, so that it opens without one.
  * @returns {Promise<void>}
  */
-export async function keep() {
+export async function keepSite() {
   if (!site?.isKept || !/^https?:$/.test(location.protocol) || !navigator.serviceWorker) return;
   try {
     await navigator.serviceWorker.register("offline.js");

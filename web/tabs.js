@@ -1,6 +1,6 @@
 // The tabs of the page. Watching a run and running by hand have one panel; each other tab has its own.
 
-import { byId } from "./dom.js";
+import { findById } from "./dom.js";
 
 export const VIEWS = ["states", "hand", "why", "compile", "fences"];
 const IN_RUN = ["states", "hand"];
@@ -11,8 +11,8 @@ export class Tabs {
   constructor(onChoose) {
     this.onChoose = onChoose;
     this.view = VIEWS[0];
-    for (const name of VIEWS) byId(`tab-${name}`).addEventListener("click", () => this.choose(name));
-    byId("tabs").addEventListener("keydown", (event) => this.key(event));
+    for (const name of VIEWS) findById(`tab-${name}`).addEventListener("click", () => this.choose(name));
+    findById("tabs").addEventListener("keydown", (event) => this.handleKey(event));
   }
 
   /** Returns whether the tab is one of a run. */
@@ -25,25 +25,25 @@ export class Tabs {
     this.view = view;
     document.body.dataset.view = view;
     for (const name of VIEWS) {
-      const tab = byId(`tab-${name}`);
+      const tab = findById(`tab-${name}`);
       tab.setAttribute("aria-selected", String(name === view));
       tab.tabIndex = name === view ? 0 : -1;
-      if (!IN_RUN.includes(name)) byId(name).hidden = name !== view;
+      if (!IN_RUN.includes(name)) findById(name).hidden = name !== view;
     }
-    byId("watching").hidden = !this.isOfRun;
-    byId("watching").setAttribute("aria-labelledby", `tab-${this.isOfRun ? view : IN_RUN[0]}`);
+    findById("watching").hidden = !this.isOfRun;
+    findById("watching").setAttribute("aria-labelledby", `tab-${this.isOfRun ? view : IN_RUN[0]}`);
   }
 
   /** Chooses a view as a click on its tab does. */
   choose(view) {
     this.show(view);
-    byId(`tab-${view}`).focus({ preventScroll: true });
+    findById(`tab-${view}`).focus({ preventScroll: true });
     this.onChoose(view);
   }
 
   /** Goes from tab to tab by arrows. */
-  key(event) {
-    const at = VIEWS.findIndex((it) => byId(`tab-${it}`) === event.target);
+  handleKey(event) {
+    const at = VIEWS.findIndex((it) => findById(`tab-${it}`) === event.target);
     const to = { ArrowRight: at + 1, ArrowLeft: at + VIEWS.length - 1, Home: 0, End: VIEWS.length - 1 }[event.key];
     if (to === undefined) return;
     this.choose(VIEWS[to % VIEWS.length]);

@@ -2,9 +2,9 @@
 //
 // A `Test` has a `language`, a `name`, the names of its `locations` and the `words` that these begin with, for each thread the words of
 // its `registers`, its statements (`threads`) and its cells (`columns`, each a list of tokens), the sites that are `listed`, and its
-// `quantifier` and `proposition`. A site is { location } or { thread, register }.
+// `quantifier` and `proposition`. A site is { location } or { thread, register }. A reader passes on the NoTest that TokenReader throws.
 
-import { countNodes, listSites, siteKey } from "./propositions.js";
+import { countNodes, listSites, makeSiteKey } from "./propositions.js";
 import { readThread } from "./statements.js";
 import { TokenReader } from "./token_reader.js";
 import { NoTest, parseHeading, parseTokens, skipNotes } from "./tokens.js";
@@ -27,17 +27,17 @@ export function readTest(text) {
   const test = { language, name, locations: [], listed: [] };
   const reader = new TokenReader(test, parseTokens(text, skipNotes(text, end)));
   reader.takeToken("{");
-  const initial = new Map(reader.readEntries(() => reader.readEquation(), "}").map(({ site, word }) => [siteKey(site), { site, word }]));
+  const initial = new Map(reader.readEntries(() => reader.readEquation(), "}").map(({ site, word }) => [makeSiteKey(site), { site, word }]));
   const threads = readHeader(reader);
   test.columns = readRows(reader, threads);
   if (reader.next === "locations") test.listed = readListedSites(reader);
   readCondition(reader);
   checkThreads([...[...initial.values()].map((it) => it.site), ...test.listed, ...listSites(test.proposition)], threads);
   test.threads = test.columns.map((cells) => readThread(test, cells));
-  const wordOf = (site) => initial.get(siteKey(site))?.word ?? 0;
+  const findWord = (site) => initial.get(makeSiteKey(site))?.word ?? 0;
   const registers = Array.from({ length: NUMBER_OF_REGISTERS }, (_, register) => register);
-  test.registers = test.threads.map((_, thread) => registers.map((register) => wordOf({ thread, register })));
-  test.words = test.locations.map((_, location) => wordOf({ location }));
+  test.registers = test.threads.map((_, thread) => registers.map((register) => findWord({ thread, register })));
+  test.words = test.locations.map((_, location) => findWord({ location }));
   return test;
 }
 

@@ -3,7 +3,7 @@
 
 import { el } from "./dom.js";
 import { readTest } from "./tests.js";
-import { nameOf } from "./tokens.js";
+import { parseName } from "./tokens.js";
 import { FENCES, KEYWORDS, REGISTER } from "./words.js";
 
 // The number of colours, and the locations that have the same colour in every test.
@@ -25,7 +25,7 @@ class Tints {
    * @param {string} name
    * @returns {string}
    */
-  of(name) {
+  findClass(name) {
     return this.numbers.has(name) ? `loc loc-${this.numbers.get(name)}` : "";
   }
 }
@@ -35,7 +35,7 @@ class Tints {
  * @param {number | string} thread
  * @returns {string}
  */
-export function threadClass(thread) {
+export function makeThreadClass(thread) {
   return `thr thr-${thread}`;
 }
 
@@ -46,7 +46,7 @@ let last = { text: null, tints: new Tints([]) };
  * @param {string} text
  * @returns {Tints}
  */
-export function tintsOf(text) {
+export function findTints(text) {
   if (text === last.text) return last.tints;
   try {
     last = { text, tints: new Tints(readTest(text).locations) };
@@ -62,9 +62,9 @@ export function tintsOf(text) {
  * @param {Tints} tints
  * @returns {Element}
  */
-export function siteNode(name, tints) {
+export function renderSite(name, tints) {
   const thread = /^(\d):/.exec(name)?.[1];
-  return el("span", { class: thread === undefined ? tints.of(name) : threadClass(thread) }, name);
+  return el("span", { class: thread === undefined ? tints.findClass(name) : makeThreadClass(thread) }, name);
 }
 
 /**
@@ -72,8 +72,8 @@ export function siteNode(name, tints) {
  * @param {string} text
  * @returns {Element}
  */
-export function testName(text) {
-  return el("b", { class: "test-name" }, `${nameOf(text)} `);
+export function renderTestName(text) {
+  return el("b", { class: "test-name" }, `${parseName(text)} `);
 }
 
 /**
@@ -83,22 +83,23 @@ export function testName(text) {
  * @param {number | string | null} thread
  * @returns {(Node | string)[]}
  */
-export function codeNodes(text, tints, thread) {
-  return [...text.matchAll(TOKEN)].map(([it]) => nodeOf(it, tints, thread));
+export function renderCode(text, tints, thread) {
+  return [...text.matchAll(TOKEN)].map(([it]) => renderToken(it, tints, thread));
 }
 
 /** Returns a token in the colour of its thread or location. */
-function nodeOf(token, tints, thread) {
+function renderToken(token, tints, thread) {
   const observed = /^(\d):([A-Za-z]\w*)$/.exec(token);
-  if (observed) return el("span", { class: threadClass(observed[1]) }, token);
+  if (observed) return el("span", { class: makeThreadClass(observed[1]) }, token);
   if (/^\s|^[^\w$]/.test(token)) return token;
-  if (REGISTER.test(token)) return thread === null ? token : el("span", { class: threadClass(thread) }, token);
+  if (REGISTER.test(token)) return thread === null ? token : el("span", { class: makeThreadClass(thread) }, token);
   // A location may be called as an instruction of the other language: `lock` of a source test.
-  const kind = tints.of(token);
+  const kind = tints.findClass(token);
   if (kind) return el("span", { class: kind }, token);
   if (FENCES.test(token)) return el("span", { class: "fencing" }, token);
   if (KEYWORDS.test(token) || token === "SRC" || token === "X86") return el("span", { class: "keyword" }, token);
-  return /^\$?\d/.test(token) ? el("span", { class: "number" }, token) : token;
+  const title = token[0] === "$" ? `the number ${token.slice(1)} itself` : null;
+  return /^\$?\d/.test(token) ? el("span", { class: "number", title }, token) : token;
 }
 
 /**
@@ -107,7 +108,7 @@ function nodeOf(token, tints, thread) {
  * @param {Tints} tints
  * @returns {(Node | string)[]}
  */
-export function textNodes(text, tints) {
+export function renderText(text, tints) {
   if (text.length > MAX_COLOURED) return [text];
   const nodes = [];
   let [depth, thread, isHead] = [0, null, false];
@@ -120,13 +121,13 @@ export function textNodes(text, tints) {
     }
     if (/^P\d$/.test(token)) {
       [thread, isHead] = [Number(token[1]), true];
-      nodes.push(el("span", { class: `head ${threadClass(thread)}` }, token));
+      nodes.push(el("span", { class: `head ${makeThreadClass(thread)}` }, token));
       continue;
     }
     if (thread !== null && token === "|") thread += 1;
     if (thread !== null && token === ";") [thread, isHead] = [0, false];
     if (!isHead && /^(?:exists|forall|locations|filter)$/.test(token)) thread = null;
-    nodes.push(token === "|" || token === ";" ? el("span", { class: "bar" }, token) : nodeOf(token, tints, thread));
+    nodes.push(token === "|" || token === ";" ? el("span", { class: "bar" }, token) : renderToken(token, tints, thread));
   }
   return nodes;
 }
@@ -137,10 +138,10 @@ export function textNodes(text, tints) {
  * @param {Tints} tints
  * @returns {(Node | string)[]}
  */
-export function tintedSentence(text, tints) {
+export function renderTintedSentence(text, tints) {
   const thread = /^P(\d)/.exec(text)?.[1] ?? null;
   return text.split("`").flatMap((part, index) => {
-    if (index % 2) return [el("code", {}, codeNodes(part, tints, thread))];
-    return part.split(/\b(P\d)\b/).map((it, odd) => (odd % 2 ? el("b", { class: threadClass(it[1]) }, it) : it));
+    if (index % 2) return [el("code", {}, renderCode(part, tints, thread))];
+    return part.split(/\b(P\d)\b/).map((it, odd) => (odd % 2 ? el("b", { class: makeThreadClass(it[1]) }, it) : it));
   });
 }

@@ -23,7 +23,7 @@ const SHOWING = { "Allowed Ok": true, "Forbidden No": true, "Required No": false
  * @param {Report} report
  * @returns {{question: string, is_so: boolean, bounds: string, telling: number | null}}
  */
-export function verdictOf(language, report) {
+export function describeReport(language, report) {
   const { asked, verdict } = report;
   const shows = SHOWING[`${asked} ${verdict}`];
   const telling = shows === undefined || !report.is_marked ? undefined : report.states.find((it) => it.holds === shows);
@@ -43,13 +43,14 @@ export function verdictOf(language, report) {
  * @param {string | null} [condition]
  * @returns {[string, string, string]}
  */
-export function describeVerdict(language, { asked, verdict }, condition = null) {
+export function describeVerdict(language, { asked, verdict, positive }, condition = null) {
   const isOk = verdict === "Ok";
   const runs = language === "SRC" ? " by interleaving" : "";
   const words = condition ?? "the condition holds";
   const some = `There is a run${runs} in which ${words}.`;
   const none = `There is no run${runs} in which ${words}.`;
   if (asked === "Required" && isOk) return ["yes", "Always.", `In every run${runs} ${words}.`];
+  if (asked === "Required" && !positive) return ["no", "Never.", `${none.slice(0, -1)}; the test requires that of every run.`];
   if (asked === "Required") return ["no", "Not always.", `Not in every run${runs} ${words}.`];
   if (asked === "Forbidden") return isOk ? ["no", "Forbidden.", none] : ["wrong", "Allowed.", `${some.slice(0, -1)}; the test forbids that.`];
   return isOk ? ["can", "Allowed.", some] : ["no", "Forbidden.", none];
@@ -60,13 +61,14 @@ export function describeVerdict(language, { asked, verdict }, condition = null) 
  * @param {Report} report
  * @returns {string}
  */
-export function countWords({ positive, number }) {
+export function describeCount({ positive, number }) {
   if (number === 1) return `The condition ${positive ? "holds" : "does not hold"} in the only final state.`;
-  const format = (it) => it.toLocaleString("en");
-  return `The condition holds in ${positive === number ? "all" : positive ? `${format(positive)} of` : "none of"} ${format(number)} final states.`;
+  const formatNumber = (it) => it.toLocaleString("en");
+  return `The condition holds in ${positive === number ? "all" : positive ? `${formatNumber(positive)} of` : "none of"} ${formatNumber(number)} final states.`;
 }
 
-// Of how many states that interleaving does not give a sentence has the lines at most.
+const NOT_KNOWN = "Which of these states interleaving gives is not known: the list that would say so is refused.";
+// The largest number of states that interleaving does not give whose lines a sentence has.
 const MAX_LINES = 3;
 
 /**
@@ -75,12 +77,26 @@ const MAX_LINES = 3;
  * @param {string[] | null} interleaved
  * @returns {string}
  */
-export function interleavedWords({ states, number }, interleaved) {
-  if (!interleaved) return "Which of these states interleaving gives is not known: the list that would say so is refused.";
+export function describeInterleaved({ states, number }, interleaved) {
+  if (!interleaved) return NOT_KNOWN;
   const lines = new Set(interleaved);
   const others = states.filter(({ line }) => !lines.has(line)).map(({ line }) => `\`${line.replace(/;$/, "")}\``);
-  if (!others.length) return `Of what the question names, interleaving gives the same state${number === 1 ? "" : "s"}: store buffers add none.`;
+  if (!others.length) return `Interleaving gives ${number === 1 ? "the only state" : `all ${number.toLocaleString("en")} states`}, too: store buffers add none in what the question names.`;
   const rest = others.length - MAX_LINES;
-  const more = rest > 0 ? `, and ${rest} other${rest === 1 ? "" : "s"}` : "";
-  return `Interleaving gives ${lines.size} of the ${number} states. Only with store buffers: ${others.slice(0, MAX_LINES).join(", ")}${more}.`;
+  const more = rest > 0 ? ` · and ${rest} other${rest === 1 ? "" : "s"}` : "";
+  return `Interleaving gives ${lines.size} of the ${number} states. Only with store buffers (◆): ${others.slice(0, MAX_LINES).join(" · ")}${more}.`;
+}
+
+/**
+ * Returns a sentence that says how many states of an x86 test interleaving does not give, given the lines of those that it gives; null if they are not
+ * known.
+ * @param {Report} report
+ * @param {string[] | null} interleaved
+ * @returns {string}
+ */
+export function describeBuffered({ number }, interleaved) {
+  if (!interleaved) return NOT_KNOWN;
+  const others = number - interleaved.length;
+  if (others) return `◆ ${others.toLocaleString("en")} of ${number.toLocaleString("en")} only by store buffers.`;
+  return `Interleaving gives ${number === 1 ? "the only state" : `all ${number.toLocaleString("en")} states`}, too.`;
 }

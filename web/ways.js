@@ -1,9 +1,9 @@
 // The two ways to an answer: by the module in this browser, or by the program on this machine, which the server of the page runs. Both
 // are asked by the same code, in a worker.
 
-import { compiled } from "./module.js";
+import { compileModule } from "./module.js";
 import { NO_SERVER } from "./served.js";
-import { hasServer, modules, newWorker } from "./supplies.js";
+import { fetchModules, hasServer, makeWorker } from "./supplies.js";
 
 const NO_MODULE =
   "This browser does not take the workbench's module: it needs WebAssembly with memories of 64 bits, which Chrome and Edge have from " +
@@ -13,17 +13,18 @@ const STALE = "The sources have changed, or the program is gone: start ./page ag
 // By hand a click is answered at once: it is enough that the program was current this number of milliseconds before.
 const RECENTLY = 2000;
 
+// The workers that answer nothing now, and when the server last said that the program is current, by `performance.now()`.
 const idle = [];
 let currentAt = -Infinity;
-const loading = load();
+const loading = loadModule();
 // One worker is made ready before it is needed. If the browser starts none, that is reported when one is needed.
-loading.then(async (module) => (module || hasServer) && idle.push(await workerOf())).catch(() => null);
+loading.then(async (module) => (module || hasServer) && idle.push(await startWorker())).catch(() => null);
 
 /** Returns the first module that the browser takes, compiled, or null. */
-async function load() {
+async function loadModule() {
   try {
-    for await (const bytes of modules()) {
-      const module = await compiled(bytes);
+    for await (const bytes of fetchModules()) {
+      const module = await compileModule(bytes);
       if (module) return module;
     }
   } catch {
@@ -32,30 +33,33 @@ async function load() {
   return null;
 }
 
-/** Returns whether the browser has a module that it takes. */
+/**
+ * Returns whether the browser has a module that it takes.
+ * @returns {Promise<boolean>}
+ */
 export async function hasModule() {
   return (await loading) !== null;
 }
 
 /** Returns the answer by the module. */
-async function byModule(question, fields, signal, onProgress) {
+async function askModule(question, fields, signal, onProgress) {
   const module = await loading;
-  return module ? byWorker({ module, question, fields }, signal, onProgress) : { error: NO_MODULE };
+  return module ? askWorker({ module, question, fields }, signal, onProgress) : { error: NO_MODULE };
 }
 
 /** Returns the answer of a worker. The signal ends it at once, with its worker. `onProgress` is called with words on how far it is. */
-async function byWorker(request, signal, onProgress) {
+async function askWorker(request, signal, onProgress) {
   if (signal.aborted) return null;
-  const worker = idle.pop() ?? (await workerOf());
-  const answer = await answerOf(worker, request, signal, onProgress);
+  const worker = idle.pop() ?? (await startWorker());
+  const answer = await awaitAnswer(worker, request, signal, onProgress);
   if (signal.aborted || worker.broken) worker.terminate();
   else idle.push(worker);
   return answer;
 }
 
-/** Starts a worker. If it breaks, `broken` says why, in place of an answer. */
-async function workerOf() {
-  const worker = await newWorker();
+/** Starts a worker, and returns it. If it breaks, its `broken` is the error that takes the place of each answer. */
+async function startWorker() {
+  const worker = await makeWorker();
   worker.onerror = ({ message }) => {
     worker.broken = { error: `The page's worker has failed: ${message ?? "it did not start"}.`, isBeyond: true };
     worker.onmessage?.({ data: worker.broken });
@@ -63,8 +67,8 @@ async function workerOf() {
   return worker;
 }
 
-/** Returns what a worker answers, or null once the signal is aborted. `onProgress` is called with how far it is. */
-function answerOf(worker, request, signal, onProgress) {
+/** Asks a worker. Returns its answer, or null once the signal is aborted. `onProgress` is called with words on how far it is. */
+function awaitAnswer(worker, request, signal, onProgress) {
   return new Promise((resolve) => {
     signal.addEventListener("abort", () => resolve(null), { once: true });
     worker.onmessage = ({ data }) => ("progress" in data ? onProgress(data.progress) : resolve(data));
@@ -81,8 +85,8 @@ function answerOf(worker, request, signal, onProgress) {
  * @param {function(string): void} onProgress
  * @returns {Promise<object | null>}
  */
-export function byServer(question, fields, signal, onProgress) {
-  return unlessStale(question, byWorker({ module: null, question, fields }, signal, onProgress), signal);
+export function askServer(question, fields, signal, onProgress) {
+  return refuseStale(question, askWorker({ module: null, question, fields }, signal, onProgress), signal);
 }
 
 /**
@@ -93,17 +97,17 @@ export function byServer(question, fields, signal, onProgress) {
  * @param {function(string): void} onProgress
  * @returns {Promise<object | null>}
  */
-export async function byBest(question, fields, signal, onProgress) {
-  if (!hasServer) return byModule(question, fields, signal, onProgress);
-  if (!(await hasModule())) return byServer(question, fields, signal, onProgress);
-  const answer = await unlessStale(question, byModule(question, fields, signal, onProgress), signal);
+export async function askBest(question, fields, signal, onProgress) {
+  if (!hasServer) return askModule(question, fields, signal, onProgress);
+  if (!(await hasModule())) return askServer(question, fields, signal, onProgress);
+  const answer = await refuseStale(question, askModule(question, fields, signal, onProgress), signal);
   if (!answer?.isBeyond) return answer;
-  const served = await byServer(question, fields, signal, onProgress);
+  const served = await askServer(question, fields, signal, onProgress);
   return served?.error === NO_SERVER ? answer : served;
 }
 
-/** Returns an answer, or that the sources have changed since the page was served, if the server says so. */
-async function unlessStale(question, answering, signal) {
+/** Returns the answer that a promise has; or in its place an error, if the server says that the sources have changed since it served the page. */
+async function refuseStale(question, answering, signal) {
   if (question === "moves" && performance.now() - currentAt < RECENTLY) return answering;
   const [answer, isStale] = await Promise.all([answering, isStaleBy(signal)]);
   return isStale ? { error: STALE } : answer;

@@ -2,30 +2,39 @@
 // a state in which a run ends, it draws that run.
 
 import { ask } from "./ask.js";
-import { questionOf } from "./condition_words.js";
-import { button, byId, el, plainMark, sentence } from "./dom.js";
-import { graphParts, legend, shownGraph } from "./execution_graph.js";
+import { parseQuestion } from "./condition_words.js";
+import { el, findById, makeButton, makePlainMark, renderSentence } from "./dom.js";
+import { makeGraph, makeGraphParts, makeLegend } from "./execution_graph.js";
 import * as guess from "./guess.js";
-import { missingState } from "./missing.js";
+import { findMissingState } from "./missing.js";
 import { parseReportLine } from "./replays.js";
-import { namesOf } from "./reports.js";
-import { siteNode, tintsOf } from "./tint.js";
+import { listNames } from "./reports.js";
+import { findTints, renderSite } from "./tint.js";
 import { showError } from "./errors.js";
 import { parseHeading } from "./tokens.js";
 
-const ARROWS = "Each arrow means “comes before”. ";
-const CIRCLE = "The bold ones form a cycle, so no run can end this way.";
+const ARROWS = "Each bold arrow means “comes before”. ";
+const CIRCLE = "They form a cycle, so no run can end this way.";
 // How the first line of an answer on a forbidden state begins. Words that no candidate has are `?` there, so the page names the state that was asked about.
 const FORBIDS = "x86-TSO forbids ";
+// How the answer begins if no execution has a state.
+const NO_CANDIDATE = "No candidate execution ends in ";
 const PROVED = "Proved: the list has all states. ";
+const PROVED_ALL_THE_SAME = " The list is complete (proved), so no run ends there.";
 const DRAWN = "The execution and its cycle are found by the page: ";
+// How large the first cycle or a run may be drawn, as factors of its own size, the largest first.
+const SIZES = [1.6, 1.35, 1.15, 0.95];
+// By how many pixels the column of the answers may be scrolled before that is seen.
+const SCROLLED = 8;
 // How the words on a cycle begin if it breaks the axiom of one location, for which program order always counts.
 const OF_ONE_LOCATION = "coherence";
 const RULE = "Program order counts here, but not";
+const RULE_OF_COHERENCE = "Of one location program order always counts, of two it does not";
 const RULE_OF_RUN = "By interleaving the bold arrows forbid this run. x86-TSO does not keep program order";
 const EXCEPTION =
-  " from a store to a later load: that load may read while the store waits in its buffer. It counts again if an `MFENCE` or a locked instruction " +
-  "is between them.";
+  " from a plain store to a later load, which may read while the store waits in its buffer. It counts again with an `MFENCE` or a locked instruction " +
+  "between them.";
+const OTHER_RUNS = "Another run to it may lack other fences.";
 
 /** The panel that says why a test does not end in a state. */
 export class Why {
@@ -38,6 +47,7 @@ export class Why {
     this.form = el("div", { class: "why-form" });
     this.answers = el("div", { class: "why-answers", role: "status" });
     this.place = el("div", { class: "why" }, this.form, this.answers);
+    addEventListener("resize", () => this.fitGraph());
   }
 
   /** Removes what is shown. */
@@ -56,20 +66,20 @@ export class Why {
     this.clear();
     if (!report?.states.length) return;
     this.report = report;
-    this.tints = tintsOf(this.editor.text);
-    this.missing = missingState(report, questionOf(this.editor.text));
+    this.tints = findTints(this.editor.text);
+    this.missing = findMissingState(report, parseQuestion(this.editor.text));
     this.isOfAll = this.missing === null && telling === null;
-    const state = this.missing ?? telling ?? missingState(report) ?? report.states[0].line;
+    const state = this.missing ?? telling ?? findMissingState(report) ?? report.states[0].line;
     const words = new Map(parseReportLine(state));
-    this.fields = namesOf(report).map((name) => ({ name, field: this.fieldOf(name, words.get(name)) }));
-    const fields = this.fields.map(({ name, field }) => el("label", { class: "site-field" }, siteNode(name, this.tints), "=", field));
-    const asked = button("Why not?", () => this.ask(), { class: "main why-not" });
-    const all = button("Every forbidden state", () => this.answer("all"), { title: "Each state that some execution has and x86-TSO forbids" });
+    this.fields = listNames(report).map((name) => ({ name, field: this.makeField(name, words.get(name)) }));
+    const fields = this.fields.map(({ name, field }) => el("label", { class: "site-field" }, renderSite(name, this.tints), "=", field));
+    const asked = makeButton("Why not?", () => this.ask(), { class: "main why-not" });
+    const all = makeButton("Every forbidden state", () => this.answer("all"), { title: "Each state that some execution has and x86-TSO forbids" });
     this.form.append(el("span", {}, "Does a run end in"), ...fields, el("span", {}, "? If none does:"), asked, all);
   }
 
   /** Returns the field for the word of a name. */
-  fieldOf(name, word) {
+  makeField(name, word) {
     const enter = (event) => event.key === "Enter" && this.ask();
     return el("input", { type: "text", inputmode: "numeric", value: word ?? "", size: "3", "aria-label": name, keydown: enter });
   }
@@ -119,61 +129,82 @@ export class Why {
     if (!answer) return null;
     this.answers.replaceChildren();
     if (!answer.lines) return showError(answer, this.answers, this.editor);
-    this.answers.append(...this.partsOf(answer, parseHeading(text).language === "SRC"));
+    this.answers.append(...this.makeParts(answer, parseHeading(text).language === "SRC"));
     return this.bringIntoSight();
   }
 
-  /** Scrolls the column of the answers as far as the cycles need to be in sight, in a window in which the column is scrolled by itself. */
+  /** Draws the first cycle, or a run, as large as the column of the answers has room for, in a window in which the column is scrolled by itself. */
+  fitGraph() {
+    const column = findById("answers");
+    this.place.style.removeProperty("--of-why");
+    if (!this.place.offsetParent || getComputedStyle(column).overflowY !== "auto") return;
+    SIZES.find((size) => {
+      this.place.style.setProperty("--of-why", String(size));
+      return column.scrollHeight <= column.clientHeight;
+    });
+  }
+
+  /**
+   * Scrolls the column of the answers as far as the cycles need to be in sight, in a window in which the column is scrolled by itself. If that cuts the
+   * verdict, it scrolls to the tabs below it, or not at all.
+   */
   bringIntoSight() {
+    this.fitGraph();
     const drawn = this.answers.querySelector(".why-drawn, .why-run");
-    if (drawn && getComputedStyle(byId("answers")).overflowY === "auto") drawn.scrollIntoView({ block: "nearest" });
+    const [column, tabs] = [findById("answers"), findById("tabs")];
+    if (!drawn || getComputedStyle(column).overflowY !== "auto") return;
+    drawn.scrollIntoView({ block: "nearest" });
+    const isCut = () => column.scrollTop > SCROLLED && tabs.getBoundingClientRect().top > column.getBoundingClientRect().top + 1;
+    if (isCut()) tabs.scrollIntoView();
+    if (isCut()) column.scrollTop = 0;
   }
 
   /** Says that a run ends in a state, and draws that run. */
   async answerAllowed(state) {
     const { text } = this.editor;
-    const watched = button("Watch that run", () => this.watch(state), { class: "main watch-allowed" });
-    const head = el("p", { class: "why-head" }, el("b", {}, "A run ends in this state: "), el("code", {}, state), " ", watched);
+    const watched = makeButton("Watch that run", () => this.watch(state), { class: "main watch-allowed" });
+    const head = el("p", { class: "why-head" }, el("b", {}, "A run ends in this state: "), el("code", {}, state), " ", watched, " ", el("span", { class: "small" }, OTHER_RUNS));
     const drawn = el("div", { class: "why-run" });
     this.answers.append(head, drawn);
     const film = await ask(this.editor, "film", { text, state, protocol: "mesi" }, { place: drawn, name: "the run to the state" });
     if (!film?.films || this.askedOf !== state) return;
     const answer = await ask(this.editor, "graph", { text, schedule: film.schedule }, { place: drawn, name: "the graph of that run" });
     if (!answer || this.askedOf !== state) return;
-    drawn.replaceChildren(...(answer.graph ? [...graphParts(answer, this.tints), answer.hasCycle ? ruleNote(RULE_OF_RUN) : ""] : []));
+    drawn.replaceChildren(...(answer.graph ? [...makeGraphParts(answer, this.tints), answer.hasCycle ? makeRuleNote(RULE_OF_RUN) : ""] : []));
     this.bringIntoSight();
   }
 
   /** Returns why the cycles that are drawn forbid a state; of several, how many there are. */
-  cyclesWords(lines, drawn) {
+  describeCycles(lines, drawn) {
     const number = countCycles(lines);
     if (number < 2 || this.askedOf === "all") return CIRCLE;
-    const shown = number > drawn.length ? `, of which ${drawn.length} are drawn` : "";
+    const shown = number > drawn.length ? `, of which ${drawn.length} ${drawn.length === 1 ? "is" : "are"} drawn` : "";
     return `Whatever way a run took to this state, it would have one of ${number} cycles${shown}. So no run can end this way.`;
   }
 
   /** Returns the parts of an answer: the sentence, the pictures of cycles, and all in words. */
-  partsOf({ lines, cycles }, isSource) {
-    const drawn = cycles.map((it) => el("figure", {}, shownGraph(it.graph, this.tints).graph, captionOf(it)));
+  makeParts({ lines, cycles }, isSource) {
+    const drawn = cycles.map((it) => el("figure", {}, makeGraph(it.graph, this.tints).graph, makeCaption(it)));
     const inWords = el("details", { open: !drawn.length && lines.length > 1 }, el("summary", {}, "In words"), el("pre", {}, lines.join("\n")));
-    const head = this.headOf(lines, isSource);
+    const head = this.makeHead(lines, isSource);
     if (!drawn.length) return [head, lines.length > 1 ? inWords : ""];
-    const isOfOrder = cycles.some(({ words }) => !words.includes(OF_ONE_LOCATION));
-    const explained = el("p", { class: "small" }, ARROWS, this.cyclesWords(lines, drawn));
-    const notes = el("div", { class: "why-notes" }, explained, legend(...drawn), isOfOrder && ruleNote(RULE));
+    const rule = cycles.some(({ words }) => words.includes(OF_ONE_LOCATION)) ? RULE_OF_COHERENCE : RULE;
+    const explained = el("p", { class: "small" }, ARROWS, this.describeCycles(lines, drawn));
+    const notes = el("div", { class: "why-notes" }, explained, makeLegend(...drawn), makeRuleNote(rule));
     const [first, ...others] = drawn;
     const folded = others.length ? el("details", {}, el("summary", {}, `${others.length} more drawn`), el("div", { class: "figures" }, others)) : "";
     return [head, el("div", { class: "why-drawn" }, el("div", { class: "figures" }, first), notes), folded, inWords];
   }
 
   /** Returns the sentence of an answer. That a state is forbidden is proved if the whole list is shown: it lacks the state. */
-  headOf(lines, isSource) {
+  makeHead(lines, isSource) {
     const of = isSource ? "Of the compiled program, with the source's names: " : "";
     const states = lines.filter((it) => it.startsWith(FORBIDS));
     const isOfOne = states.length > 0 && this.askedOf !== "all";
-    const isProved = isOfOne && !this.report.left_out;
+    const isWhole = !this.report.left_out;
+    const hasNone = lines[0].startsWith(NO_CANDIDATE);
     const words = isOfOne ? FORBIDS + this.askedOf : states.length ? describeForbidden(states) : lines[0];
-    return el("p", { class: "why-head" }, of, el("b", {}, words), " ", isProved ? el("span", { class: "by" }, PROVED) : plainMark());
+    return el("p", { class: "why-head" }, of, el("b", {}, words), " ", isOfOne && isWhole ? el("span", { class: "by" }, PROVED) : makePlainMark(), hasNone && isWhole && PROVED_ALL_THE_SAME);
   }
 }
 
@@ -187,8 +218,8 @@ function describeForbidden(lines) {
 }
 
 /** Returns the caption of a cycle that is drawn: its words, why it teaches little, if it does, and what is not proved of the picture. */
-function captionOf({ words, kind }) {
-  return el("figcaption", {}, el("span", { class: "cycle-words" }, words), kind && el("span", { class: "kind" }, kind), el("span", {}, DRAWN, plainMark()));
+function makeCaption({ words, kind }) {
+  return el("figcaption", {}, el("span", { class: "cycle-words" }, words), kind && el("span", { class: "kind" }, kind), el("span", {}, DRAWN, makePlainMark()));
 }
 
 /** Returns how many cycles the lines of an answer name, and how many more they count. */
@@ -198,6 +229,6 @@ function countCycles(lines) {
 }
 
 /** Returns a note on which program order counts, which begins with a rule. */
-function ruleNote(rule) {
-  return el("p", { class: "rule small" }, sentence(rule + EXCEPTION));
+function makeRuleNote(rule) {
+  return el("p", { class: "rule small" }, renderSentence(rule + EXCEPTION));
 }

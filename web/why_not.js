@@ -4,10 +4,10 @@
 // A `Way` in which the axioms forbid a state has the `axiom`, its `cycle` in letters, the `events` of the cycle in words, how many `times` an execution
 // violates the axiom so, the clearest such `execution` with its `violation`, and its `kinds`, the sentences on why it teaches little.
 
-import { TooMany, listCandidates, threadOf } from "./executions.js";
+import { TooMany, findThread, listCandidates } from "./executions.js";
 import { Names, drawExecution, formatWord } from "./graphs.js";
 import { NoAnswer } from "./program.js";
-import { formatSite, listObservedSites, readWord, siteKey } from "./propositions.js";
+import { formatSite, listObservedSites, makeSiteKey, readWord } from "./propositions.js";
 import { WORD } from "./token_reader.js";
 
 const MAX_EXECUTIONS = 400000;
@@ -37,7 +37,7 @@ function parseState(test, line) {
   if (!isWhole || pairs.length !== names.length || !names.every((name) => words.has(name))) {
     throw new NoAnswer(`The test shows ${names.map((it) => `${it}=..;`).join(" ")}, and the state has to name these.`);
   }
-  return new Map(sites.map((site, index) => [siteKey(site), words.get(names[index])]));
+  return new Map(sites.map((site, index) => [makeSiteKey(site), words.get(names[index])]));
 }
 
 /** Returns the constants of a test: the words that its code and its initial block have. */
@@ -64,19 +64,19 @@ function listDrawbacks(execution, cycle, constants) {
 }
 
 /** Returns how little a way teaches about buffers and fences. */
-function weightOf({ kinds }) {
+function computeWeight({ kinds }) {
   return kinds.reduce((sum, it) => sum + WEIGHTS.get(it), 0);
 }
 
 /** Counts the execution of another object of the same way, and takes it in place of this one's if it is clearer. */
-function addTo(way, other) {
+function addExecution(way, other) {
   way.times += 1;
-  if (weightOf(other) < weightOf(way)) Object.assign(way, { execution: other.execution, violation: other.violation, kinds: other.kinds });
+  if (computeWeight(other) < computeWeight(way)) Object.assign(way, { execution: other.execution, violation: other.violation, kinds: other.kinds });
 }
 
 /**
  * Returns the states that the axioms allow, and those that they forbid: each of these with the `ways` in which its candidate executions break an
- * axiom, by their keys. If `wanted` has words, other states are left out.
+ * axiom, by their keys. If `wanted` has words, other states are left out. Throws TooMany if there are too many candidates.
  * @param {Test} test
  * @param {Map<string, number> | null} wanted
  * @returns {{allowed: Set<string>, forbidden: {words: number[], ways: Map<string, Way>}[]}}
@@ -86,7 +86,7 @@ function listForbiddenStates(test, wanted) {
   for (const execution of listCandidates(test, MAX_EXECUTIONS)) {
     const outcome = execution.makeOutcome();
     const words = sites.map((site) => readWord(site, outcome) ?? null);
-    const isOther = (word, index) => word !== null && word !== wanted.get(siteKey(sites[index]));
+    const isOther = (word, index) => word !== null && word !== wanted.get(makeSiteKey(sites[index]));
     if (allowed.has(String(words)) || (wanted && words.some(isOther))) continue;
     const violation = execution.findBrokenAxiom();
     if (!violation) {
@@ -101,7 +101,7 @@ function listForbiddenStates(test, wanted) {
     const { ways } = forbidden.get(String(words)) ?? forbidden.set(String(words), { words, ways: new Map() }).get(String(words));
     const key = JSON.stringify([way.axiom, way.cycle, events]);
     if (!ways.has(key)) ways.set(key, way);
-    addTo(ways.get(key), way);
+    addExecution(ways.get(key), way);
   }
   return { allowed, forbidden: [...forbidden.values()] };
 }
@@ -129,8 +129,8 @@ function explainState(test, { words, ways }) {
 
 /** Returns what orders the ways of a state: the clearest are first, then those of several threads, the shortest, and the most frequent. */
 function makeRank(way) {
-  const isOfOneThread = new Set(way.violation.cycle.map((it) => threadOf(it.source))).size === 1;
-  return [weightOf(way), Number(isOfOneThread), way.events.length, -way.times];
+  const isOfOneThread = new Set(way.violation.cycle.map((it) => findThread(it.source))).size === 1;
+  return [computeWeight(way), Number(isOfOneThread), way.events.length, -way.times];
 }
 
 /** Compares two rows of numbers by the first ones that differ. */
@@ -145,15 +145,15 @@ function compareRows(one, other) {
  * @returns {{words: number[], ways: Way[]}[]}
  */
 function sortForbiddenStates(forbidden) {
-  const key = ({ words }) => words.map((word) => word ?? WORD);
-  const compareWords = (a, b) => compareRows(key(a), key(b));
+  const makeKey = ({ words }) => words.map((word) => word ?? WORD);
+  const compareWords = (a, b) => compareRows(makeKey(a), makeKey(b));
   const compareWays = (a, b) => compareRows(makeRank(a), makeRank(b));
   return forbidden.sort(compareWords).map(({ words, ways }) => ({ words, ways: [...ways.values()].sort(compareWays) }));
 }
 
 /**
  * Returns the lines that say why a test does not end in a state, or in each that some candidate has (`all`); and the clearest `cycles`, each as a
- * graph with its words, and with the sentences on why it teaches little, if it does (`kind`).
+ * graph with its words, and with the sentences on why it teaches little, if it does (`kind`). Throws NoAnswer as `parseState` does.
  * @param {Test} test
  * @param {string} state
  * @returns {{lines: string[], cycles: {graph: string, words: string, kind: string}[]}}
@@ -176,8 +176,8 @@ export function explainStates(test, state) {
   }
   const states = sortForbiddenStates(byAxioms.forbidden);
   const allWays = states.flatMap(({ words, ways }) => ways.map((it) => ({ ...it, line: wanted ? "" : `${formatState(test, words)} ` })));
-  const least = Math.min(...states.map(({ ways }) => weightOf(ways[0])));
-  const drawn = allWays.filter((it) => weightOf(it) === least).slice(0, MAX_DRAWN);
+  const least = Math.min(...states.map(({ ways }) => computeWeight(ways[0])));
+  const drawn = allWays.filter((it) => computeWeight(it) === least).slice(0, MAX_DRAWN);
   const cycles = drawn.map(({ execution, violation, cycle, axiom, kinds, line }) => {
     return { graph: drawExecution(execution, `${test.name}: ${cycle}`, violation), words: `${line}${axiom}: ${cycle}`, kind: kinds.join(" ") };
   });

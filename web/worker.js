@@ -4,13 +4,13 @@
 
 import { Workbench } from "./module.js";
 import { Program } from "./program.js";
-import { answerTo } from "./questions.js";
+import { answerQuestion } from "./questions.js";
 import { Served } from "./served.js";
 
 let byModule = null;
 
 /** Returns the program that answers. There is one module for all questions, and it stays the same; that on this machine may not. */
-function programOf(module) {
+function findProgram(module) {
   if (!module) return new Program(new Served());
   byModule ??= new Program(new Workbench(module));
   return byModule;
@@ -19,7 +19,7 @@ function programOf(module) {
 /** Returns the answer to a question, or an error if the module fails. */
 function answer({ module, question, fields }) {
   try {
-    return answerTo(programOf(module), question, fields, (progress) => postMessage({ progress }));
+    return answerQuestion(findProgram(module), question, fields, (progress) => postMessage({ progress }));
   } catch (error) {
     return { error: `The page failed: ${error}.`, isBeyond: true };
   }
