@@ -147,6 +147,15 @@ class Explained(PageCase):
         user.find("#graph-place svg.graph")
         self.assertIn("rfi", user.run(LEGEND, "#graph-place")[0])
 
+    def test_names(self) -> None:
+        """The name of an arrow in a graph is explained where it is drawn, in the words of the legend."""
+        user = self.user
+        user.open_listed("#example=SB-x86")
+        user.find("#graph-place svg.graph")
+        names = user.run("return [...document.querySelectorAll('#graph-place svg.graph g > title')].map((it) => [it.textContent, it.nextSibling.textContent])")
+        self.assertIn(["fr: read before it is overwritten", "fr"], names)
+        self.assertEqual([], [it for it in names if not it[0].startswith(f"{it[1]}: ")])
+
     def test_one_line(self) -> None:
         """Relations with equal lines are explained together, and the line is shown once."""
         user = self.user

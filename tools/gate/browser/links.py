@@ -52,6 +52,8 @@ class Links(PageCase):
         user.open_listed("#example=SB+mfences-x86")
         self.assertEqual("SB+mfences-x86", user.text("#example-name"))
         self.assertEqual([], user.all("#unknown p"))
+        user.open_listed("##example=MP-x86")
+        self.assertEqual("MP-x86", user.text("#example-name"))
         user.open("#example=SB-x86&beside=SB+mfences-x86")
         self.assertSoon(["SB-x86", "SB+mfences-x86"], lambda: user.texts(".side h2"))
         user.open_listed("#example=SB-ARM")
@@ -68,6 +70,49 @@ class Links(PageCase):
         user.open_listed("#example=SB-x86&beside=sb")
         user.click("#unknown .link")
         self.assertSoon(["SB-x86", "SB"], lambda: user.texts(".side h2"))
+
+    def test_nothing_opened(self) -> None:
+        """A link that opens no test says so, with what it could not open, and offers the example that it seems to name."""
+        user = self.user
+        for link, words in (
+            ("#test=SB", "This link opens no test by #test=SB. Did you mean SB?"),
+            ("#mp-x86", "This link opens no test by #mp-x86. Did you mean MP-x86?"),
+            ("#example=", "This link opens no test by #example. A link has example= with a name, or text= with a test; SB-x86 is shown in its place."),
+            (f"#test={'X86+Mine+' * 9}", f"This link opens no test by #test={('X86 Mine ' * 9)[:40]}…. A link has"),
+        ):
+            user.open_listed(link)
+            self.assertSays(words, "#unknown")
+            self.assertEqual("SB-x86", user.text("#example-name"))
+        user.open_listed("#test=MP")
+        user.click("#unknown button")
+        self.assertSoon("MP", lambda: user.text("#example-name"))
+        user.open_listed("#example=MP&unknown=1")
+        self.assertEqual([], user.texts("#unknown p"))
+
+    def test_unlisted(self) -> None:
+        """A link to a state in which no run ends says so, in each view, and shows the run on which the test opens; the order of a state's names is free."""
+        user = self.user
+        for view, state in (("states", "garbage"), ("fences", "0:EAX=7; 1:EAX=0;")):
+            user.open_listed(f"#example=SB-x86&view={view}&state={state}")
+            self.assertSays(f"No run of this test ends in {state.rstrip(';')}. The run on which the test opens is shown in its place.", "#unknown")
+        user.click("#tab-states")
+        self.assertSoon("P0 P0 P1 P1 D0 D1", user.schedule)
+        user.open_listed("#example=SB-x86&state=1:EAX=1; 0:EAX=0;&step=2")
+        self.assertStep("Step 2 of 6:")
+        self.assertEqual([], user.texts("#unknown p"))
+        user.open_listed("#example=SB-X&state=garbage")
+        self.assertSays("There is no example named SB-X.", "#unknown")
+
+    def test_undecodable(self) -> None:
+        """A link whose text can't be decoded says so, and what is shown in its place; a text is shown whatever else can't be decoded."""
+        user = self.user
+        for text in ("%%%", "X86+A%0A%7", "X86+%E9"):
+            user.open_listed(f"#text={text}")
+            self.assertSays("The test in this link can't be decoded: a part of it may be missing. SB-x86 is shown in its place.", "#unknown")
+            self.assertEqual("SB-x86", user.text("#example-name"))
+        user.open_listed("#text=X86+A%0A%7B%7D%0A+P0+%3B%0A+MOV+[x],$1+%3B%0Aexists+(x=1)&schedule=%")
+        self.assertEqual("A", user.text("#example-name"))
+        self.assertEqual([], user.texts("#unknown p"))
 
     def test_pasted(self) -> None:
         """A link that is pasted is followed, also right after a change."""

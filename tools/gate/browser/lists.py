@@ -51,7 +51,7 @@ class FirstView(PageCase):
         user.open_listed()
         self.assertSays("No interleaving gives this: each load would", "#outcome .note")
         user.click("#present")
-        self.assertSoon([], lambda: user.all("#outcome .note"))
+        self.assertSoon([], lambda: [it for it in user.texts("#outcome .note") if "No interleaving" in it])
         user.press(user.keys.ESCAPE)
         bare = "X86 SB-x86\n{}\n P0 | P1 ;\n MOV [x],$1 | MOV [y],$1 ;\n MOV EAX,[y] | MOV EAX,[x] ;\nexists (0:EAX=0 /\\ 1:EAX=0)\n"
         for link in ("#example=SB-x86", f"#text={quote(bare)}"):
@@ -61,29 +61,53 @@ class FirstView(PageCase):
     def test_by_interleaving(self) -> None:
         """Of an x86 example with an outcome that is allowed a note says whether interleaving allows it, too; of others there is none."""
         user = self.user
-        for name, note in (
-            ("R-x86", ["No interleaving gives this: it needs store buffers."]),
+        notes: tuple[tuple[str, list[str]], ...] = (
+            ("R-x86", ["No interleaving gives this outcome."]),
             ("Peterson%2Bturnfirst-x86", ["Some interleaving gives this, too: it needs no store buffer."]),
             ("Urcu%2Bphase-x86", ["Some interleaving gives this, too: it needs no store buffer."]),
             ("MP-x86", []), ("SB", []), ("Counter-x86", []),
-        ):
+        )
+        for name, note in notes:
             user.open_listed(f"#example={name}")
-            self.assertEqual(note, user.texts("#outcome .note"), name)
+            self.assertEqual(note, [it[: len("".join(note))] for it in user.texts("#outcome .note")], name)
 
     def test_own_by_interleaving(self) -> None:
         """Of an x86 test that is no example a note says which of its states interleaving gives, too; it is marked as not proved."""
         user = self.user
         own = "X86 Mine\n{}\n P0 | P1 ;\n MOV [x],$1 | MOV [y],$1 ;\n MOV EAX,[y] | MOV EAX,[x] ;\nexists (0:EAX=0 /\\ 1:EAX=0)\n"
-        some = "Interleaving gives 3 of the 4 states. Only with store buffers: 0:EAX=0; 1:EAX=0. not proved"
-        all_of_it = "Of what the question names, interleaving gives the same states: store buffers add none. not proved"
-        the_one = "Of what the question names, interleaving gives the same state: store buffers add none. not proved"
+        some = "Interleaving gives 3 of the 4 states. Only with store buffers (◆): 0:EAX=0; 1:EAX=0. not proved"
+        all_of_it = "Interleaving gives all 3 states, too: store buffers add none in what the question names. not proved"
+        the_one = "Interleaving gives the only state, too: store buffers add none in what the question names. not proved"
         no_loads = "X86 Mine\n{}\n P0 ;\n MOV [x],$1 ;\n~exists (x=0)\n"
         fenced = own.replace(" MOV EAX", " MFENCE | MFENCE ;\n MOV EAX", 1)
-        for text, words in ((own, some), (fenced, all_of_it), (own.replace("exists", "~exists"), some), (no_loads, the_one)):
+        listed = own.replace("exists", "locations [x; y;]\nexists")
+        several = "Interleaving gives 3 of the 4 states. Only with store buffers (◆): 0:EAX=0; 1:EAX=0; x=1; y=1. not proved"
+        other = own.replace(" | P1 ;", " | P1 | P2 ;").replace("[y],$1 ;", "[y],$1 | MOV EAX,[x] ;").replace("EAX,[x] ;\nexists", "EAX,[x] | MOV EBX,[y] ;\nlocations [2:EAX; 2:EBX;]\nexists")
+        apart = "Only with store buffers (◆): 0:EAX=0; 1:EAX=0; 2:EAX=0; 2:EBX=0 · 0:EAX=0; 1:EAX=0; 2:EAX=0; 2:EBX=1 · "
+        user.open_listed(f"#text={quote(other)}")
+        self.assertSays(apart, "#outcome .note")
+        for text, words in ((own, some), (listed, several), (fenced, all_of_it), (own.replace("exists", "~exists"), some), (no_loads, the_one)):
             user.open_listed(f"#text={quote(text)}")
             self.assertSoon([words], lambda: user.texts("#outcome .note"))
         user.open_listed(f"#text={quote(read('examples/SB.litmus').replace('SRC SB', 'SRC Mine'))}")
         self.assertEqual([], user.texts("#outcome .note"))
+
+    def test_buffered(self) -> None:
+        """Of an x86 example the states that only store buffers reach are marked, and counted beside the condition; of a source test there are none."""
+        user = self.user
+        for name, words, marked in (
+            ("SB-x86", ["◆ 1 of 4 only by store buffers. not proved"], ["0:EAX=0; 1:EAX=0;"]),
+            ("MP-x86", ["Interleaving gives all 3 states, too. not proved"], []),
+            ("SB", [], []),
+        ):
+            user.open_listed(f"#example={name}")
+            self.assertSoon(words, lambda: user.texts("#outcome .buffer-words"))
+            self.assertEqual(marked, [it.get_attribute("data-line") for it in user.all("table.strip .buffered .watch")])
+        user.open_listed("#example=SB-x86&view=hand")
+        self.assertEqual([], user.all("#outcome .buffer-words"))
+        user.click("#outcome .unveil")
+        self.assertSoon(1, lambda: len(user.all("#outcome .buffer-words")))
+        self.assertEqual([], user.all("table.strip .buffered"))
 
     def test_in_sight_together(self) -> None:
         """Code, buffers, memory, verdict and list are in sight together at 1280 by 720."""
@@ -96,7 +120,7 @@ class FirstView(PageCase):
         """A line says what the page is and for whom, and another what to look at next, which is opened or set beside."""
         user = self.user
         user.open_listed()
-        self.assertIn("All states in which a small parallel program can end on x86", user.text("#what"))
+        self.assertIn("All states in which a small parallel program can end on x86-TSO", user.text("#what"))
         self.assertIn(": proved complete. For students and programmers.", user.text("#what"))
         self.assertSays("Next: the same test with fences: SB+mfences-x86, or compare both.", "#next")
         user.click("#next-test")
@@ -182,7 +206,7 @@ class Verdicts(PageCase):
         user.open_listed("#example=MP-x86")
         user.click("table.strip .never .watch")
         self.assertSays("x86-TSO forbids 1:EAX=1; 1:EBX=0;", "#why .why-head")
-        self.assertSays("The bold ones form a cycle, so no run can end this way.", "#why .why-notes")
+        self.assertSays("They form a cycle, so no run can end this way.", "#why .why-notes")
         user.open_listed("#example=Peterson%2Bmfences-x86&view=why")
         self.assertSays("it would have one of 6 cycles, of which 3 are drawn. So no run can end this way.", "#why .why-notes")
 
@@ -206,8 +230,13 @@ class Verdicts(PageCase):
         ):
             user.open_listed(f"#example={name}")
             self.assertEqual(sentence, verdict(user))
-        user.run_text("SRC Or\n{}\n P0 | P1 ;\n x := 1 | r0 := x ;\nforall (1:r0=0 \\/ 1:r0=1)\n")
-        self.assertSoon("Always. In every run by interleaving P1 reads x=0, or P1 reads x=1.", lambda: verdict(user))
+        for question, sentence in (
+            ("(1:r0=0 \\/ 1:r0=1)", "Always. In every run by interleaving P1 reads x=0, or P1 reads x=1."),
+            ("(1:r0=1)", "Not always. Not in every run by interleaving P1 reads x=1."),
+            ("(1:r0=2)", "Never. There is no run by interleaving in which P1 reads x=2; the test requires that of every run."),
+        ):
+            user.run_text(f"SRC Or\n{{}}\n P0 | P1 ;\n x := 1 | r0 := x ;\nforall {question}\n")
+            self.assertSoon(sentence, lambda: verdict(user))
 
     def test_choice_is_watched(self) -> None:
         """A column is chosen by a click anywhere in it, and its run is watched."""

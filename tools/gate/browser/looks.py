@@ -334,6 +334,23 @@ class Type(PageCase):
                     user.click("#large")
 
 
+# The lines of code whose text has less than 8 pixels to the right side of its frame, or whose frame is not higher than its text.
+TOUCHING = """
+return [...document.querySelectorAll("#watching .code .next .line")].filter((line) => {
+  const range = document.createRange();
+  range.selectNodeContents(line);
+  const [text, frame] = [range.getBoundingClientRect(), line.getBoundingClientRect()];
+  return frame.right - text.right < 8 || frame.height < 1.15 * parseFloat(getComputedStyle(line).fontSize);
+}).map((it) => it.textContent);
+"""
+
+# How large the letters of the graph are, as a part of the page's type.
+LETTERS_OF_GRAPH = """
+const text = document.querySelector("#graph-place svg.graph text");
+return (text.getScreenCTM().a * parseFloat(getComputedStyle(text).fontSize)) / parseFloat(getComputedStyle(document.documentElement).fontSize);
+"""
+
+
 class Projector(PageCase):
     """The view for a projector."""
 
@@ -358,6 +375,14 @@ class Projector(PageCase):
             user.press(user.keys.ESCAPE)
             self.assertSoon(False, lambda: "present" in user.run("return document.documentElement.className"))
 
+    def test_frame(self) -> None:
+        """The next instruction has room to its frame, at 1280 by 720."""
+        user = self.user
+        for name in ("IRIW-x86", "Peterson-x86"):
+            self.present(f"#example={name}", 1280, 720)
+            self.assertSoon([], lambda: user.run(TOUCHING))
+            user.press(user.keys.ESCAPE)
+
     def test_room(self) -> None:
         """No register lies below the wall of a store buffer, and code of up to 16 lines is shown as a whole, at 1280 by 720 and at 1920 by 1080."""
         user = self.user
@@ -378,6 +403,23 @@ class Projector(PageCase):
         self.assertSoon(True, lambda: user.run(IN_SIGHT, "svg.graph, #watching .machine, #watching .events"))
         user.press(user.keys.ESCAPE)
         user.find("#test > #graph-place svg.graph")
+
+    def test_buffered(self) -> None:
+        """The mark of the states that only store buffers reach has its sentence, and no other note is shown."""
+        user = self.user
+        self.present("#example=SB-x86", 1280, 720)
+        self.assertSoon(["◆ 1 of 4 only by store buffers. not proved"], lambda: user.texts("#outcome .note"))
+        self.assertTrue(user.run(IN_SIGHT, "#outcome .note, #watching .machine"))
+        user.press(user.keys.ESCAPE)
+
+    def test_letters_of_graph(self) -> None:
+        """The letters of a graph are as large as those of the list, if it has room for them, and no smaller than it is drawn if it has less."""
+        user = self.user
+        for name, size, least in (("SB-x86", (1280, 720), 1), ("n6-x86", (1280, 720), 1), ("MP-x86", (1920, 1080), 1), ("IRIW-x86", (1920, 1080), 0.9)):
+            self.present(f"#example={name}", *size)
+            user.find("#answers > #graph-place svg.graph")
+            self.assertTrue(user.run(LETTERS_OF_GRAPH) >= least, (name, size))
+            user.press(user.keys.ESCAPE)
 
     def test_no_graph(self) -> None:
         """With a source run no graph is shown, since the sentence on whose it is has no room; with the compiled run its graph is."""

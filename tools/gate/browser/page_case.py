@@ -1,7 +1,7 @@
 """Subjects of the page in a browser: unit tests with a user, each of which opens the page anew.
 
 A subject is a class of one of the files here, with a method for each of its rules. They are run on a page that is open at an address, by
-tools/gate/check_page.py and tools/gate/check_site.py. A test that fails is run once more, in case other work on the machine has held it up.
+tools/gate/check_page.py and tools/gate/check_site.py. A test that fails is run again, in case other work on the machine has held it up.
 """
 from __future__ import annotations
 
@@ -12,6 +12,10 @@ from collections.abc import Callable, Iterable, Iterator
 from gate import cases
 from gate.browser.user import Start, User, WINDOW
 from gate.cases import Comparison
+
+
+# How often a test is run at most.
+ATTEMPTS = 3
 
 
 class PageCase(cases.Case):
@@ -53,8 +57,8 @@ class PageCase(cases.Case):
         return hasattr(self.user.driver, "execute_cdp_cmd")
 
 
-def tests_of(subjects: Iterable[type[PageCase]], user: User | None) -> unittest.TestSuite:
-    """Returns the tests of some subjects with a user. (The class is made anew, since two pages may be tested in parallel.)"""
+def make_suite(subjects: Iterable[type[PageCase]], user: User | None) -> unittest.TestSuite:
+    """Returns the tests of some subjects, run by a user. (Each class is derived anew, since two pages may be tested in parallel.)"""
     suite = unittest.TestSuite()
     for subject in subjects:
         subject_with_user = type(subject.__name__, (subject,), {"user": user, "__module__": subject.__module__, "__doc__": subject.__doc__})
@@ -62,9 +66,9 @@ def tests_of(subjects: Iterable[type[PageCase]], user: User | None) -> unittest.
     return suite
 
 
-def number_of(subjects: Iterable[type[PageCase]]) -> int:
+def count_tests(subjects: Iterable[type[PageCase]]) -> int:
     """Returns the number of tests of some subjects."""
-    return tests_of(subjects, None).countTestCases()
+    return make_suite(subjects, None).countTestCases()
 
 
 def make_comparisons(
@@ -76,25 +80,26 @@ def make_comparisons(
     with tempfile.TemporaryDirectory(prefix="lw-browser-") as room:
         user = User(address, room, start)
         try:
-            for subject, expected, actual in try_twice(tests_of(subjects, user), where):
+            for subject, expected, actual in try_tests(make_suite(subjects, user), where):
                 yield f"{where}, {subject}", expected, actual
             yield f"{where}, the browser complains of nothing", [], user.complaints()
         finally:
             user.driver.quit()
 
 
-def try_twice(suite: unittest.TestSuite, where: str) -> Iterator[Comparison]:
-    """Yields the comparisons of tests. A test that fails is printed and run once more."""
-    tests = list(suite)
-    for test in tests:
+def try_tests(suite: unittest.TestSuite, where: str) -> Iterator[Comparison]:
+    """Yields the comparisons of tests. A test that fails is printed and run again, at most ATTEMPTS times in all."""
+    for test in list(suite):
         assert isinstance(test, PageCase)
-        yield from try_again_if_failed(test, where)
+        yield from try_test(test, where)
 
 
-def try_again_if_failed(test: PageCase, where: str) -> list[Comparison]:
-    """Returns the comparisons of a test. If it fails, it is printed and run once more."""
-    compared = list(cases.run_suite(unittest.TestSuite([test])))
-    if all(expected == found_value for _, expected, found_value in compared):
-        return compared
-    print(f"{where}, a test is run once more, since at first:\n" + "\n".join(subject for subject, expected, found_value in compared if expected != found_value), flush=True)
-    return list(cases.run_suite(unittest.TestSuite([type(test)(test._testMethodName)])))
+def try_test(test: PageCase, where: str) -> list[Comparison]:
+    """Returns the comparisons of a test. If it fails, it is printed and run again, at most ATTEMPTS times in all."""
+    for attempt in range(1, ATTEMPTS + 1):
+        compared = list(cases.run_suite(unittest.TestSuite([type(test)(test._testMethodName)])))
+        failed = [subject for subject, expected, actual in compared if expected != actual]
+        if not failed or attempt == ATTEMPTS:
+            break
+        print(f"{where}, a test is run again, since at first:", *failed, sep="\n", flush=True)
+    return compared

@@ -10,6 +10,11 @@ from gate.browser.texts import FIVE
 from gate.browser.user import User, read
 
 MISSED = "0:EAX=0; 1:EAX=0;"
+# A test with six places for fences, of which three forbid what it asks about: 29 lists are made.
+OWN_LOADS = (
+    "X86 3.SB+own\n{}\n P0 | P1 | P2 ;\n MOV [x],$1 | MOV [y],$1 | MOV [z],$1 ;\n MOV EAX,[x] | MOV EAX,[y] | MOV EAX,[z] ;\n"
+    " MOV EBX,[y] | MOV EBX,[z] | MOV EBX,[x] ;\nexists (0:EBX=0 /\\ 1:EBX=0 /\\ 2:EBX=0)\n"
+)
 
 
 def threads_of_run(user: User, panel: str) -> tuple[int, list[str]]:
@@ -27,11 +32,11 @@ class WhyNot(PageCase):
         user.open_listed("#example=MP-x86")
         user.find("#graph-place svg.graph")
         user.click("#tab-why")
-        self.assertEqual(["1", "0"], [it.get_attribute("value") for it in user.all("#why input")])
+        self.assertSoon(["1", "0"], lambda: [it.get_attribute("value") for it in user.all("#why input")])
         self.assertEqual([], user.all("#graph-place"))
         self.assertSays("x86-TSO forbids 1:EAX=1; 1:EBX=0;", "#why .why-head")
         self.assertEqual("global happens-before: a -po-> b -rf-> c -po-> d -fr-> a", user.text("#why .cycle-words"))
-        self.assertIn("Program order counts here, but not from a store to a later load", user.text("#why .rule"))
+        self.assertIn("Program order counts here, but not from a plain store to a later load", user.text("#why .rule"))
         self.assertEqual(4, user.run("return document.querySelectorAll('#why figure path.marked').length"))
 
     def test_proved(self) -> None:
@@ -56,7 +61,52 @@ class WhyNot(PageCase):
         self.assertSays(several, "#why .why-head")
         self.assertSays("The accesses of one location contradict each other", "#why .kind")
         self.assertSays("0:EAX=0; 1:EAX=0; x=1; coherence: a -co-> b -fr-> a", "#why .cycle-words")
-        self.assertEqual([], user.all("#why .rule"))
+        self.assertSays("Of one location program order always counts, of two it does not from a plain store to a later load", "#why .rule")
+
+    def test_arrows(self) -> None:
+        """Only bold arrows are said to mean an order: a pale one may be reversed, so that pale and thin ones may form a cycle in any state."""
+        user = self.user
+        user.open_listed()
+        rows = " MOV [x],$1 | MOV [y],$1 ;\n MOV EAX,[y] | MOV EAX,[x] ;\n MOV EBX,[z] | MOV [z],$1 ;\n MOV ECX,[z] | ;\n"
+        user.run_text(f"X86 Pale\n{{}}\n P0 | P1 ;\n{rows}exists (0:EAX=0 /\\ 1:EAX=0 /\\ 0:EBX=1 /\\ 0:ECX=0)\n")
+        user.click("#tab-why")
+        self.assertSays("Each bold arrow means “comes before”. They form a cycle, so no run can end this way.", "#why .why-notes")
+        self.assertSays("Of one location program order always counts", "#why .rule")
+        self.assertSays("pale may be reversed", "#why .legend")
+        pale = "return [...document.querySelectorAll('#why figure path.pale')].map((it) => [it.classList[0], it.dataset.from, it.dataset.to])"
+        self.assertEqual([["po", "0:0", "0:1"], ["po", "1:0", "1:1"]], user.run(pale))
+        self.assertEqual([], user.all("#why figure path.pale.marked"))
+
+    def test_verdict_is_whole(self) -> None:
+        """At 1280 by 720 the column is scrolled to the tabs or not at all, so that the verdict is in sight as a whole or not."""
+        user = self.user
+        user.resize(1280, 720)
+        cut = """
+        const [verdict, column] = ["#outcome .verdict", "#answers"].map((it) => document.querySelector(it).getBoundingClientRect());
+        return verdict.top < column.top - 8 && column.top < verdict.bottom;
+        """
+        for name in ("RingBuffer-x86", "IRIW-x86", "MP-x86"):
+            user.open_listed(f"#example={name}")
+            user.click("#tab-why")
+            user.find("#why figure svg.graph")
+            self.assertEqual(False, user.run(cut), name)
+        user.open_listed("#example=SB-x86")
+        rows = " MOV [x],$1 | MOV [y],$1 ;\n MOV EAX,[y] | MOV EAX,[x] ;\n MOV EBX,[z] | MOV [z],$1 ;\n MOV ECX,[z] | ;\n"
+        user.run_text(f"X86 Cut\n{{}}\n P0 | P1 ;\n{rows}exists (0:EAX=0 /\\ 1:EAX=0 /\\ 0:EBX=1 /\\ 0:ECX=0)\n")
+        user.click("#tab-why")
+        self.assertSays("Proved: the list has all states.", "#why .why-head")
+        self.assertEqual(False, user.run(cut))
+
+    def test_no_candidate(self) -> None:
+        """Of a state that no candidate execution has it is said that the list, which lacks it, is proved."""
+        user = self.user
+        user.open_listed("#example=SB-x86&view=why")
+        for field in user.all("#why input"):
+            field.clear()
+            field.send_keys("7")
+        user.click("#why .why-not")
+        self.assertSays("No choice of paths and reads gives these values together.", "#why .why-head")
+        self.assertSays("The list is complete (proved), so no run ends there.", "#why .why-head")
 
     def test_source(self) -> None:
         """The question about a source test is in its own names, and the proposed state is answered."""
@@ -75,12 +125,13 @@ class WhyNot(PageCase):
         user.click("#tab-why")
         self.assertSays(f"A run ends in this state: {MISSED}", "#why .why-head")
         self.assertEqual(4, len(user.wait(lambda: user.all("#why svg path.marked"))))
-        rule = "By interleaving the bold arrows forbid this run. x86-TSO does not keep program order from a store to a later load"
+        rule = "By interleaving the bold arrows forbid this run. x86-TSO does not keep program order from a plain store to a later load"
         self.assertSays(rule, "#why .rule")
         user.click("#tab-states")
         user.click("table.strip tbody tr:first-child td[data-column='2']")
         user.click("#tab-why")
         self.assertSays("A run ends in this state: 0:EAX=1; 1:EAX=0;", "#why .why-head")
+        self.assertSays("Another run to it may lack other fences.", "#why .why-head")
         self.assertSays("No cycle: some interleaving is like the run that is shown.", "#why .why-run")
         self.assertEqual([], user.all("#why .rule"))
         self.assertSays("Does a run end in", "#why .why-form")
@@ -101,6 +152,17 @@ class WhyNot(PageCase):
         user.open_listed("#example=SB-x86&view=why")
         user.find("#why .why-run svg.graph")
         self.assertSoon(True, lambda: user.run(IN_SIGHT, "#why .why-run, #why .legend"))
+
+    def test_large(self) -> None:
+        """A graph is drawn as large as there is room, at 1280 by 720: of two threads its letters are larger than those of the page, and all is in sight."""
+        user = self.user
+        user.resize(1280, 720)
+        for name in ("MP-x86", "SB-x86", "Peterson-x86"):
+            user.open_listed(f"#example={name}&view=why")
+            user.find("#why svg.graph")
+            scale = "const it = document.querySelector('#why svg.graph'); return it.clientWidth / it.viewBox.baseVal.width"
+            self.assertSoon(True, lambda: user.run(scale) > 1.3)
+            self.assertTrue(user.run(IN_SIGHT, "#why :is(svg.graph, .rule)"), name)
 
     def test_chosen(self) -> None:
         """The state that the answer is on is the chosen one of the list, and the column is not scrolled; Watch chooses that of its run again."""
@@ -275,22 +337,57 @@ class Fences(PageCase):
             self.assertEqual(verdict, user.text("#fences .verdict"))
 
     def test_more(self) -> None:
-        """If an outcome is allowed, the page offers the fewest fences that forbid it, and tries them on a click."""
+        """If an outcome is allowed, the page shows the fewest fences that forbid it, of a small test at once, and tries them on a click."""
         user = self.user
         user.open_listed("#example=SB-x86&view=fences")
         before = user.value()
-        user.find(".find-fences")
-        self.assertEqual(([], []), (user.all("#fences table"), user.all("#everything")))
-        user.click(".find-fences")
         self.assertSays("The fewest fences that forbid it:", "#fences .next-step")
         sentence = "An MFENCE in P0 before MOV EAX,[y] and in P1 before MOV EAX,[x]: it holds in none of 3 states. Try it"
         self.assertEqual([sentence], user.texts("#fences .fence-sets li"))
+        self.assertEqual(([], []), (user.all("#fences table"), user.all("#everything")))
         user.click("#fences .take")
         self.assertSays("Forbidden.", "#outcome .verdict")
         self.assertEqual(before.replace(" MOV EAX", " MFENCE      | MFENCE      ;\n MOV EAX", 1), user.value())
         user.open_listed("#example=MP-x86&view=fences")
         self.assertSays("The test has no MFENCE to leave out", "#fences .verdict")
         self.assertEqual([], user.all("#fences .find-fences"))
+        user.open_listed("#example=FastLock-x86&view=fences")
+        self.assertSays("The fewest fences that forbid it:", "#fences .next-step")
+        user.open(f"#text={quote(OWN_LOADS)}&view=fences")
+        self.assertEqual("Which fences would forbid it?", user.text("#fences .find-fences"))
+
+    def test_interleaving(self) -> None:
+        """If no fence helps, a sentence says that interleaving ends in such a state already."""
+        user = self.user
+        for link, words in (
+            ("example=TestThenSet-x86", "No further MFENCE would forbid it: interleaving already ends in such a state."),
+            (f"text={quote(read('examples/TestThenSet-x86.litmus').replace('~exists', 'forall').replace('=1', '=7'))}",
+             "No further MFENCE would make the condition hold in every state: interleaving already ends in a state in which it does not hold."),
+        ):
+            user.open_listed(f"#{link}&view=fences")
+            self.assertSays(words, "#fences .next-step")
+
+    def test_exchanges(self) -> None:
+        """Of each exchange a table says which states are added without its lock, by the question or by everything; a state is watched."""
+        user = self.user
+        user.open_listed("#example=SB%2Bxchgs-x86&view=fences")
+        self.assertSays("The test has no MFENCE to leave out", "#fences .verdict")
+        self.assertSays("Which exchanges need their lock, by the question ~exists", "#fences .locks")
+        rows = user.texts("#fences .locks tbody tr")
+        self.assertEqual(["P0, XCHG [x],EAX", "P1, XCHG [y],EAX"], user.texts("#fences .locks tbody th"))
+        self.assertIn("as a plain store it", rows[0])
+        user.click("#everything")
+        self.assertSays("Which exchanges need their lock, by all registers and locations", "#fences .locks")
+        user.open_listed("#example=SpinLock-x86&view=fences")
+        self.assertSays("as a load and a plain store it adds 1 state", "#fences .locks tbody")
+        user.click("#fences .locks .watch")
+        self.assertSays("A run with a load and a plain store in place of P0, XCHG", "#fences .of")
+        self.assertEqual([], user.all("#fences .locks .notice"))
+        user.open_listed("#example=ChaseLev-x86&view=fences")
+        self.assertSays("What is asked about is reachable with all locks.", "#fences .locks .notice")
+        user.open_listed("#example=SB-x86&view=fences")
+        self.assertSays("The fewest fences that forbid it:", "#fences .next-step")
+        self.assertEqual([], user.all("#fences .locks *"))
 
     def test_search(self) -> None:
         """If lw refuses a list, a search is offered, and then all lists come from lw."""

@@ -22,7 +22,7 @@ def read_question(user: User, place: str) -> str:
 class Guess(PageCase):
     """The guess on a test."""
 
-    def test_nothing_is_told(self) -> None:
+    def test_nothing_is_revealed(self) -> None:
         """Known answers are folded, titles are names, and no state is shown; the machine is shown before its run."""
         user = self.user
         open_anew(user, "#example=SB-x86&predict=1")
@@ -31,6 +31,7 @@ class Guess(PageCase):
         self.assertEqual([], user.texts("#about p"))
         self.assertEqual([], user.all("#outcome table, #outcome .verdicts p"))
         user.find("#watching .locked .machine")
+        self.assertEqual([], user.all("#next-test"))
         user.click("#watching [data-event=P0]")
         self.assertSays("First say what you expect: then the machine runs.", "#watching .step")
         user.click("#open-gallery")
@@ -153,7 +154,6 @@ class Kept(PageCase):
         open_anew(user, "#example=SB-x86&predict=1")
         user.click("#yes")
         user.click("#tab-fences")
-        user.click(".find-fences")
         user.click("#fences .take")
         self.assertSays("Forbidden.", "#outcome .verdict")
         self.assertEqual([], user.all("#yes"))
@@ -188,8 +188,8 @@ class Kept(PageCase):
         self.assertEqual(["0", "1"], [it.split()[-1] for it in user.texts("#outcome table.strip tbody tr")[:2]])
         self.assertEqual(1, len(user.all("#outcome table.strip thead .watch")))
         user.click(".unveil")
-        self.assertEqual(4, len(user.all("#outcome table.strip thead .watch")))
-        self.assertEqual(3, len(user.all("#outcome table.strip thead .unfound")))
+        self.assertSoon(4, lambda: len(user.all("#outcome table.strip thead .watch")))
+        self.assertSoon(3, lambda: len(user.all("#outcome table.strip thead .unfound")))
 
     def test_open(self) -> None:
         """While the prediction is open, no other tab shows the answer; the button that shows it shows them, too."""
@@ -208,7 +208,7 @@ class Kept(PageCase):
         user.click("#tab-why")
         self.assertSays("A run ends in this state", "#why .why-head")
 
-    def test_told_by_hand(self) -> None:
+    def test_seen_by_hand(self) -> None:
         """A reader who has seen the answer to a guess sees it by hand, too, and after a reload."""
         user = self.user
         open_anew(user, "#example=SB-x86&predict=1")

@@ -31,7 +31,7 @@ def unpack(stream: bytes) -> bytes:
 class Reading(PageCase):
     """A document, as a reader sees it who comes from the page or by a link."""
 
-    def read(self, file: str) -> None:
+    def open_document(self, file: str) -> None:
         """Opens a document of the site."""
         self.user.driver.get(self.user.address.rpartition("/")[0] + f"/{file}")
         self.user.find("main h1")
@@ -52,7 +52,7 @@ class Reading(PageCase):
         self.assertTrue(user.run(IN_SIGHT, "#next"))
         links = [it.get_attribute("href").rpartition("/")[2] for it in user.all("#next a")]
         self.assertEqual(["tutorial.html", "lab.html"], links)
-        self.read("tutorial.html")
+        self.open_document("tutorial.html")
         self.follow(".open a[href*='example=SB-x86']")
         self.assertSays("SB-x86", "#example-name")
         self.assertSays("Allowed", "#outcome .verdict")
@@ -73,7 +73,7 @@ class Reading(PageCase):
     def test_test_of_a_document(self) -> None:
         """A test that a document shows opens as a text of the reader's own, and is answered at once, as the document itself answers it."""
         user = self.user
-        self.read("tutorial.html")
+        self.open_document("tutorial.html")
         self.follow(".open a[href*='text=']")
         self.assertSoon(True, lambda: "SRC SB" in user.value("#text"))
         self.assertSays("Forbidden", "#outcome .verdict")
@@ -81,7 +81,7 @@ class Reading(PageCase):
     def test_walk(self) -> None:
         """The tutorial shows lists, code and pictures in place of commands, and unfolds a command by keys."""
         user = self.user
-        self.read("tutorial.html")
+        self.open_document("tutorial.html")
         shown = "return [...document.querySelectorAll('.command')].filter((it) => it.checkVisibility()).map((it) => it.textContent)"
         self.assertEqual([], user.run(shown))
         user.find(".answer .picture svg")
@@ -92,14 +92,14 @@ class Reading(PageCase):
 
     def test_run_of_a_document(self) -> None:
         """A replay of a document opens as a run, with the same last step."""
-        self.read("tutorial.html")
+        self.open_document("tutorial.html")
         self.follow(".open a[href*='schedule=P0+P0+P1+P1+D0+D1'][href*='SB-x86']")
         self.assertStep("Step 6")
 
     def test_paper(self) -> None:
         """Each document that is for one sheet of paper is printed on one."""
         for file in CARDS:
-            self.read(file)
+            self.open_document(file)
             self.assertEqual(1, count_pages(base64.b64decode(self.user.driver.print_page())), file)
 
     def test_sheet(self) -> None:
@@ -122,12 +122,12 @@ class Reading(PageCase):
     def test_dark(self) -> None:
         """A document is dark if the page is, and the page if the document is."""
         user = self.user
-        self.read("terms.html")
+        self.open_document("terms.html")
         user.choose("#theme", "dark")
         self.assertEqual(DARK, user.run(GROUND))
         user.open_listed()
         self.assertEqual(("dark", DARK), (user.value("#theme"), user.run(GROUND)))
-        self.read("fences.html")
+        self.open_document("fences.html")
         self.assertEqual(("dark", DARK), (user.value("#theme"), user.run(GROUND)))
         user.choose("#theme", "system")
 
@@ -135,7 +135,7 @@ class Reading(PageCase):
         """Each document has enough contrast by light and by dark, headings in order, and fits a phone."""
         user = self.user
         for file in DOCUMENTS:
-            self.read(file)
+            self.open_document(file)
             for theme in ("light", "dark"):
                 user.choose("#theme", theme)
                 number, pale = user.run(CONTRAST, MIN_CONTRAST)

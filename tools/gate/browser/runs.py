@@ -3,6 +3,7 @@ from __future__ import annotations
 
 import sys
 
+from gate.browser.lists import IN_SIGHT
 from gate.browser.page_case import PageCase
 from gate.browser.user import User, read, run, schedule_to
 from shared.home import HOME
@@ -49,6 +50,30 @@ class Steps(PageCase):
         user.press(user.keys.ARROW_RIGHT)
         self.assertStep("Step 2 of 6: P0 reads y=0 from memory into EAX.")
         self.assertEqual((["EAX 0 put"], ["y 0 read"]), (lit(user, ".register.changed"), lit(user, ".memory .word.read")))
+
+    def test_start(self) -> None:
+        """A reader who has not gone a step is shown where to start, in one line in sight; after a step it is gone, also on the next visit."""
+        user = self.user
+        # A ./page has one row more than a site: the button that runs the test on this machine.
+        user.resize(1280, 780 if user.address.startswith("http") else 720)
+        user.open()
+        user.run("localStorage.removeItem('stepped')")
+        user.open_listed()
+        self.assertSays("Start here: → or Step goes one step on, |◀ to the beginning.", "#watching .hint")
+        self.assertTrue(user.run(IN_SIGHT, "#watching .hint:not(.cut), #next"))
+        user.press(user.keys.ARROW_RIGHT)
+        self.assertSays("Click a framed instruction", "#watching .hint")
+        user.open_listed()
+        self.assertSays("Click a framed instruction", "#watching .hint")
+
+    def test_explained(self) -> None:
+        """Constants, events and the signs of a condition are explained where they are pointed at."""
+        user = self.user
+        user.open_listed("#example=SB-x86")
+        title = lambda css: user.find(css).get_attribute("title")
+        self.assertEqual("the number 1 itself", title("#watching .code .number"))
+        self.assertEqual("D0: P0's oldest store goes to memory", title("#schedule .drains"))
+        self.assertEqual("/\\ and, \\/ or, ~ not", title("#outcome .asked code"))
 
     def test_keys(self) -> None:
         """Arrows step, and what presenters send; also after a click on a checkbox."""
@@ -158,18 +183,34 @@ class Starts(PageCase):
             user.run_text(text % words)
             self.assertSoon(schedule_to("SB-x86"), user.schedule)
 
+    def test_by_turns(self) -> None:
+        """The reader's own x86 test opens on a run by interleaving if one ends as the verdict says, and says so; so it does from a link."""
+        user = self.user
+        user.open_listed()
+        rows = " P0         | P1          ;\n MOV [x],$1 | MOV [y],$1 ;\n MOV EAX,[y] | MOV EAX,[x] ;\n"
+        user.run_text(f"X86 Mine\n{{}}\n{rows}exists (0:EAX=0)\n")
+        self.assertSoon("P0 D0 P0 P1 D1 P1", user.schedule)
+        self.assertStep("This run is an interleaving: each store goes to memory at once.")
+        user.click("#watching .menu > summary")
+        self.assertEqual(1, len(user.all("#watching .listed-run")))
+        link = user.link()
+        user.open_listed(link)
+        self.assertSoon("P0 D0 P0 P1 D1 P1", user.schedule)
+        user.run_text(f"X86 Mine\n{{}}\n{rows}exists (0:EAX=0 /\\ 1:EAX=0)\n")
+        self.assertSoon(schedule_to("SB-x86"), user.schedule)
+
     def test_of_forbidden(self) -> None:
-        """If no run ends as the test asks, a sentence says which run is shown first: one that comes closest, or the test's own; and no longer than that."""
+        """If no run ends in what is asked about, a sentence says which run is shown first: one that comes closest, or the test's own; and no longer than that."""
         user = self.user
         for name, words in (("SB%2Bmfences-x86", "this one comes closest"), ("MP-x86", "this is the test's own run"), ("SB", "this one comes closest")):
             user.open_listed(f"#example={name}")
-            self.assertStep(f"No run ends as asked; {words}.")
+            self.assertStep(f"No run ends so; {words}.")
             user.press(user.keys.ARROW_RIGHT)
-            self.assertSoon(False, lambda: "as asked" in user.step())
+            self.assertSoon(False, lambda: "No run ends so" in user.step())
         user.click("table.strip .watch")
-        self.assertSoon(False, lambda: "as asked" in user.step())
+        self.assertSoon(False, lambda: "No run ends so" in user.step())
         user.open_listed("#example=SB-x86")
-        self.assertFalse("as asked" in user.step())
+        self.assertFalse("No run ends so" in user.step())
 
     def test_closest(self) -> None:
         """A test of one's own that no run answers opens on the run to the state that differs least from the one that is asked about."""
@@ -177,7 +218,7 @@ class Starts(PageCase):
         user.open_listed()
         rows = " P0         | P1          ;\n MOV [x],$1 | MOV EAX,[y] ;\n MOV [y],$1 | MOV EBX,[x] ;\n            | MOV ECX,[y] ;\n"
         user.run_text(f"X86 Mine\n{{}}\n{rows}~exists (1:EAX=1 /\\ 1:EBX=0 /\\ 1:ECX=1)\n")
-        self.assertStep("No run ends as asked; this one comes closest.")
+        self.assertStep("No run ends so; this one comes closest.")
         self.assertSoon("1:EAX=0; 1:EBX=0; 1:ECX=1;", lambda: user.find("table.strip th.chosen .watch").get_attribute("data-line"))
 
     def test_skipped(self) -> None:
@@ -281,10 +322,12 @@ class Caches(PageCase):
         self.show(True)
 
     def tearDown(self) -> None:
+        """Hides cache lines again."""
         super().tearDown()
         self.show(False)
 
     def show(self, is_shown: bool) -> None:
+        """Shows cache lines, or hides them."""
         if self.user.run("return document.getElementById('caches').checked") != is_shown:
             self.user.click("#caches")
 

@@ -70,6 +70,17 @@ return [...page.scrollWidth > innerWidth ? ["page"] : [], ...all.map((it) => `${
 """
 
 
+# The elements of a selector that are shown and less than 40 pixels high or wide.
+SMALL_TARGETS = """
+const shown = [...document.querySelectorAll(arguments[0])].map((it) => [it, it.getBoundingClientRect()]).filter(([, box]) => box.width);
+return shown.filter(([, { width, height }]) => Math.min(width, height) < 39.5).map(([it, { width, height }]) => [it.className, it.textContent, width, height]);
+"""
+# Whether all elements of a selector lie within the width of the window.
+IN_WINDOW = """
+return [...document.querySelectorAll(arguments[0])].map((it) => it.getBoundingClientRect()).every(({ left, right }) => left >= 0 && right <= innerWidth);
+"""
+
+
 class InSight(PageCase):
     """Parts that are in sight together."""
 
@@ -150,6 +161,28 @@ class InSight(PageCase):
             self.assertFalse(user.run("const it = document.querySelector('#watching .hint'); return it.scrollHeight > it.clientHeight + 2"))
         finally:
             user.click("#caches")
+
+    def test_next(self) -> None:
+        """What to look at next is in sight at 1280 by 720, also with four threads."""
+        user = self.user
+        user.resize(1280, 720)
+        for name in ("4.SB", "4.SB-x86", "IRIW-x86", "n7-x86", "SB-x86"):
+            user.open_listed(f"#example={name}")
+            self.assertSoon(True, lambda: user.run(IN_SIGHT, "#next"))
+
+    def test_next_uncovered(self) -> None:
+        """Memory does not lie over what to look at next, below the answer to a prediction, at 1280 by 720."""
+        user = self.user
+        user.resize(1280, 720)
+        open_anew(user, "#example=MP-x86&predict=1")
+        user.click("#yes")
+        user.find("#outcome .said")
+        clear = """
+        const [next, memory] = ["#next", "#watching .memory"].map((css) => document.querySelector(css).getBoundingClientRect());
+        return next.top >= memory.bottom || next.right <= memory.left;
+        """
+        self.assertSoon(True, lambda: user.run(clear))
+        self.assertSoon(True, lambda: user.run(IN_SIGHT, "#next"))
 
     def test_filled(self) -> None:
         """In a large window the machine of a small test takes the room that there is."""
@@ -290,6 +323,14 @@ class InSight(PageCase):
         self.assertStep("Step 4 of 6: P1 reads x=0 from memory into EAX")
 
 
+OTHER_NOTATION = (
+    "X86 Mine\n{}\n P0            | P1            ;\n movl $1,(x)   | movl $1,(y)   ;\n movl (y),%eax | movl (x),%eax ;\n"
+    "exists (0:eax=0 && 1:eax=0)\n"
+)
+REWRITTEN = (
+    "X86 Mine\n{}\n P0          | P1          ;\n MOV [x],$1  | MOV [y],$1  ;\n MOV EAX,[y] | MOV EAX,[x] ;\n"
+    "exists (0:eax=0 /\\ 1:eax=0)\n"
+)
 FAULTY = "SRC A\n{}\n P0 ;\n x = 1 ;\nexists (x=1)\n"
 
 
@@ -301,6 +342,28 @@ class Phone(PageCase):
         super().setUp()
         self.user.resize(390, 844)
         self.user.open_listed("#example=SB-x86")
+
+    def test_targets(self) -> None:
+        """By hand all that is touched is at least 40 pixels high and wide; so are the entries of the menu, which fits the window."""
+        user = self.user
+        for name in ("SB-x86", "IRIW-x86"):
+            user.open(f"#example={name}&view=hand")
+            user.find("#watching [data-event='P0']")
+            user.carry_out("P0")
+            user.click("#watching .menu > summary")
+            targets = ".unveil, .transport > button, .menu > summary, .sheet-menu button, .next .line, button.entry, .event"
+            self.assertEqual([], user.run(SMALL_TARGETS, targets), name)
+            self.assertTrue(user.run(IN_WINDOW, ".sheet-menu, #link, #tabs"), name)
+
+    def test_graph(self) -> None:
+        """A graph that is broader than the window is scrolled sideways, and its edge has a shadow."""
+        user = self.user
+        user.open_listed("#example=IRIW-x86")
+        user.find("#graph-place .graph-scroll")
+        box = "const it = document.querySelector('#graph-place .graph-scroll'); return "
+        self.assertTrue(user.run(f"{box}it.scrollWidth > it.clientWidth"))
+        self.assertEqual(4, user.run(f"{box}getComputedStyle(it).backgroundImage.split('gradient').length - 1"))
+        self.assertEqual("none", user.run("return getComputedStyle(document.querySelector('#graph-place .ground')).fill"))
 
     def test_order(self) -> None:
         """Verdict, list and machine come before the text, which is folded, and they fit the first screen."""
@@ -392,12 +455,32 @@ class Phone(PageCase):
         self.assertSoon(True, lambda: user.run(IN_SIGHT, "#editor"))
         user.run_text(FAULTY)
         user.click("#unfold")
-        self.assertSays("Line 4, column 4: = does not fit here.", "#fault")
+        self.assertSays("Line 4, column 4: A statement sets a location or a register by :=.", "#fault")
         self.assertEqual([], user.all("#text"))
         user.open(f"#text={quote(FAULTY)}")
-        self.assertSays("Line 4, column 4: = does not fit here.", "#fault")
+        self.assertSays("Line 4, column 4: A statement sets a location or a register by :=.", "#fault")
         self.assertEqual("true", user.find("#unfold").get_attribute("aria-expanded"))
         self.assertTrue(bool(user.find("#text")))
+
+    def test_gallery(self) -> None:
+        """The list of examples is no broader than its place."""
+        self.user.click("#open-gallery")
+        self.user.find("#gallery .by-family")
+        self.assertTrue(self.user.run("const it = document.querySelector('.gallery-body'); return it.scrollWidth <= it.clientWidth"))
+
+    def test_rewritten(self) -> None:
+        """After a button has rewritten the text, and after *Run* below the text, the verdict is in sight."""
+        user = self.user
+        user.open(f"#text={quote(OTHER_NOTATION)}")
+        user.click("#fault .apply")
+        self.assertSoon(REWRITTEN, user.value)
+        self.assertSays("Allowed.", "#outcome .verdict")
+        self.assertSoon(True, lambda: user.run(IN_SIGHT, "#outcome .verdict"))
+        user.find("#watching .machine")
+        user.run("document.getElementById('run-it').scrollIntoView({ block: 'center' })")
+        self.assertFalse(user.run(IN_SIGHT, "#outcome .verdict"))
+        user.click("#run-it")
+        self.assertSoon(True, lambda: user.run(IN_SIGHT, "#outcome .verdict"))
 
     def test_narrowed(self) -> None:
         """If a wide window or a rotated phone becomes narrow, the list goes below the verdict, and nothing of the verdict is covered or cut."""

@@ -16,11 +16,14 @@ class Faults(PageCase):
     TEXT = "SRC Mine (* é *)\n{}\n P0 ;\n (* é *) x = 1 ;\nexists (x=1)\n"
 
     def test_place(self) -> None:
-        """A sentence explains a fault with its place and lw's own line; its line and its token are marked, and the old verdict disappears."""
+        """A sentence explains a fault with its place, and lw's own line is apart from it; its line and its token are marked, and the old verdict disappears."""
         user = self.user
         user.open_listed()
         user.run_text(self.TEXT)
-        self.assertSays("Line 4, column 12: = does not fit here. Write := in place of it. lw: cell 1 Form at 39", "#fault")
+        self.assertSays("Line 4, column 12: A statement sets a location or a register by :=. Did you mean :=?", "#fault")
+        self.assertEqual(["As lw prints it: lw: cell 1 Form at 39"], user.texts("#fault .fault-line"))
+        below = "const [code, button] = ['#fault .fault-line', '#fault .go-to'].map((it) => document.querySelector(it).getBoundingClientRect()); return code.top > button.top + button.height / 2"
+        self.assertTrue(user.run(below))
         self.assertEqual([], user.texts("#outcome .verdict"))
         self.assertEqual(["✗ 4"], user.texts(".numbers .faulty"))
         self.assertEqual("=", user.run("return document.querySelector('.marks mark').textContent"))
@@ -100,7 +103,7 @@ class Faults(PageCase):
             (text, "/\\", "&", "Did you mean /\\?"),
             (text, "x=1", "x==1", "A question compares with one =. Did you mean =?"),
             (text, "1:EAX", "P1:EAX", "The thread of a register is a number, without P. Did you mean 1:EAX?"),
-            (text, "1:EAX", "1:r0", "Did you mean EAX?"),
+            (text, "1:EAX", "1:r0", "Registers are EAX to EDX, ESI and EDI, of 32 bits. Did you mean 1:EAX?"),
             (text, "MOV EAX,[x]", "r0 := x", "This is a statement of a source test, and the text's first word is X86. Did you mean MOV EAX,[x]?"),
             (f"(* mine *) {text}", "MOV EAX,[x]", "r0 := x", "This is a statement of a source test, and the text's first word is X86. Did you mean MOV EAX,[x]?"),
             (text, "MOV EAX,[x]", "MOV EAX [x]", "The operands of an instruction have a comma between them. Did you mean MOV EAX,[x]?"),
@@ -114,8 +117,8 @@ class Faults(PageCase):
             (source, "SRC", "X86", "All code is that of a source test, and the text's first word is X86. Did you mean SRC?"),
             (text, "X86", "SRC", "All code is x86 code, and the text's first word is SRC. Did you mean X86?"),
             (source, "r0 := x", "MOV EAX,[x]", "This is an x86 instruction, and the text's first word is SRC. Did you mean r0 := x?"),
-            (source, "1:r0", "1:EAX", "Did you mean r0?"),
-            (source, "x := 1", "x = 1", "Write := in place of it."),
+            (source, "1:r0", "1:EAX", "Registers are r0 to r5. Did you mean 1:r0?"),
+            (source, "x := 1", "x = 1", "A statement sets a location or a register by :=. Did you mean :=?"),
         ):
             user.run_text(right.replace(part, wrong, 1))
             self.assertSays(sentence, "#fault")
@@ -123,6 +126,65 @@ class Faults(PageCase):
             self.assertSoon(right, user.value)
             self.assertSays("The condition holds in", "#outcome .asked")
             self.assertSoon([], lambda: user.texts("#fault p"))
+
+    def test_rewriting(self) -> None:
+        """One button rewrites a whole test in another notation, and says how many places; Undo, or the browser's own, brings the text back."""
+        user = self.user
+        user.open_listed()
+        text = (
+            'X86_64 SB\n"PodWR Fre"\n{ uint64_t y; uint64_t 1:rax; x=0; }\n P0            | P1            ;\n movq $1,(x)   | movq $1,(y)   ;\n'
+            " movq (y),%rax | movq (x),%rax ;\nexists (0:rax=0 && 1:rax=0)\n"
+        )
+        rewritten = (
+            'X86 SB\n"PodWR Fre"\n{ y=0; 1:EAX=0; x=0 }\n P0          | P1          ;\n MOV [x],$1  | MOV [y],$1  ;\n'
+            " MOV EAX,[y] | MOV EAX,[x] ;\nexists (0:EAX=0 /\\ 1:EAX=0)\n"
+        )
+        user.run_text(text)
+        self.assertSays("This is AT&T's order, with the destination last", "#fault")
+        self.assertEqual("Rewrite all 9 places", user.text("#fault .apply"))
+        user.click("#fault .apply")
+        self.assertSoon(rewritten, user.value)
+        self.assertSays("Allowed.", "#outcome .verdict")
+        self.assertSays("9 places are rewritten. Undo", "#said")
+        user.click("#undo")
+        self.assertSoon(text, user.value)
+        self.assertSays("This is AT&T's order", "#fault")
+        rows = lambda row: f"X86 A\n{{}}\n P0 | P1 ;\n {row} ;\nexists (x=1)\n"
+        for row, mended, title in (
+            ("mov dword ptr [x],1 | mov DWORD PTR x, eax", "MOV [x],1 | MOV [x],EAX", "Rewrite all 2 places"),
+            ("MOV x,1 | MOV EAX,x", "MOV [x],1 | MOV EAX,[x]", "Rewrite all 2 places"),
+            ("MOV [x],1 MOV EAX,[x]", "MOV [x],1 | MOV EAX,[x]", "Rewrite the rows"),
+            ("MOV [x],1 | MOV 1:EAX,[x]", "MOV [x],1 | MOV EAX,[x]", "Change it to MOV EAX,[x]"),
+        ):
+            user.run_text(rows(row))
+            self.assertSoon([title], lambda: user.texts("#fault .apply"))
+            user.click("#fault .apply")
+            self.assertSoon(rows(mended), user.value)
+        for row, sentence in (
+            ("movl $1,(%rbx) | movl (%rbx),%eax", "(%rbx) is an address in a register: lw has locations by their names only, as [x]."),
+            ("MOV 1:EAX,[x] | MOV EAX,[x]", "1:EAX is a register of P1: the code of P0 names its own registers only, and shares locations."),
+        ):
+            user.run_text(rows(row))
+            self.assertSays(sentence, "#fault")
+            self.assertEqual([], user.all("#fault .apply"))
+
+    def test_source_notation(self) -> None:
+        """A source test's fences, sentences on compare-and-swap, and questions of other tools."""
+        user = self.user
+        user.open_listed()
+        text = "SRC A\n{}\n P0 | P1 ;\n x := 1 | r0 := x ;\n MFENCE | fence ;\n~exists (1:r0=1)\n"
+        user.run_text(text.replace("~exists", "not exists"))
+        self.assertSays("A source test has no fences: the compiler adds them.", "#fault")
+        user.click("#fault .apply")
+        self.assertSoon(text.replace("MFENCE | fence", "       |      "), user.value)
+        self.assertSays("Allowed.", "#outcome .verdict")
+        user.run_text(text.replace("MFENCE | fence", "|").replace("~exists", "forbidden"))
+        self.assertSays("A question begins with exists, ~exists or forall. Did you mean ~exists?", "#fault")
+        user.click("#fault .apply")
+        self.assertSoon(text.replace("MFENCE | fence", "|"), user.value)
+        user.run_text(text.replace("MFENCE", "r1 := cas x 0 1"))
+        self.assertSays("lw has no compare-and-swap", "#fault")
+        self.assertEqual([], user.all("#fault .apply"))
 
     def test_question(self) -> None:
         """A message says what a question lacks, or which thread the test does not have; no line of the question is called a row."""
@@ -176,13 +238,157 @@ class Faults(PageCase):
         self.assertEqual([], user.all("#fault .apply"))
 
     def test_constant(self) -> None:
-        """A constant is a whole number, in code, in the initial values and in the question."""
+        """A constant is a whole number that a word can have."""
         user = self.user
         user.open_listed()
         text = "X86 A\n{ x=0 }\n P0 ;\n MOV [x],$1 ;\nexists (x=1)\n"
-        for right, wrong in (("$1", "$-1"), ("$1", "1.5"), ("x=0", "x=-1"), ("(x=1", "(x=1.5"), ("$1", "$4294967296")):
+        for right, wrong in (("$1", "1.5"), ("(x=1", "(x=1.5"), ("$1", "$4294967296")):
             user.run_text(text.replace(right, wrong))
             self.assertSays("A constant is a whole number from 0 to 4294967295.", "#fault")
+
+    def test_negative(self) -> None:
+        """In place of a negative number a button puts the word that it is: in code, in the initial values and in the question; and in place of SUB a sum."""
+        user = self.user
+        user.open_listed()
+        text = "X86 A\n{ x=0 }\n P0 ;\n ADD EAX,$1 ;\n MOV [x],EAX ;\nexists (x=1)\n"
+        negative = "lw has no negative numbers: in a word of 32 bits -1 is 4294967295."
+        for right, wrong, mended, words in (
+            ("EAX,$1", "EAX,-1", "EAX,4294967295", negative),
+            ("EAX,$1", "EAX,$-2", "EAX,$4294967294", negative),
+            ("x=0", "x=-1", "x=4294967295", negative),
+            ("(x=1", "(x=-1", "(x=4294967295", negative),
+            ("ADD EAX,$1", "SUB EAX,-1", "ADD EAX,$1", negative),
+            ("ADD EAX,$1", "SUB EAX, 1", "ADD EAX,$4294967295", "lw does this by ADD EAX,$4294967295. 4294967295 is -1 in a word of 32 bits."),
+        ):
+            user.run_text(text.replace(right, wrong))
+            self.assertSays(words, "#fault")
+            user.click("#fault .apply")
+            self.assertSoon(text.replace(right, mended), user.value)
+            self.assertSoon([], lambda: user.texts("#fault p"))
+
+    def test_question_at_once(self) -> None:
+        """One button mends all that a question has from other notations."""
+        user = self.user
+        user.open_listed()
+        rows = "X86 A\n{}\n P0 | P1 ;\n MOV [x],$1 | MOV EAX,[x] ;\n"
+        user.run_text(f"{rows}exists (x==1 && 1:EAX != 0)\n")
+        self.assertSays("A question has no !=: ~x=1 asks for another word than 1.", "#fault")
+        user.click("#fault .apply")
+        self.assertSoon(f"{rows}exists (x=1 /\\ ~1:EAX=0)\n", user.value)
+        self.assertSays("Allowed.", "#outcome .verdict")
+        user.run_text(f"{rows}exist (x==1 && 1:EAX==0)\n")
+        self.assertSays("lw has no question of the name exist. Did you mean exists?", "#fault")
+        user.run_text(f"{rows}exists (x=1 /\\ EAX=0)\n")
+        self.assertSays("A register has its thread before it outside of the code. Did you mean 1:EAX?", "#fault")
+
+    def test_threadless_registers(self) -> None:
+        """Registers of a question without a thread get that whose code has them, together with all else; of assignments in an x86 test, its first word comes first."""
+        user = self.user
+        user.open_listed()
+        text = "X86 A\n{}\n P0 | P1 ;\n x = 1 | y = 1 ;\n r1 = y | r2 = x ;\nexists (r1=0 && r2=0)\n"
+        source = "SRC A\n{}\n P0 | P1 ;\n x := 1 | y := 1 ;\n r1 := y | r2 := x ;\nexists (0:r1=0 /\\ 1:r2=0)\n"
+        in_x86 = "X86 A\n{}\n P0 | P1 ;\n MOV [x],$1 | MOV [y],$1 ;\n MOV EBX,[y] | MOV ECX,[x] ;\nexists (0:EBX=0 /\\ 1:ECX=0)\n"
+        for title, mended, verdict in (("Rewrite all 8 places", source, "Forbidden."), ("Make it x86 code", in_x86, "Allowed.")):
+            user.run_text(text)
+            self.assertSays("All code is that of a source test, and the text's first word is X86. A register has its thread before it outside of the code.", "#fault")
+            self.assertSoon(["Rewrite all 8 places", "Make it x86 code"], lambda: user.texts("#fault .apply"))
+            next(it for it in user.all("#fault .apply") if it.text == title).click()
+            self.assertSoon(mended, user.value)
+            self.assertSays(verdict, "#outcome .verdict")
+        user.run_text(in_x86.replace("ECX", "EBX").replace("0:", "").replace("1:", ""))
+        self.assertSays("A register has its thread before it outside of the code: 0:EBX or 1:EBX.", "#fault")
+        self.assertEqual([], user.all("#fault .apply"))
+
+    def test_without_bars(self) -> None:
+        """One button puts a | between the threads' names and between cells that blanks separate."""
+        user = self.user
+        user.open_listed()
+        text = " P0          | P1          ;\n MOV [x],$1  | MOV [y],$1  ;\n MOV EAX,[y] | MOV EAX,[x] ;\n"
+        head, question = "X86 A\n{}\n", "exists (0:EAX=0 /\\ 1:EAX=0)\n"
+        for wrong, words in (
+            (text.replace("|", " "), "The threads' names and the cells have a | between them."),
+            (text.replace(" | ", " "), "The threads' names and the cells have a | between them."),
+            (text.replace("|", " ").replace(";", ""), "The threads' names and the cells have a | between them."),
+            (text.replace("|", ",", 1), "The threads' names have a | between them."),
+        ):
+            user.run_text(head + wrong + question)
+            self.assertSays(f"Line 3, column 1: {words}", "#fault")
+            user.click("#fault .apply")
+            self.assertSoon(head + text + question, user.value)
+            self.assertSays("Allowed.", "#outcome .verdict")
+
+    def test_bare_instructions(self) -> None:
+        """Of instructions without a test a button makes one: a blank line begins the next thread, and the last loads are asked about."""
+        user = self.user
+        user.open_listed()
+        user.run_text("movl $1,x(%rip)\nmovl y(%rip),%eax\nret\n\nmovl $1,y(%rip)\nmovl x(%rip),%eax\nret\n")
+        self.assertSays("A blank line begins the next thread. The question is a guess: change it to yours. This is AT&T's order", "#fault")
+        self.assertEqual("Make P0 and P1 of them", user.text("#fault .apply"))
+        user.click("#fault .apply")
+        rows = " P0          | P1          ;\n MOV [x],$1  | MOV [y],$1  ;\n MOV EAX,[y] | MOV EAX,[x] ;\n"
+        self.assertSoon(f"X86 Mine\n{{}}\n{rows}exists (0:EAX=0 /\\ 1:EAX=0)\n", user.value)
+        self.assertSays("Allowed.", "#outcome .verdict")
+        user.run_text("mov [x],1\nmov [y],1\n")
+        self.assertSays("The question true holds always: look at the list of states.", "#fault")
+        user.click("#fault .apply")
+        self.assertSoon("X86 Mine\n{}\n P0 ;\n mov [x],1 ;\n mov [y],1 ;\nlocations [x; y;]\nexists (true)\n", user.value)
+
+    def test_c_rows(self) -> None:
+        """Rows in C become instructions by a button; of calls and of threads in C the page says what compiles them, with the command to copy."""
+        user = self.user
+        user.open_listed()
+        text = "X86 t\n{}\n P0 | P1 ;\n MOV [x],$1 | MOV EAX,[y] ;\n MFENCE | MOV EBX,[x] ;\nexists (1:EAX=1 /\\ 1:EBX=0)\n"
+        in_c = text.replace("MOV [x],$1", "WRITE_ONCE(*x, 1)").replace("MOV EAX,[y]", "int r0 = READ_ONCE(*y)").replace("MFENCE", "smp_mb()").replace("MOV EBX,[x]", "r1 = *x")
+        user.run_text(in_c.replace("1:EAX", "1:r0"))
+        self.assertSays("This is C. As x86 code a store is MOV [x],$1, a load MOV EAX,[x], and a fence MFENCE.", "#fault")
+        self.assertEqual("Rewrite all 5 places", user.text("#fault .apply"))
+        user.click("#fault .apply")
+        self.assertSoon(text, user.value)
+        user.run_text(text.replace("MOV [x],$1", "atomic_store(&x,1)"))
+        self.assertSays("atomic_store(&x,1) is a call in C, and no instruction. tools/from_c.py compiles programs in C", "#fault")
+        user.run_text("X86 t\n{}\nP0 (atomic_int *x) {\n *x = 1;\n}\nexists (x=1)\n")
+        self.assertSays("The threads are functions in C: the first word is C then.", "#fault")
+        self.assertSays("save this as t.c, then python3 tools/from_c.py --show t.c prints a test for this page.", "#fault")
+        user.run("document.execCommand = () => false; Object.defineProperty(navigator, 'clipboard', { value: undefined })")
+        user.click("#fault .apply")
+        self.assertSoon("python3 tools/from_c.py --show t.c", lambda: user.value("#said input"))
+
+    def test_sums(self) -> None:
+        """In place of a statement with a sum that the format lacks a button puts those that it has; of a register past r5 it puts one that is free."""
+        user = self.user
+        user.open_listed()
+        text = "SRC A\n{}\n P0     | P1 ;\n x := 1 | r0 := x ;\nexists (1:r0=0)\n"
+        steps = lambda first, *others: text.replace("x := 1", first).replace(";\nexists", ";\n" + "".join(f" {it.ljust(6)} |         ;\n" for it in others) + "exists")
+        for statement, expected, words in (
+            ("x++", steps("r1 := x", "r1 := r1 + 1", "x := r1"), "lw does this by r1 := x, then r1 := r1 + 1, then x := r1. Another thread may write between them: fetchadd does it in one step."),
+            ("x += 2", steps("r1 := x", "r1 := r1 + 2", "x := r1"), "lw does this by r1 := x, then r1 := r1 + 2, then x := r1. Another thread may write between them: fetchadd does it in one step."),
+            ("x -= 1", steps("r1 := x", "r1 := r1 + 4294967295", "x := r1"), "4294967295 is -1 in a word of 32 bits."),
+            ("x := r0 + 1", steps("r1 := r0 + 1", "x := r1"), "lw does this by r1 := r0 + 1, then x := r1."),
+            ("r1++", steps("r1 := r1 + 1"), "lw does this by r1 := r1 + 1."),
+            ("r6 := x", steps("r0 := x"), "Registers are r0 to r5. Did you mean r0?"),
+        ):
+            user.run_text(text.replace("x := 1", statement))
+            self.assertSays(words, "#fault")
+            user.click("#fault .apply")
+            self.assertSoon(expected.split(), lambda: user.value().split())
+        user.run_text(text.replace("r0", "r7"))
+        self.assertSoon(["Rewrite all 2 places"], lambda: user.texts("#fault .apply"))
+        user.click("#fault .apply")
+        self.assertSoon(text.split(), lambda: user.value().split())
+
+    def test_widths(self) -> None:
+        """Of a register of 64 bits the page says that words have 32, and offers the one of 32, also beside such registers."""
+        user = self.user
+        user.open_listed()
+        text = "X86 A\n{}\n P0 | P1 ;\n MOV [x],EBX | MOV EAX,[x] ;\nexists (1:EAX=0)\n"
+        for rows, words in (
+            (text.replace("EBX", "$1").replace("MOV EAX", "MOV RAX"), "Registers are EAX to EDX, ESI and EDI, of 32 bits. Did you mean MOV EAX,[x]?"),
+            (text.replace("MOV EAX", "MOV RAX"), "Some instructions access 32 bits and some 64: all words and registers of lw have 32. Did you mean EAX?"),
+        ):
+            user.run_text(rows)
+            self.assertSays(words, "#fault")
+            user.click("#fault .apply")
+            self.assertSoon(rows.replace("RAX", "EAX"), user.value)
 
     def test_no_test(self) -> None:
         """An empty text has a button that puts a small test into it; a test in C is named; and a changed text says which keys list its states."""
@@ -203,7 +409,10 @@ class Faults(PageCase):
         user.open_listed()
         is_site = user.run("return typeof site === 'object'")
         for text, words, title in (
-            ("C SB\n{}\n", "tools/from_c.py compiles programs and herd's tests in C", "From C and Rust: programs as tests"),
+            ("C SB\n{}\n", "tools/from_c.py compiles programs in C, C++ and Rust, and herd's tests in C: save this as SB.c, then python3 tools/from_c.py --show SB.c "
+             "prints a test for this page.", "From C and Rust: programs as tests"),
+            ("use std::sync::atomic::*;\n", "save this as mine.rs, then python3 tools/from_c.py --show mine.rs prints a test for this page. "
+             "For that its threads are functions P0, P1 and so on without parameters, and its last line asks", "From C and Rust: programs as tests"),
             ("AArch64 MP\n{}\n", "AArch64 is the language of another processor in herd's tests.", "From herd: its tests, and logs"),
             ("X86_64 SB\n{ uint32_t x; }\n", "tools/from_herd.py converts tests of herd for X86 and X86_64.", "From herd: its tests, and logs"),
         ):

@@ -67,7 +67,7 @@ class Compared(PageCase):
         bare = MINE.splitlines()[3:]
         self.assertSoon([bare, [bare[0], " MFENCE      | MFENCE      ;", *bare[1:]]], lambda: user.run(ROWS))
         self.assertEqual("=fenced", user.value("#second-example"))
-        self.assertSays("3 states in both, 1 only left, 0 only right. not proved", ".compared")
+        self.assertSays("3 states in both, 1 only left, 0 only right. ◆ only by store buffers. not proved", ".compared")
         user.open_listed(f"#text={quote(user.run('return new URLSearchParams(location.hash.slice(1)).get(`beside_text`)'))}")
         user.click("#set-beside")
         self.assertSoon(bare, lambda: user.run(ROWS)[-1])
@@ -82,12 +82,20 @@ class Compared(PageCase):
         user = self.user
         user.resize(1280, 720)
         user.open(BOTH)
-        self.assertSays("3 states in both, 1 only left, 0 only right. not proved", ".compared")
+        self.assertSays("3 states in both, 1 only left, 0 only right. ◆ only by store buffers. not proved", ".compared")
         self.assertEqual(["Allowed.", "Forbidden."], user.texts(".side .verdict strong"))
         self.assertEqual(["only here +"], user.texts(".side:first-child .alone-row"))
         self.assertTrue(user.run(IN_SIGHT, ".side h2, .side .program, .side .verdict, .side table.strip"))
         text = user.run("return document.querySelector('.program').textContent").splitlines()
         self.assertEqual([" P0          | P1          ;", " MOV [x],$1  | MOV [y],$1  ;"], text[2:4])
+
+    def test_never(self) -> None:
+        """A state that a test forbids and no run ends in has its column beside the other test, too, which is no button there."""
+        user = self.user
+        user.open("#example=SB-x86&beside=SB%2Bmfences-x86")
+        self.assertSoon(["never"], lambda: user.texts("#beside th.never"))
+        self.assertEqual([], user.all("#beside .never button"))
+        self.assertSoon(["0", "0"], lambda: user.texts("#beside td.never"))
 
     def test_by_interleaving(self) -> None:
         """If the state that the verdict on x86 shows is one of the source, the comparison says that it is reached also by interleaving."""
@@ -95,7 +103,7 @@ class Compared(PageCase):
         user.open("#example=Peterson%2Bturnfirst-x86&beside=Peterson%2Bturnfirst")
         self.assertSays("0:ECX=1; 1:ECX=1 is reached also by interleaving. not proved", ".compared")
         user.open("#example=SB-x86&beside=SB")
-        self.assertSays("3 states in both, 1 only left, 0 only right. not proved", ".compared")
+        self.assertSays("3 states in both, 1 only left, 0 only right. ◆ only by store buffers. not proved", ".compared")
 
     def test_four_threads(self) -> None:
         """With two tests of four threads no part is cut off, and all of both machines is in sight, at 1280 by 720 and at 1920 by 1080."""
@@ -107,6 +115,39 @@ class Compared(PageCase):
                 user.wait(lambda: len(user.all(".side .machine")) == 2, link)
                 self.assertSoon([], lambda: user.run(CUT_OFF))
                 self.assertSoon(True, lambda: user.run(IN_SIGHT, ".side .verdict, .side .program, .side .thread, .side .memory"))
+
+    def test_whole_without_texts(self) -> None:
+        """If a list or a code would be cut beside the texts, they go, and all else is whole and in sight, at 1280 by 720."""
+        user = self.user
+        user.resize(1280, 720)
+        for link in ("n6-x86&beside=n6%2Bmfence-x86", "3.SB-x86&beside=3.SB%2Bmfences-x86", "WRC-x86&beside=WRC", "n7-x86&beside=n7"):
+            user.open(f"#example={link}")
+            user.wait(lambda: len(user.all(".side .machine")) == 2, link)
+            self.assertSoon([], lambda: user.run(CUT_OFF))
+            self.assertSoon([], lambda: user.texts(".lines-in-sight"))
+            self.assertSoon(True, lambda: user.run(IN_SIGHT, ".side .verdict, .side table.strip, .side .machine"))
+            self.assertEqual([], user.all(".side .program"), link)
+        user.open(BOTH)
+        user.wait(lambda: len(user.all(".side .program")) == 2, "both texts")
+
+    def test_long_code(self) -> None:
+        """Code of ten lines is whole, below the verdict in words, at 1280 by 720."""
+        user = self.user
+        user.resize(1280, 720)
+        user.open("#example=Peterson-x86&beside=Peterson%2Bmfences-x86")
+        user.wait(lambda: len(user.all(".side .machine")) == 2, "both runs")
+        self.assertSoon([], lambda: [it for it in user.texts(".side:nth-child(1) .lines-in-sight") if it])
+        words = ["There is a run in which P0 and P1 both end with ECX=1; the test forbids that.", "There is no run in which P0 and P1 both end with ECX=1."]
+        self.assertSoon(words, lambda: user.texts(".side .in-words"))
+
+    def test_mark(self) -> None:
+        """The mark on a state that only store buffers reach is explained above both lists; one badge says that this and the numbers are not proved."""
+        user = self.user
+        user.resize(1280, 720)
+        user.open(BOTH)
+        self.assertSays("1 only left, 0 only right. ◆ only by store buffers. not proved", ".compared")
+        self.assertEqual(1, len(user.all("#beside .plain")))
+        self.assertTrue(user.run("return document.querySelector('.both').offsetHeight < 40"))
 
     def test_large_type(self) -> None:
         """With large type a short list still has columns beside the text, and nothing of it is cut off, at 1280 by 720."""
@@ -130,7 +171,7 @@ class Compared(PageCase):
         user.choose("#second-example", "=bare")
         self.assertSoon(["SB", "SB"], lambda: user.texts(".side h2"))
         self.assertEqual("=bare", user.value("#second-example"))
-        self.assertSays("3 states in both, 0 only left, 1 only right. not proved", ".compared")
+        self.assertSays("3 states in both, 0 only left, 1 only right. ◆ only by store buffers. not proved", ".compared")
         user.open(user.link())
         self.assertSoon(["SRC SB", "X86 SB"], lambda: [it[:6] for it in user.texts(".side .program")])
 
@@ -260,7 +301,7 @@ class OneAgain(PageCase):
         user.choose("#first-example", "SB")
         user.choose("#second-example", "")
         self.assertSoon(["SB", "Own"], lambda: user.texts(".side h2"))
-        self.assertSays("Line 4, column 4: = does not fit here. Write := in place of it. ", ".side:last-child .notice")
+        self.assertSays("Line 4, column 4: A statement sets a location or a register by :=.", ".side:last-child .notice")
         self.assertTrue(bool(user.find(".side:first-child table.strip")))
         user.click("#close-beside")
         user.click("#bring-back")
@@ -275,6 +316,10 @@ class OneAgain(PageCase):
         edges = "const [one, two] = [...document.querySelectorAll('.side')].map((it) => it.getBoundingClientRect());"
         self.assertTrue(user.run(edges + "return two.top >= one.bottom - 1"))
         self.assertEqual(0, user.run(OVERFLOW))
+        user.open(BOTH)
+        self.assertSays("3 states in both, 1 only above, 0 only below.", ".compared")
+        user.resize(1280, 720)
+        self.assertSays("3 states in both, 1 only left, 0 only right.", ".compared")
 
 
 class Predicted(PageCase):
@@ -294,7 +339,9 @@ class Predicted(PageCase):
         self.assertSoon(["First say what you expect of the first test."], lambda: user.texts("#beside .notice"))
         user.click("#first-yes")
         self.assertSoon(["✓ As you said. Predict again Surprise me"], lambda: user.texts(".side .said"))
-        self.assertEqual(([], [""]), (user.all(".side:last-child table"), user.texts(".compared") or [""]))
+        # What the mark on a state of the first list means is said, and nothing of the other list.
+        self.assertSoon(["◆ only by store buffers. not proved"], lambda: user.texts(".compared"))
+        self.assertEqual([], user.all(".side:last-child table"))
         user.click("#second-yes")
         self.assertSoon(["✓ As you said. Predict again Surprise me", "✗ Not as you said. Predict again Surprise me"], lambda: user.texts(".side .said"))
 

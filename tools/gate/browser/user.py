@@ -45,7 +45,7 @@ FoundValue = TypeVar("FoundValue")
 
 
 class Element(Protocol):
-    """The attributes and methods of a page's element that the tests use."""
+    """The attributes and methods of a page's element that the tests use: those of selenium's WebElement."""
 
     @property
     def text(self) -> str: ...
@@ -80,7 +80,7 @@ def import_selenium() -> Any:
     return selenium
 
 
-def is_there() -> bool:
+def is_installed() -> bool:
     """Returns whether there is a Chromium that can be driven."""
     return bool(DRIVER and (shutil.which("chromium") or os.environ.get("CHROMIUM")) and import_selenium())
 
@@ -95,15 +95,15 @@ def start_chromium(room: str, *switches: str) -> Driver:
         options.add_argument(f"--{switch}")
     options.binary_location = os.environ.get("CHROMIUM") or shutil.which("chromium")
     options.set_capability("goog:loggingPrefs", {"browser": "ALL"})
-    driver = selenium.webdriver.Chrome(service=service_of(DRIVER), options=options)
+    driver = selenium.webdriver.Chrome(service=make_service(DRIVER), options=options)
     driver.execute_cdp_cmd("Browser.setDownloadBehavior", {"behavior": "allow", "downloadPath": room})
     driver.press = lambda key: selenium.webdriver.ActionChains(driver).send_keys(key).perform()
     driver.print_page = lambda: driver.execute_cdp_cmd("Page.printToPDF", PAPER)["data"]
     return driver
 
 
-def service_of(driver: str | None) -> Any:
-    """Returns selenium's service for a path of a driver."""
+def make_service(driver: str | None) -> Any:
+    """Returns selenium's service for the driver at a path; selenium looks for one if there is no path."""
     import_selenium()
     from selenium.webdriver.chrome.service import Service
 
@@ -117,10 +117,10 @@ def start_firefox(room: str) -> firefox.Firefox:
     return driver
 
 
-def browsers() -> dict[str, Start]:
-    """Returns the functions that start the installed browsers, by name."""
-    starts: dict[str, Start] = {"Chromium": start_chromium} if is_there() else {}
-    return {**starts, "Firefox": start_firefox} if firefox.is_there() and import_selenium() else starts
+def list_browsers() -> dict[str, Start]:
+    """Returns the functions that start the installed browsers, by the browsers' names."""
+    starts: dict[str, Start] = {"Chromium": start_chromium} if is_installed() else {}
+    return {**starts, "Firefox": start_firefox} if firefox.is_installed() and import_selenium() else starts
 
 
 # The values that the tests compare with.
@@ -151,7 +151,7 @@ def schedule_to(name: str, index: int = 0) -> str:
 
 
 class User:
-    """Somebody who looks at the page, and uses it."""
+    """Somebody who looks at the page, and uses it. A method whose name is a noun, such as `text` or `link`, returns what the page shows now."""
 
     def __init__(self, address: str, room: str, start: Start | None = None) -> None:
         """Starts a browser for the page at an address. It saves files in the folder `room`."""
@@ -174,8 +174,9 @@ class User:
             self.find("#watching .machine")
 
     def all(self, css: str) -> list[Element]:
-        """Returns the elements that are shown."""
-        return [it for it in self.driver.find_elements("css selector", css) if it.is_displayed()]
+        """Returns the elements that are shown. Looks again if the page replaces one of them meanwhile."""
+        look = lambda: ([it for it in self.driver.find_elements("css selector", css) if it.is_displayed()],)
+        return self.wait(look, css)[0]
 
     def find(self, css: str) -> Element:
         """Returns the first element that is shown, once there is one."""
@@ -207,7 +208,7 @@ class User:
         """Clicks on an element when it is there and nothing covers it."""
 
         def clicked() -> bool:
-            """Clicks once. Returns whether nothing lay over the element."""
+            """Clicks once. Returns whether nothing lay over the element. Raises the driver's exception if something else failed."""
             try:
                 self.find(css).click()
                 return True
@@ -220,11 +221,11 @@ class User:
 
     def text(self, css: str) -> str:
         """Returns the text of the first element, once it is shown."""
-        return " ".join(self.find(css).text.split())
+        return self.wait(lambda: (" ".join(self.find(css).text.split()),), css)[0]
 
     def texts(self, css: str) -> list[str]:
         """Returns the texts of the elements that are shown."""
-        return [" ".join(it.text.split()) for it in self.all(css)]
+        return self.wait(lambda: ([" ".join(it.text.split()) for it in self.all(css)],), css)[0]
 
     def text_with(self, css: str, words: str) -> str:
         """Waits for an element whose text has these words. Returns the text, or after the time limit the texts of all, for the message of a failure."""
