@@ -23,7 +23,9 @@ Comparison = Tuple[str, object, object]
 
 
 def make_counted_assertion(name: str) -> Callable[..., None]:
-    """Returns an assertion of `unittest` that is counted."""
+    """Returns the assertion of `unittest` with a name, as a method that also counts: each call in `comparison_count`, and each that holds in
+    `held_count`.
+    """
 
     def compare(self: Case, *values: object, **options: object) -> None:
         """Compares by the assertion of `unittest`, and counts it."""
@@ -35,7 +37,7 @@ def make_counted_assertion(name: str) -> Callable[..., None]:
 
 
 class Case(unittest.TestCase):
-    """A subject. Assertions other than these four are not counted."""
+    """The tests of a subject. They use only the four assertions below, which are counted."""
 
     maxDiff = None
     comparison_count = held_count = 0
@@ -48,7 +50,7 @@ class Case(unittest.TestCase):
 
 
 class Count(unittest.TestResult):
-    """The failures, and the number of assertions that held."""
+    """The failures of tests, and the number of assertions that held (`held_count`)."""
 
     held_count = 0
 

@@ -66,7 +66,7 @@ def split_schedules(listed: str) -> list[tuple[str, str]]:
 
 
 def find_state(page: str, state: str) -> str:
-    """Returns the state of a replay's page, with the registers and locations of another state."""
+    """Returns the state that a replay's page ends in, written as the line of a report that shows the same sites as the line `state`."""
     lines = page.splitlines()
     registers = {it[1]: dict(re.findall(r"(\w+)=(\d+)", it)) for it in lines if re.match(r"P\d at ", it)}
     content = dict(re.findall(r"(\w+)=(\d+)", lines[-1]))
@@ -119,14 +119,14 @@ def list_marks(test: plain.Test) -> str:
 
 
 def check_marks(name: str, text: str, report: str) -> Iterator[Comparison]:
-    """Checks the marks of a search: they have the states of the report, and as many hold."""
+    """Checks the marks of a search: they have the states of the report, and the proposition is true in as many."""
     lines, positive = run_tool([BEYOND, "marks"], text)[0].splitlines(), re.search(r"^Positive: (\d+)", report, re.M)
     yield f"beyond marks, {name}: the states", report.splitlines()[2:-4], [it[2:] for it in lines]
     yield f"beyond marks, {name}: how many hold", positive and int(positive[1]), sum(it.startswith("+ ") for it in lines)
 
 
 def check_refused(name: str, text: str) -> Iterator[Comparison]:
-    """Checks a test that `lw` refuses for size."""
+    """Checks that `lw` refuses a test for its size."""
     for lw_command in ("states", "schedules"):
         _, line, status = run_tool([PROGRAM, lw_command], text)
         yield f"lw {lw_command}, {name}", (True, 3), (line.startswith("lw: limit "), status)
@@ -141,8 +141,8 @@ def check_budget(name: str, text: str, count: int) -> Iterator[Comparison]:
 
 
 def read_rows() -> list[tuple[Any, ...]]:
-    """Returns the rows of bench/beyond/INDEX.md: for each test the orders, the states that a search visits, those of its report, what its
-    report observes, and the checksum of that.
+    """Returns the rows of bench/beyond/INDEX.md: for each test its name, the number of orders, of states that a search visits and of states in its
+    report, the line Observation of its report, and the checksum of its report.
     """
     number = lambda word: int(word.replace(",", ""))
     return [(it[0], *map(number, it[1:4]), *it[4:]) for it in ROW.findall(read("bench/beyond/INDEX.md"))]
@@ -154,7 +154,7 @@ def hash_report(report: str) -> str:
 
 
 def check_row(name: str, orders: int, visited: int, states: int, observed: str, sum_of_report: str) -> Iterator[Comparison]:
-    """Checks a row of bench/beyond/INDEX.md."""
+    """Checks a row of bench/beyond/INDEX.md, which has the fields of `read_rows`."""
     text = read(f"bench/beyond/{name}.litmus")
     test = plain.read_test(text)
     yield f"bench/beyond/{name}, its orders", (True, orders), (orders > 2**20, plain.count_orders(test)[1])
@@ -178,7 +178,7 @@ def make_report_by_search(test: plain.Test) -> str:
 
 
 def check_past(name: str, text: str, report_by: Callable[[plain.Test], str]) -> Iterator[Comparison]:
-    """Checks a test that `lw` refuses for size, whose report this function computes too."""
+    """Checks a test that `lw` refuses for size: the report of `beyond` is that of `report_by`; its budget, marks and schedules are right."""
     yield from check_refused(name, text)
     report, line, status = run_tool([BEYOND, "--method", "states"], text)
     yield f"beyond states, {name}", (report_by(plain.read_test(text)), 0), (report, status)
@@ -188,7 +188,7 @@ def check_past(name: str, text: str, report_by: Callable[[plain.Test], str]) -> 
 
 
 def check_fault(text: str) -> Iterator[Comparison]:
-    """Checks a text that is no test."""
+    """Checks that `beyond` refuses a text that is no test as `lw` does."""
     for words in (["states"], ["--search", "--method", "schedules"]):
         yield f"beyond {' '.join(words)}, {text[:40]!r}", run_tool([PROGRAM, words[-1]], text), run_tool([BEYOND, *words], text)
 
@@ -249,7 +249,7 @@ def check_seconds() -> Iterator[Comparison]:
 
 
 def list_checks() -> Iterator[tuple[Any, ...]]:
-    """Yields all list_checks: functions with their arguments. What takes long comes first."""
+    """Yields all checks, each a function and its arguments. What takes long comes first."""
     yield (check_index,)
     yield (check_seconds,)
     for row in sorted(read_rows(), key=lambda it: it[2], reverse=True):

@@ -41,7 +41,7 @@ def parse_tests(card: str) -> dict[str, list[str]]:
 
 
 def replace_rows(test: list[str], written: str) -> list[str]:
-    """Returns a test with rows in place of its first row, or with a question in place of its question."""
+    """Returns a test with the lines `written` in place of its first row; in place of its question if they do not begin with a blank."""
     if written.startswith(" "):
         return [*test[:FIRST_ROW], *written.split("\n"), *test[FIRST_ROW + 1 :]]
     return [*test[:QUESTION], written]

@@ -48,7 +48,7 @@ def find_function(path: str, line: int) -> str | None:
 
 
 def find_fault(edit: str, report: str | None) -> str | None:
-    """Returns the fault in the refusal of a wrong body, or `None`."""
+    """Returns the fault in the refusal of a wrong body. `None` if it is refused where its first line says."""
     crate, name = edit.split("/")
     with open(f"{HOME}/crates/{crate}/must-fail/{name}", encoding="utf-8") as file:
         text = file.read()

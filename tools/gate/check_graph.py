@@ -100,6 +100,7 @@ def check_schedules(path: str) -> list[Comparison]:
     results: list[Comparison] = []
     for schedule in list_schedules(path, test):
         execution = executions.make_execution(test, schedule)
+        # What each read of the replay finds.
         run, read = plain.X86Replay(test, "mesi"), {}
         for kind, cpu, location in plain.read_schedule(schedule, test.locations):
             position = run.processors[cpu].position
@@ -133,6 +134,12 @@ def list_positions_between(execution: executions.Execution, events: dict[str, ex
     return [position for position in execution.paths[first.thread] if first.position < position < second.position]
 
 
+def do_overlap(first: tuple[float, ...], second: tuple[float, ...]) -> bool:
+    """Returns whether two boxes overlap, each a corner, a width and a height."""
+    (x, y, width, height), (other_x, other_y, other_width, other_height) = first, second
+    return x < other_x + other_width and other_x < x + width and y < other_y + other_height and other_y < y + height
+
+
 def find_picture_faults(picture: str) -> list[str]:
     """Returns the overlaps in a picture of an execution: arrows that cross boxes, labels that lie over boxes or over each other, or out of it.
     """
@@ -141,9 +148,8 @@ def find_picture_faults(picture: str) -> list[str]:
     boxes = [tuple(number(it, key) for key in ("x", "y", "width", "height")) for it in root.iterfind("./svg:g/svg:rect", SVG)]
     labels = [it for it in root.iterfind("./svg:text", SVG) if it.get("class") == "relation"]
     places = [(number(it, "x"), number(it, "y") - 12, 7.9 * len(it.text or ""), 14) for it in labels]
-    overlap = lambda a, b: a[0] < b[0] + b[2] and b[0] < a[0] + a[2] and a[1] < b[1] + b[3] and b[1] < a[1] + a[3]
-    faults = [f"{it.text} over a box" for it, label_box in zip(labels, places) if any(overlap(label_box, box) for box in boxes)]
-    faults += [f"{label.text} over {other_label.text}" for n, label in enumerate(labels) for m, other_label in enumerate(labels[:n]) if overlap(places[n], places[m])]
+    faults = [f"{it.text} over a box" for it, label_box in zip(labels, places) if any(do_overlap(label_box, box) for box in boxes)]
+    faults += [f"{label.text} over {other_label.text}" for n, label in enumerate(labels) for m, other_label in enumerate(labels[:n]) if do_overlap(places[n], places[m])]
     faults += [f"{it.text} out of the picture" for it, box in zip(labels, places) if box[0] < 0 or box[0] + box[2] > number(root, "width")]
     for path in root.iterfind("./svg:path", SVG):
         inside = [box for point in list_curve_points(path.attrib["d"]) for box in boxes if is_inside(point, box)]

@@ -51,14 +51,14 @@ WORDS_IN_A_ROW = 6
 TASK = re.compile(r"^### (\d)\. (.*) \((\d+) minutes, (\d+) points( more)?\)$", re.M)
 ITEM = re.compile(r"^(\d)\. \((\d) points?, (easy|medium|hard)\) ", re.M)
 TIME = re.compile(r"^\| (\d+) to (\d+) \| (.*?) \| (\d*) ?\|$", re.M)
-# A page of a printed document; and a style that leaves only the first task of the sheet.
+# A page of a printed document; and a script that removes all of the sheet but the first task.
 PAGE = re.compile(rb"/Type\s*/Page\b")
 FIRST_TASK = "for (let it = document.querySelector('h3.new-page'); it;) { const next = it.nextElementSibling; it.remove(); it = next; }"
 MIN_TESTS, MIN_ITEMS, MIN_PLAYED = 16, 18, 70
 
 
 # What the sheet has to say once, so that its words and those of the page are one: when a run ends, what slips are there, and the rest.
-SAID = (
+SENTENCES = (
     "A run ends when all threads are at their ends and all slips are handed over.",
     "On the page a row of slips is a store buffer, and a slip is its entry.",
     "Before anything is shown the page asks what you expect",
@@ -139,12 +139,12 @@ def check_silence(lab: str, page: str, tests: dict[str, str]) -> Iterator[Compar
     yield "the sheet and the tests name no other site", [], re.findall(r"https?:|//\w", page + "".join(tests.values()))
 
 
-def check_words(page: str) -> Iterator[Comparison]:
-    """Checks that the sheet says what its words mean on the page."""
-    shown_words = " ".join(re.sub(r"</?em>", "", page).replace("<", " <").split())
-    shown_words = " ".join(extract_visible_text(shown_words).split())
-    for sentence in SAID:
-        yield f"the sheet says: {sentence}", 1, shown_words.count(sentence)
+def check_sentences(pages: str) -> Iterator[Comparison]:
+    """Checks that the sheet and the card together have each of some sentences once."""
+    html = " ".join(re.sub(r"</?em>", "", pages).replace("<", " <").split())
+    words = " ".join(extract_visible_text(html).split())
+    for sentence in SENTENCES:
+        yield f"the sheet or the card says: {sentence}", 1, words.count(sentence)
 
 
 def check_links(tests: dict[str, str]) -> Iterator[Comparison]:
@@ -163,7 +163,7 @@ def check_links(tests: dict[str, str]) -> Iterator[Comparison]:
 
 
 def parse_tasks(text: str) -> list[tuple[str, str, int, int, str]]:
-    """Returns the tasks of a text by their numbers: the title, minutes and points of each, with the text below its heading."""
+    """Returns the tasks of a text, in order: of each the number, the title, the minutes, the points, and the text below its heading."""
     matches = list(TASK.finditer(text))
     ends = [it.start() for it in matches[1:]] + [len(text)]
     return [(it[1], it[2], int(it[3]), int(it[4]), text[it.end() : end].partition("\n### ")[0]) for it, end in zip(matches, ends)]
@@ -184,6 +184,7 @@ def check_points(lab: str) -> Iterator[Comparison]:
     times = [(int(begin), int(end), heading, points) for begin, end, heading, points in TIME.findall(find_section(lab, "For the teacher"))]
     yield "the timetable has no gap", [0, *(it[1] for it in times)], [*(it[0] for it in times), 90]
     yield "the timetable has 75 minutes of work", True, any(it[1] == 75 for it in times)
+    # The last task is for groups that are ready early: it has no row of its own in the timetable.
     for number, title, minutes, points, _ in tasks[:-1]:
         row = next((it for it in times if it[2] == f"{number}. {title}"), None)
         yield f"task {number} in the timetable", (minutes, str(points)), row and (row[1] - row[0], row[3])
@@ -220,7 +221,7 @@ def check_bytes() -> Iterator[Comparison]:
 
 def check_paper(folder: str) -> Iterator[Comparison]:
     """Checks that on paper task 1 is one page, of A4 and of Letter, and the rest at most seven; and that a phone shows all of the sheet."""
-    if not user.is_there():
+    if not user.is_installed():
         return
     driver = user.start_chromium(f"{folder}/paper")
     try:
@@ -275,9 +276,9 @@ def find_offline_wrapper() -> list[str] | None:
 
 def list_missing() -> list[str]:
     """Returns the parts that are missing to play the lab."""
-    requirements: dict[str, object] = {"Chromium with its driver and selenium": user.is_there(), "a permission for unshare": find_offline_wrapper()}
+    requirements: dict[str, object] = {"Chromium with its driver and selenium": user.is_installed(), "a permission for unshare": find_offline_wrapper()}
     requirements["the module of the sources as they are"] = web_files.read_module()
-    return [requirement for requirement, is_there in requirements.items() if not is_there]
+    return [requirement for requirement, is_installed in requirements.items() if not is_installed]
 
 
 def check_played(folder: str) -> Iterator[Comparison]:
@@ -306,7 +307,7 @@ def make_comparisons() -> Iterator[Comparison]:
     page = sheets.make_sheet(lab, tests, None) + sheets.render_document("CARD")
     yield from check_tests(lab, tests)
     yield from check_silence(lab, page, tests)
-    yield from check_words(page)
+    yield from check_sentences(page)
     yield from check_links(tests)
     yield from check_points(lab)
     yield from check_cache_lines()

@@ -63,17 +63,19 @@ it.setSelectionRange(at, at);
 
 
 class Solutions:
-    """The answers of docs/SOLUTIONS.md."""
+    """The answers of docs/SOLUTIONS.md: the text of each task (`tasks`), and for each list of states, by the test's name, the numbers of states in
+    which the condition holds and of all states (`counts`).
+    """
 
     def __init__(self) -> None:
-        """Reads the solutions."""
+        """Reads the section on the lab."""
         text = find_section(read_file("docs/SOLUTIONS.md"), "The lab")
         self.tasks = {int(number): answers for number, *_, answers in parse_tasks(text)}
         lists = re.findall(r"^Observation (\S+) \w+ (\d+) (\d+)$", text, re.M)
-        self.true_of = {name: [int(positive), int(positive) + int(negative)] for name, positive, negative in lists}
+        self.counts = {name: [int(positive), int(positive) + int(negative)] for name, positive, negative in lists}
 
     def find_answer(self, task: int, number: int) -> str:
-        """Returns the answer to an item."""
+        """Returns the answer to the item `number` of a task."""
         return require_match(re.search(rf"^{number}\. (.*?)(?=^\d\. |\Z)", self.tasks[task], re.M | re.S))[1]
 
     def list_places(self) -> list[list[str]]:
@@ -86,7 +88,7 @@ class Student(User):
     """A student with the sheet and the page."""
 
     def __init__(self, folder: str, temporary_folder: str) -> None:
-        """Opens the sheet."""
+        """Opens the sheet, and finds on it the link and the text of each test (`tests`), by its task and its name."""
         super().__init__(SHEET.format(folder), temporary_folder)
         self.driver.get(self.address)
         self.sheet, self.card = self.driver.current_window_handle, None
@@ -115,7 +117,7 @@ class Student(User):
         self.wait(lambda: not self.run(stale), "an answer")
 
     def guess_and_count_states(self, guess: str | None = None) -> list[int]:
-        """Returns in how many states the condition holds, and of how many, once the guess is made."""
+        """Makes a guess, if one is passed. Returns the numbers of states in which the condition holds and of all states."""
         if guess:
             self.click(f"#{guess}")
         self.wait_for_answer()
@@ -125,14 +127,14 @@ class Student(User):
         return [int({"all": number, "none": "0"}.get(holding, holding)), int(number)]
 
     def begin_by_hand(self, guess: str) -> None:
-        """Begins by hand, with a guess."""
+        """Opens the tab By hand of a test, and makes the guess that is asked for there."""
         self.click("#tab-hand")
         self.click(f"#{guess}")
         self.text_with("#outcome .found", "States found so far: 0.")
         self.find("#watching [data-event=P0]")
 
     def play_schedule(self, schedule: Sequence[str]) -> tuple[list[str], bool]:
-        """Makes a run by hand, and returns its end."""
+        """Makes a run by hand. Returns the registers at its end, as they are shown, and whether the page says that the run has ended."""
         self.click(".transport [aria-label='To the start']")
         self.wait(lambda: self.done() == "", "the start")
         self.carry_out(*schedule)
@@ -151,10 +153,10 @@ class Student(User):
         self.wait_for_answer()
 
     def list_fences(self) -> tuple[list[str], str]:
-        """Returns the fences that are there, and the words on them."""
+        """Returns the fences in the table of the tab Fences, and the sentence above it."""
         self.click("#tab-fences")
         verdict = self.text("#fences .verdict")
-        return self.texts("#fences tbody th"), verdict
+        return self.texts("#fences tbody th:not(.locks *)"), verdict
 
 
 # The tasks.
@@ -189,7 +191,7 @@ def check_by_hand(student: Student, answers: Solutions) -> Iterator[Comparison]:
     student.click("#watching [data-event=P0]")
     yield "2.3: by a click", True, waits in student.says(waits)
     student.open_test(2, "B2")
-    yield "2.4", answers.true_of["SB+mfence-x86"], student.guess_and_count_states("yes")
+    yield "2.4", answers.counts["SB+mfence-x86"], student.guess_and_count_states("yes")
     student.click(".transport [aria-label='To the end']")
     yield "2.4: its run", True, "The run has ended" in student.says("The run has ended")
 
@@ -206,7 +208,7 @@ def check_queue(student: Student, answers: Solutions) -> Iterator[Comparison]:
     ends = [student.play_schedule(it.split())[0] for it in runs]
     yield "3.1: nobody sees y without x", [["EAX=1", "EBX=1"], ["EAX=0", "EBX=1"], ["EAX=0", "EBX=1"], ["EAX=0", "EBX=0"]], ends
     student.open_test(3, "C1")
-    yield "3.2", answers.true_of["2+2W-x86"], student.guess_and_count_states("no")
+    yield "3.2", answers.counts["2+2W-x86"], student.guess_and_count_states("no")
     student.open_test(3, "C2")
     student.begin_by_hand("yes")
     answer = answers.find_answer(3, 3)
@@ -215,7 +217,7 @@ def check_queue(student: Student, answers: Solutions) -> Iterator[Comparison]:
     yield "3.3: the list", [1, 9], student.guess_and_count_states()
     for name, example in {"A2": "MP", "A3": "LB", "A4": "R", "A5": "WRC", "A6": "IRIW"}.items():
         student.open_test(1, name)
-        positive, number = answers.true_of[f"{example}-x86"]
+        positive, number = answers.counts[f"{example}-x86"]
         # Of A2 the guess was made in task 3, and is not asked for again.
         guess = None if name == "A2" else "yes" if positive else "no"
         yield f"3.4, the last column: {name}", [positive, number], student.guess_and_count_states(guess)
@@ -225,7 +227,7 @@ def check_queue(student: Student, answers: Solutions) -> Iterator[Comparison]:
 def check_own_store(student: Student, answers: Solutions) -> Iterator[Comparison]:
     """Plays task 4: the own store."""
     student.open_test(4, "D1")
-    yield "4.1", answers.true_of["SB+own-x86"], student.guess_and_count_states("yes")
+    yield "4.1", answers.counts["SB+own-x86"], student.guess_and_count_states("yes")
     student.open_test(4, "D2")
     student.guess_and_count_states("yes")
     actual = answers.find_answer(4, 2)
@@ -245,9 +247,9 @@ def check_own_store(student: Student, answers: Solutions) -> Iterator[Comparison
     words_by_row = {name: words.split() for name, words in re.findall(r"^(P\d buffer|Content)(.*)$", actual, re.M)}
     yield "4.2: before the last drain", [[words_by_row["P0 buffer"], words_by_row["P1 buffer"]], words_by_row["Content"]], steps[last]
     student.open_test(4, "D3")
-    yield "4.3", answers.true_of["n7-x86"], student.guess_and_count_states("yes")
+    yield "4.3", answers.counts["n7-x86"], student.guess_and_count_states("yes")
     student.type_row_after(4, " MFENCE | MFENCE | ;")
-    yield "4.3: by interleaving, with fences", answers.true_of["n7"], student.guess_and_count_states()
+    yield "4.3: by interleaving, with fences", answers.counts["n7"], student.guess_and_count_states()
 
 
 def check_repair_shop(student: Student, answers: Solutions) -> Iterator[Comparison]:
@@ -261,11 +263,11 @@ def check_repair_shop(student: Student, answers: Solutions) -> Iterator[Comparis
     }
     for name, (example, *rows) in tests.items():
         student.open_test(5, name)
-        yield f"5, {name} as it is", answers.true_of[example], student.guess_and_count_states(None if name == "A4" else "yes")
+        yield f"5, {name} as it is", answers.counts[example], student.guess_and_count_states(None if name == "A4" else "yes")
         for line, row, expected in rows:
             student.open_test(5, name)
             student.type_row_after(line, row)
-            positive, number = answers.true_of[expected]
+            positive, number = answers.counts[expected]
             yield f"5, {name} with {row} after line {line}, and no second guess", [positive, number], student.guess_and_count_states()
             fences, verdict = student.list_fences()
             is_it = f"the condition holds in none of {number} states." if not positive else f"in the same {number} states, and the condition holds in 1 of them."
@@ -276,12 +278,12 @@ def check_repair_shop(student: Student, answers: Solutions) -> Iterator[Comparis
     student.guess_and_count_states("yes")
     for line in (8, 4, 3):
         student.type_row_after(line, " MFENCE | MFENCE ;")
-    yield "5.4, E3 with fences", answers.true_of["TestThenSet-x86"], student.guess_and_count_states()
+    yield "5.4, E3 with fences", answers.counts["TestThenSet-x86"], student.guess_and_count_states()
     nothing = "The fences change nothing: with all of them and with none the test ends in the same 3 states, and the condition holds in 1 of them."
     yield "5.4, E3: Fences", nothing, student.list_fences()[1]
     student.open_test(5, "E4")
     yield "5.4, E4: what is asked", True, "by interleaving, in which the threads take turns," in student.text("#outcome .predict")
-    yield "5.4, E4", answers.true_of["TestThenSet"], student.guess_and_count_states("yes")
+    yield "5.4, E4", answers.counts["TestThenSet"], student.guess_and_count_states("yes")
     yield "5.4, E4: by interleaving", True, "There is a run by interleaving" in student.text("#outcome .verdict")
 
 

@@ -21,7 +21,7 @@ from collections.abc import Iterable, Iterator
 from gate.cases import Comparison
 from shared import command
 from shared.antt import Sentence
-from shared.antt_names import MARKS, Declaration, File, Files, read_words
+from shared.antt_names import MARKS, Declaration, File, Files, parse_words
 from shared.antt_terms import Group, Node, find_index, group_tokens, require_index
 from shared.home import HOME
 
@@ -52,7 +52,7 @@ def is_answer(declaration: Declaration) -> bool:
 
 
 def list_name_candidates(word: str) -> set[str]:
-    """Returns a word of a text, and what it may be the field or the module of."""
+    """Returns a word, and the parts of it before each dot: a field's name follows that of its record, and a name that of its module."""
     parts = word.split(".")
     return {word, *(".".join(parts[:many]) for many in range(1, len(parts)))}
 
@@ -65,15 +65,13 @@ class UsedNames:
         self.files = files
         self.abroad: set[tuple[str, str]] = set()  # the modules and names that are used in other files
         for file in files.all:
-            self.read_imports(file)
+            self.record_imports(file)
         self.code = list_code_names()
 
-    def read_imports(self, file: File) -> None:
-        """Reads what a file uses of others: each name that it imports, except those that it only exports again, and what it names by a
-        path.
-        """
+    def record_imports(self, file: File) -> None:
+        """Records what a file uses of others: each name that it imports, except those that it only exports again, and what it names by a path."""
         bodies = [it for it in file.sentences if not IMPORTS.match(it.text)]
-        words = {part for it in bodies for word in read_words(it) for part in list_name_candidates(word)}
+        words = {part for it in bodies for word in parse_words(it) for part in list_name_candidates(word)}
         for name, (module, name_there) in file.imports.items():
             if name not in file.reexports or name in words:
                 self.abroad.add(self.files.find_origin(module, name_there))
@@ -97,7 +95,7 @@ class UsedNames:
 
 def is_in(name: str, sentence: Sentence) -> bool:
     """Returns whether a sentence names a name, or a field of it."""
-    return any(it == name or it.startswith(f"{name}.") for it in read_words(sentence))
+    return any(it == name or it.startswith(f"{name}.") for it in parse_words(sentence))
 
 
 def list_sentences(declaration: Declaration) -> list[Sentence]:
@@ -205,7 +203,7 @@ def list_parameters(declaration: Declaration) -> list[Group]:
     """Returns the binders of the modules around a declaration."""
     binders = []
     for head in declaration.scope:
-        binders += [it for it in group_tokens(read_words(head)) if isinstance(it, Group)]
+        binders += [it for it in group_tokens(parse_words(head)) if isinstance(it, Group)]
     return binders
 
 
@@ -241,16 +239,16 @@ def list_module_binders(declaration: Declaration, nodes: list[Node]) -> list[Gro
 
 def is_definition(declaration: Declaration) -> bool:
     """Returns whether a declaration says what something is, and not that something holds."""
-    first = [it for it in read_words(declaration.head)[:3] if it not in MARKS][0]
+    first = [it for it in parse_words(declaration.head)[:3] if it not in MARKS][0]
     return declaration.is_definition or first in ("record", "data") or not is_proof(declaration.file) and "/laws/" not in os.path.relpath(declaration.file.path, HOME)
 
 
 def make_statement(files: Files, declaration: Declaration) -> tuple[str, ...]:
     """Returns the statement of a declaration, as words."""
-    nodes = group_tokens(read_words(declaration.head))
+    nodes = group_tokens(parse_words(declaration.head))
     if is_definition(declaration):
         for part in declaration.parts:
-            nodes += [";", *group_tokens(read_words(part))]
+            nodes += [";", *group_tokens(parse_words(part))]
     else:
         nodes = nodes[require_index(nodes, "a signature", ":") + 1 :]
     statement = Statement(files, declaration.file)
@@ -271,7 +269,7 @@ def bind_patterns(declaration: Declaration, statement: Statement) -> None:
 
 def list_patterns(part: Sentence) -> list[Node]:
     """Returns the patterns of a clause: what is between its name and its sign of equality."""
-    nodes = group_tokens(read_words(part))
+    nodes = group_tokens(parse_words(part))
     equals = find_index(nodes, "=")
     return nodes[1:equals] if equals else []
 
@@ -285,7 +283,7 @@ def is_compared(declaration: Declaration) -> bool:
     if is_definition(declaration):
         is_number = re.search(r"= [0-9_]+$", " ".join(it.text for it in declaration.parts))
         return not is_number and not (declaration.scope and not declaration.is_public)
-    return bool(CLAIMS & set(read_words(declaration.head)))
+    return bool(CLAIMS & set(parse_words(declaration.head)))
 
 
 def group_duplicates(files: Files) -> list[list[Declaration]]:

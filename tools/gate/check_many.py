@@ -125,7 +125,7 @@ def check_against() -> Iterator[Comparison]:
         wanted = f"{len(examples())} tests against {len(examples())} of {log}: 0 differ"
         yield "run_all.py against itself", (wanted, 0), (err.splitlines()[-1], status)
         report = run(["to_herd.py", "--report", "--form", "X86_64"], plain.make_report(plain.read_test(read("examples/SB-x86.litmus"))))[0]
-        yield "a report in herd's lines", {"SB-x86": 4}, {name: len(states) for name, states in logs.read_states(report.splitlines()).items()}
+        yield "a report in herd's lines", {"SB-x86": 4}, {name: len(states) for name, states in logs.parse_states(report.splitlines()).items()}
         for text, expected in ((report, (f"1 tests against 1 of {log}: 0 differ\n", 0)), (LOG_OF_HERD, (TOLD_OF_LOG.format(log=log), 1))):
             with open(log, "w", encoding="utf-8") as log_file:
                 log_file.write(text)

@@ -1,5 +1,5 @@
 """Checks that what the documents name exists: each crate, file, call, clause and definition that docs/THEOREMS.md, BELIEVE.md, AXIOMS.md,
-DECISIONS.md, MAP.md, PROOF.md, TRUSTED.md and CONTRIBUTING.md have in backticks. tools/check_documents.py calls it.
+DECISIONS.md, MAP.md, WEB.md, PROOF.md, TRUSTED.md and CONTRIBUTING.md have in backticks. tools/check_documents.py calls it.
 
     python3 tools gate.check_names
 
@@ -8,6 +8,7 @@ DECISIONS.md, MAP.md, PROOF.md, TRUSTED.md and CONTRIBUTING.md have in backticks
 - `lw_x::name`, `Type::name`: a function, type, field or variant of the crate, or of a crate that has the type.
 - A single word: a name of the crates, tools or pages. In the column of contracts of THEOREMS.md it is a function, a clause, a field or
   a definition.
+- A relation such as `IsReport`, alone or with arguments, is in the code or the definitions of some crate; docs/PROOF.md may name those of proofs.
 
 What is no name (a command, a text, a number) is not checked, except the paths in a command; nor is what a build makes (in a folder out/). And:
 
@@ -34,7 +35,7 @@ from gate import check_trusted, check_wings
 from shared import command
 from shared.home import HOME
 
-DOCUMENTS = "THEOREMS", "BELIEVE", "AXIOMS", "DECISIONS", "MAP", "PROOF", "TRUSTED", "CONTRIBUTING"
+DOCUMENTS = "THEOREMS", "BELIEVE", "AXIOMS", "DECISIONS", "MAP", "WEB", "PROOF", "TRUSTED", "CONTRIBUTING"
 ENDINGS = "", ".antt", ".rt", ".py", ".md", ".txt", ".litmus"
 WORD = re.compile(r"[^\W\d][\w'-]*")
 PATH = re.compile(r"^(?:[\w.+-]+/)+[\w.*+-]*$")
@@ -47,6 +48,9 @@ LINKED_NAME = re.compile(r"\[`([\w'+-]+)`\]\(\.\./(crates/[^)\s]+)\)")
 BELOW_CRATE = re.compile(r"`(?:(lw_\w+)/)?((?:src|specs|proofs|must-fail)/[\w.+/-]*)`(?: of (lw_\w+))?|\b(lw_\w+)")
 # The start of a paragraph, of an item of a list or of a row of a table.
 BLOCK = re.compile(r"\n\s*\n|\n(?=\s*(?:-|\d+\.) |\|)")
+# A relation in a text in backticks, and the page that may name those of proofs.
+RELATION = re.compile(r"(?<![\w.-])(?:Is|Has|Are|Fails|Reaches)[A-Z]\w*")
+ON_PROOFS = "PROOF"
 # A function of the toolchain's crates; check_trusted compares those of docs/TRUSTED.md.
 OF_KIT = re.compile(r"(libc|os)::[\w:]+")
 # Words of the language, of std and of the format, which no file of the repository declares.
@@ -78,7 +82,8 @@ class Names:
         others = "\n".join(
             map(read_file, list_files("crates/*/proofs/**/*.antt", "tools/*", "tools/*/*", "web/*", "crates/*/must-fail/*", "*.sh", "lw", "page"))
         )
-        self.words = set(WORD.findall(specs + code + others)) | COMMON
+        self.defined = set(WORD.findall(specs + code)) | COMMON
+        self.words = self.defined | set(WORD.findall(others))
         declared = r"(?:fn|struct|enum|trait|type|ensures|requires|ghost|const|mod)\s+(\w+)"
         fields = r"^\s*(?:abbrev )?(?:pub )?(?:data |record )?(\w[\w']*)\s*(?:[:({]|$)"
         self.declared = set(re.findall(declared, code)) | set(re.findall(fields, specs + "\n" + code, re.M)) | COMMON
@@ -113,7 +118,7 @@ class Names:
         return re.search(rf"(?:fn|struct|enum|trait|const) {last}\b|pub use [^;]*\b{last}\b", whole) is not None
 
     def exists(self, name: str, is_in_contracts: bool) -> bool | None:
-        """Returns whether a name exists; `None` if it is no name that is checked."""
+        """Returns whether a name exists, in contracts if the text is on these. `None` if it is no name that is checked."""
         if name in self.crates or PLACEHOLDER.search(name):
             return True
         if OF_KIT.fullmatch(name):
@@ -235,8 +240,8 @@ def find_logic_faults(text: str, version_text: str) -> Iterator[str]:
         yield f"README.md names '{named_here and named_here[0]}', and `rt version` '{by_rt and by_rt[0]}'"
 
 
-def read_version() -> str:
-    """Returns the output of `rt version`, or nothing if there is none."""
+def capture_version() -> str:
+    """Returns what `rt version` prints; an empty text if there is no rt."""
     try:
         return subprocess.run(["rt", "version"], capture_output=True, text=True, check=False).stdout
     except OSError:
@@ -246,9 +251,13 @@ def read_version() -> str:
 def find_name_faults(names: Names) -> Iterator[str]:
     """Yields the names that do not exist, a line each."""
     for document in DOCUMENTS:
-        for name, in_contracts in dict.fromkeys(list_quoted(read_file(f"{HOME}/docs/{document}.md"))):
+        quoted = list_quoted(read_file(f"{HOME}/docs/{document}.md"))
+        for name, in_contracts in dict.fromkeys(quoted):
             if names.exists(name, in_contracts) is False:
                 yield f"docs/{document}.md names `{name}`, which is not there"
+        relations = dict.fromkeys(it for text, _ in quoted for it in RELATION.findall(text))
+        if document != ON_PROOFS:
+            yield from (f"docs/{document}.md names `{it}`, which no crate defines" for it in relations if it not in names.defined)
 
 
 def find_faults() -> list[str]:
@@ -262,7 +271,7 @@ def find_faults() -> list[str]:
             *find_crate_path_faults(path, text, names.crates),
         ]
     faults += find_table_faults(parse_crate_rows(read_file(f"{HOME}/docs/MAP.md")), check_wings.read_dependencies())
-    return [*faults, *find_logic_faults(read_file(f"{HOME}/README.md"), read_version()), *check_trusted.find_faults()]
+    return [*faults, *find_logic_faults(read_file(f"{HOME}/README.md"), capture_version()), *check_trusted.find_faults()]
 
 
 def main() -> int:

@@ -56,7 +56,7 @@ BY_LAB = """
 import hashlib, sys
 sys.dont_write_bytecode = True
 from page import origin
-origin.read_origin = lambda: origin.Origin(None, False, None)
+origin.read_origin = lambda address: origin.Origin(None, False, None)
 import make_lab
 import make_slides
 from page import web_files
@@ -134,7 +134,7 @@ def check_calls(home: str, system: System) -> Iterator[Comparison]:
     words = make_script_command("tools", BY_LAB)
     yield "what a class needs", run_on_system(words, TEST, HOME, HostSystem()), run_on_system(words, TEST, home, system)
     printed = run_on_system(make_script_command("tools", BY_ORIGIN), TEST, home, system)
-    yield "where it comes from", (0, f"{'0' * 40} False {GATE}\n".encode()), printed
+    yield "where it comes from", (0, f"{'0' * 40} False {GATE} None\n".encode()), printed
     words = make_script_command("python", BY_LIBRARY, TEST)
     yield "the library from Python", run_on_system(["./lw", "states"], TEST, HOME, HostSystem()), run_on_system(words, TEST, home, system)
 

@@ -509,7 +509,7 @@ class Copy:
         os.chmod(path, 0o755)
 
     def wait_for_processes(self, number: int) -> list[int]:
-        """Returns the processes that the program has noted, once there are that many."""
+        """Waits up to ten seconds until the program has noted this number of processes. Returns those that it has noted; none if they are fewer."""
         for _ in range(100):
             with contextlib.suppress(FileNotFoundError), open(f"{self.room}/started", encoding="utf-8") as file:
                 processes = [int(line) for line in file.read().split()]
@@ -534,7 +534,7 @@ def is_alive(process: int) -> bool:
 
 
 def wait_until_gone(processes: Sequence[int]) -> bool:
-    """Returns whether processes end within two seconds, as far as these may be meant."""
+    """Waits for processes to end, for two seconds times `measure_patience()`. Returns whether there are some and all have ended."""
     for _ in range(20 * measure_patience()):
         if processes and not any(map(is_alive, processes)):
             return True
@@ -549,7 +549,7 @@ def check_misbehaving() -> Iterator[Comparison]:
         page = Page(copy.home, PATH=copy.path)
         try:
             yield from check_crashes(page)
-            yield from check_left(copy, page)
+            yield from check_abandoned_run(copy, page)
             yield from check_limits(copy, page)
             yield from check_too_long(copy, page)
             yield from check_stale(copy, page)
@@ -567,8 +567,8 @@ def check_crashes(page: Page) -> Iterator[Comparison]:
     yield "the server is alive after that", 200, page.get_file("/")[0]
 
 
-def check_left(copy: Copy, page: Page) -> Iterator[Comparison]:
-    """Closes a connection while its run continues."""
+def check_abandoned_run(copy: Copy, page: Page) -> Iterator[Comparison]:
+    """Checks that a run is ended if its client closes the connection."""
     copy.forget_processes()
     body = json.dumps({"words": ["states"], "text": "Hangs"}).encode()
     with page.connect() as connection:
@@ -684,7 +684,9 @@ def check_no_program() -> Iterator[Comparison]:
 
 
 def check_port_of_http() -> Iterator[Comparison]:
-    """Serves at the port of HTTP, which a browser leaves out of an address. (Not everybody may listen there.)"""
+    """Checks that a server at port 80, which a browser leaves out of `Host` and `Origin`, takes these without a port and refuses another host's. Yields
+    nothing if port 80 can't be listened on.
+    """
     if not can_listen(80):
         return
     page = Page(port=80)
@@ -708,12 +710,12 @@ def can_listen(port: int) -> bool:
 
 
 def measure_patience() -> int:
-    """Returns the factor of all limits of time: more than 1 while other work uses all processors."""
+    """Returns by what all limits of time are multiplied: 1, or more while other work uses all processors."""
     return 1 if os.getloadavg()[0] < len(os.sched_getaffinity(0)) else 10
 
 
 def measure_first_report() -> float:
-    """Returns the seconds from a ./page to its first report, with the files that a browser asks for."""
+    """Returns the seconds from a ./page to its first report, with four of the files that a browser asks for."""
     began = time.monotonic()
     page = Page()
     try:
@@ -774,7 +776,7 @@ def check_by_client() -> Iterator[Comparison]:
 
 def check_by_browser() -> Iterator[Comparison]:
     """Yields all comparisons in a browser, if there is one. CI has to have one."""
-    if not user.is_there():
+    if not user.is_installed():
         if os.environ.get("CI") == "true":
             yield name_comparison(("there is a browser where CI=true", "", describe_skipped()))
         return
@@ -812,7 +814,7 @@ def try_subjects(page: Page, chosen: Iterable[type[page_case.PageCase]], where: 
 
 
 def make_handed_on_folder(home: str) -> None:
-    """Makes a folder with the files that ./page needs, without sources and without a module."""
+    """Fills a folder with the files that ./page needs, without sources and without a module."""
     os.makedirs(f"{home}/crates/lw/out")
     for name in ("tools", "docs", "web", "examples"):
         shutil.copytree(f"{HOME}/{name}", f"{home}/{name}")
@@ -826,7 +828,7 @@ class Misbehaving(page_case.PageCase):
     copy: Copy
     page: Page
 
-    def test_told(self) -> None:
+    def test_messages(self) -> None:
         """A run that hangs is cancelled; and the page says that the sources have changed, and that its server has ended."""
         user, copy = self.user, self.copy
         user.open()
@@ -881,10 +883,10 @@ def format_fault(comparison: Comparison) -> str | None:
 
 def describe_skipped() -> str | None:
     """Returns the line that says what was left out, or None if nothing was."""
-    if user.is_there():
+    if user.is_installed():
         return None
     missing = "chromium, chromium-driver or python3-selenium is missing"
-    return f"./page: {page_case.number_of(subjects.ALL)} tests in a browser were skipped: {missing}"
+    return f"./page: {page_case.count_tests(subjects.ALL)} tests in a browser were skipped: {missing}"
 
 
 def main() -> int:

@@ -89,14 +89,14 @@ def check_page(page: str, tests: list[quiz.QuizTest]) -> Iterator[Comparison]:
     yield "the page holds the seed, a mark, the tests, and what is hidden", ["hidden", "mark", "reasons", "seed", "tests"], sorted(data)
     yield from check_reasons(data, tests)
     yield "the page has the tests", [it.text for it in tests], data["tests"]
-    yield "what is hidden is found again", [it.encode_answers() for it in tests], quiz.read_answers(data)
+    yield "what is hidden is found again", [it.encode_answers() for it in tests], quiz.parse_answers(data)
     symbols = {(it.encode_answers(), symbol) for it, symbol in zip(tests, data["hidden"])}
     yield "no answer has a symbol of its own", True, len(symbols) > len({it.encode_answers() for it in tests})
 
 
 def check_reasons(data: quiz.Data, tests: list[quiz.QuizTest]) -> Iterator[Comparison]:
     """Checks why each test can end so or can't: a run if it can, which ends so, and a cycle if it can't. None is in plain sight."""
-    for index, (other_reason, reason_read) in enumerate(zip(tests, quiz.read_reasons(data)), 1):
+    for index, (other_reason, reason_read) in enumerate(zip(tests, quiz.parse_reasons(data)), 1):
         kinds = ["run" if verdict else "cycle" for verdict in (other_reason.interleaved, other_reason.on_x86)]
         yield f"the reasons on test {index}", kinds, [reason["kind"] for reason in reason_read]
         yield f"the reasons on test {index} have events", True, all(len(reason.get("steps") or reason["events"]) > 1 for reason in reason_read)
@@ -132,7 +132,7 @@ def check_codes(page: str, folder: str) -> Iterator[Comparison]:
     """Checks that a code is read as what it was made of, also with letters that are misread for others, and what tools/read_codes.py prints of codes;
     and the comparisons of `check_bad_codes` and `check_node`.
     """
-    data, rights = parse_data(page), quiz.read_answers(parse_data(page))
+    data, rights = parse_data(page), quiz.parse_answers(parse_data(page))
     code_of_page = codes.CodeContents(data["mark"], data["seed"], STUDENT, make_answers(rights, WRONG))
     code = codes.make_code(code_of_page)
     yield "a code has letters and digits", True, bool(re.fullmatch(r"[0-9A-Z]{12,40}", code))
@@ -159,12 +159,13 @@ def check_node(page: str, code: str, rights: list[int]) -> Iterator[Comparison]:
     answers = make_answers(rights, WRONG)
     printed = subprocess.run([NODE, "-"], input=(require_match(SCRIPT.search(page))[1] + "console.log(JSON.stringify(quiz.tests.map((_, at) => reasonsOf(at))));").encode(),
                           capture_output=True, timeout=60, check=False)
-    yield "the page's own JavaScript finds the reasons", quiz.read_reasons(parse_data(page)), json.loads(
+    yield "the page's own JavaScript finds the reasons", quiz.parse_reasons(parse_data(page)), json.loads(
         printed.stdout or b"0"
     ) or printed.stderr.decode()
     script = f"console.log(JSON.stringify([rightAnswers(), codeOf(studentOf('  Ana  17 '), {answers}), studentOf(' Ä  é '), studentOf('a<b'), studentOf('a'.repeat(17))]));"
     ran = subprocess.run([NODE, "-"], input=(require_match(SCRIPT.search(page))[1] + script).encode(), capture_output=True, timeout=60, check=False)
     yield "the page's own JavaScript", [rights, code, "ä é", None, None], json.loads(ran.stdout or b"0") or ran.stderr.decode()
+    # Codes of names in any letters.
     data = parse_data(page)
     for name in ("ä é", "李明", "ольга", "o'neil"):
         script = f"console.log(codeOf({json.dumps(name)}, {answers}));"
@@ -174,6 +175,7 @@ def check_node(page: str, code: str, rights: list[int]) -> Iterator[Comparison]:
         handed_in = codes.CodeContents(data["mark"], data["seed"], name, answers)
         yield f"the page's code of {name}", codes.make_code(handed_in), ran.stdout.decode().strip()
         yield f"the code of {name} is read", handed_in, codes.parse_code(ran.stdout.decode().strip())
+    # Good codes and bad ones, as the page's teacher reads them.
     handed_in = codes.CodeContents(data["mark"], data["seed"], STUDENT, answers)
     lines = [codes.make_code(handed_in._replace(student=name)) for name in (STUDENT, "ä é", "李明", "z" * codes.MAX_LETTERS)]
     others = [
@@ -230,7 +232,7 @@ def check_bad_codes(code: str, handed_in: codes.CodeContents, folder: str) -> It
 
 def check_browser(page: str, folder: str) -> Iterator[Comparison]:
     """Tries the page in a browser, as wide as a phone: it says what is missing, and the code that it shows is read."""
-    if not users.is_there():
+    if not users.is_installed():
         return
     user = users.User(f"file://{folder}/quiz.html", f"{folder}/profile")
     try:
@@ -238,16 +240,18 @@ def check_browser(page: str, folder: str) -> Iterator[Comparison]:
         user.open()
         yield "the page fits a phone", [360, 360], user.run("return [innerWidth, document.documentElement.scrollWidth]")
         user.click("#done")
+        # What is missing, answer by answer.
         printed = user.text("#fault"), user.focused().get_attribute("name")
         yield "what is missing is reported", ('Test 1 has no answer to "Can it end this way by interleaving?"', "interleaving1"), printed
         is_in_sight = "const { top, bottom } = document.getElementById('fault').getBoundingClientRect(); return top >= 0 && bottom <= innerHeight"
         yield "what is missing is reported in sight", True, user.run(is_in_sight)
-        for index, answer in enumerate(make_answers(quiz.read_answers(parse_data(page)), WRONG), 1):
+        for index, answer in enumerate(make_answers(quiz.parse_answers(parse_data(page)), WRONG), 1):
             for kind, bit in (("interleaving", 1), ("x86", 2)):
                 user.click(f"input[name={kind}{index}][value={'yes' if answer & bit else 'no'}]")
         user.click("#done")
         yield "a student is asked for", (True, "student"), ("Your name or number" in user.text("#fault"), user.focused().get_attribute("id"))
         yield "no code before", [], user.all("#code")
+        # What is stored, and the code of all answers.
         user.find("#student").send_keys("Ana 17")
         user.driver.refresh()
         user.find("body[data-ready]")
@@ -258,10 +262,12 @@ def check_browser(page: str, folder: str) -> Iterator[Comparison]:
         yield "the code is read", ([HEADING, ["1", *ROW]], "", 0), run_and_split(user.text("#code"), f"{folder}/quiz.html")
         user.click("#copy")
         yield "the code is copied", True, user.is_soon(lambda: user.text("#said") in ("Copied.", "It is selected: copy it by hand."))
+        # What the page says after that.
         marks = user.texts("fieldset .told")
         yield "the page shows what was right", (2 * TESTS - 4, 4), (marks.count("✓"), sum(it.startswith("✗") for it in marks))
         whys = user.run("return [...document.querySelectorAll('fieldset .why')].map((it) => [it.open, it.querySelectorAll('li').length > 1])")
         yield "each question shows why, unfolded where the answer was wrong", [[not it.startswith("✓"), True] for it in marks], whys
+        # The teacher's part.
         code = user.text("#code")
         user.click("#teacher summary")
         user.find("#handed-in").send_keys(f"{code}\n\nabc")
@@ -275,7 +281,7 @@ def check_browser(page: str, folder: str) -> Iterator[Comparison]:
 
 def check_links(page: str, folder: str) -> Iterator[Comparison]:
     """Checks that with the address of lw's page each answer has a link at the end: to its run, or to the test and why it has none."""
-    if not users.is_there():
+    if not users.is_installed():
         return
     user = users.User(f"file://{folder}/linked.html", f"{folder}/profile-of-links")
     try:
@@ -290,7 +296,7 @@ def check_links(page: str, folder: str) -> Iterator[Comparison]:
         data = parse_data(page)
         expected = [
             {"text": text, **({"view": "hand", "schedule": str(reason["schedule"])} if "schedule" in reason else {"view": "why"})}
-            for text, both in zip(data["tests"], quiz.read_reasons(data)) for reason in both
+            for text, both in zip(data["tests"], quiz.parse_reasons(data)) for reason in both
         ]
         yield "each answer opens its test on the page, with its run", expected, views
         yield "all tests open in one tab", {"lw"}, {target for target, _ in links}

@@ -211,11 +211,12 @@ function questionsOn(text) {
 // The most accesses of a test in which places for fences are looked for.
 const FEW_ACCESSES = 14;
 
-/** Returns the questions where further fences would answer that of a test, and of an x86 test what interleaving gives, if the test is small. */
+/** Returns the questions where further fences would answer that of a test, which locks matter, and of an x86 test what interleaving gives, if it is small. */
 function moreFencesOf(text) {
   const number = (String(text).match(/\[|:=/g) ?? []).length;
   const interleaved = /^\s*X86/.test(text) ? [["interleaved", {}]] : [];
-  return number <= FEW_ACCESSES ? [["more fences", {}], ...interleaved] : [];
+  const exchanges = [["exchanges", { everything: false }], ["exchanges", { everything: true }]];
+  return number <= FEW_ACCESSES ? [["more fences", {}], ...exchanges, ...interleaved] : [];
 }
 
 // A test of so many accesses and fences, compiled, has few executions.
@@ -329,13 +330,13 @@ function shown(answer) {
 async function compareText(page, program, plain, tally, name, text) {
   for (const [question, more] of questionsOn(text)) {
     const fields = { text, ...more };
-    const answered = page.questions.answerTo(program, question, fields);
+    const answered = page.questions.answerQuestion(program, question, fields);
     tally.compare(`${name}: ${question} ${JSON.stringify(more)}`, shown(await plain.ask(question, fields)), shown(answered));
     for (const film of Object.values(answered.films ?? {}).filter(Boolean)) compareEffects(tally, name, film);
     if (answered.films) compareCondition(page, tally, name, text, answered);
     for (const kind of ["compiled", "bare"].filter((it) => answered[it])) {
       const list = { text: answered[kind] };
-      const answer = page.questions.answerTo(program, "states", list);
+      const answer = page.questions.answerQuestion(program, "states", list);
       tally.compare(`${name}: the states of what is ${kind}`, shown(await plain.ask("states", list)), shown(answer));
     }
   }
@@ -346,7 +347,7 @@ async function compareText(page, program, plain, tally, name, text) {
 function compareCondition(page, tally, name, text, { films, state }) {
   const decoded = text.toString();
   const words = page.condition_words.describeCondition(decoded);
-  const { isAsked } = page.condition_words.questionOf(decoded);
+  const { isAsked } = page.condition_words.parseQuestion(decoded);
   if (!words || !films.x86 || /^\s*\(?\*?.*forall/ms.test(decoded) || !isAsked(state)) return;
   const isRead = ([, thread, listed]) => {
     const expected = [...listed.matchAll(/`(\w+=\d+)`/g)].map(([, it]) => it);
@@ -399,7 +400,7 @@ function compareReplays(page, program, tally, name, text) {
   for (const [at, schedule] of schedules.entries()) {
     const words = ["replay", schedule.trim(), "--protocol", PROTOCOLS[at % 2]];
     const ran = program.run(words, compiled);
-    const printed = page.program.textOf(ran.out);
+    const printed = page.program.decodeText(ran.out);
     program.workbench.compare?.(words, compiled, ran);
     tally.compare(`${name}: ${words.join(" ")} is read`, printed, asPrinted(page.replays.parseReplayState(printed)));
   }
@@ -474,7 +475,7 @@ function compareArguments(page, tally) {
 /** Lists by a search: within the limits they are those by orders, and past them those of the program beyond, with runs that end in them. */
 function compareSearches(page, program, tally, texts) {
   if (!fs.existsSync(BEYOND)) return;
-  const ask = (question, fields) => page.questions.answerTo(program, question, fields);
+  const ask = (question, fields) => page.questions.answerQuestion(program, question, fields);
   for (const [name, text] of texts) {
     const [listed, searched] = [false, true].map((search) => ask("states", { text, search }));
     tally.compare(`${name}: its list by a search`, listed, searched);
@@ -502,7 +503,7 @@ function compareBudgets(page, tally) {
     return { status: 3, isFault: true, out: new TextEncoder().encode(`beyond: budget ${budget}`) };
   };
   const program = new page.program.Program({ run, room: "none" });
-  const answer = page.questions.answerTo(program, "states", { text: example("SB"), search: true }, (it) => passed.push(it));
+  const answer = page.questions.answerQuestion(program, "states", { text: example("SB"), search: true }, (it) => passed.push(it));
   tally.compare("a search that is ended says so", true, answer.error.startsWith("The search found more than 10,000,000 states of the machine"));
   tally.compare("a search has a larger budget each time", [...budgets].sort((a, b) => a - b), budgets);
   tally.compare("a search says how far it is", budgets.length, passed.length);
@@ -520,14 +521,14 @@ function compareDifferences(page, tally) {
     ["nothing is shown", report([""]), report([""]), { both: 1, alone: [[], []] }],
   ];
   for (const [what, one, other, expected] of cases) {
-    tally.compare(`states of two lists: ${what}`, expected, page.differences.differenceOf(one, other));
+    tally.compare(`states of two lists: ${what}`, expected, page.differences.compareReports(one, other));
   }
   const refused = [["1:r0=0; x=1;"], ["0:EBX=0; x=1;"], ["0:r0=0; y=1;"], ["0:r0=0;"], [""]];
   for (const lines of refused) {
-    tally.compare(`states of ${lines} are not compared`, ["why"], Object.keys(page.differences.differenceOf(both, report(lines))));
+    tally.compare(`states of ${lines} are not compared`, ["why"], Object.keys(page.differences.compareReports(both, report(lines))));
   }
   const part = report(["0:r0=0; x=1;"], { left_out: 1 });
-  tally.compare("states of a list that is not whole are not compared", ["why"], Object.keys(page.differences.differenceOf(part, both)));
+  tally.compare("states of a list that is not whole are not compared", ["why"], Object.keys(page.differences.compareReports(part, both)));
 }
 
 /** Compares the table of a run on this machine: the states that are not listed come first, and then those that were seen most often. */
@@ -535,25 +536,25 @@ function compareSeenHere(page, tally) {
   const seen = [["a", 3, true], ["b", 1200, true], ["c", 1, false]].map(([state, count, listed]) => ({ state, count, listed }));
   const answer = { runs: 1204, seconds: 2.04, processors: 1, listed: 3, seen, not_seen: ["d"], list: "lw, proved complete" };
   const rows = [["c", "1, and it is not listed"], ["b", "1,200"], ["a", "3"], ["d", "not seen"]];
-  tally.compare("the rows of a run on this machine", rows, page.seen_here.rowsOf(answer));
+  tally.compare("the rows of a run on this machine", rows, page.seen_here.listRows(answer));
   const words = "1,204 runs in 2.0 seconds on 1 processor: seen here 2 of 3 listed states (the list by lw, proved complete).";
-  tally.compare("the sentence on a run on this machine", words, page.seen_here.sentenceOn(answer));
+  tally.compare("the sentence on a run on this machine", words, page.seen_here.describeMeasurement(answer));
 }
 
 /** A text that is shown with its cells one below the other has all that it had, except blanks. */
 function compareAligned(page, tally, texts) {
   const source = "SRC A\n{ x=1; }\n P0 | P1 ;\n x := 1 | y := 1 ;\n | L: ;\n(* a | b ; *)\nexists (x=1)\n";
   const shown = "SRC A\n{ x=1; }\n P0     | P1     ;\n x := 1 | y := 1 ;\n        | L:     ;\n(* a | b ; *)\nexists (x=1)\n";
-  tally.compare("cells one below the other", shown, page.aligned.aligned(source));
+  tally.compare("cells one below the other", shown, page.aligned.alignCells(source));
   const bare = (text) => text.replaceAll(" ", "");
-  for (const [name, text] of texts) tally.compare(`${name}: cells one below the other`, bare(text), bare(page.aligned.aligned(text)));
+  for (const [name, text] of texts) tally.compare(`${name}: cells one below the other`, bare(text), bare(page.aligned.alignCells(text)));
 }
 
 /** The run that an example has of its own is shown to its end, in a state that is listed; of a source test also that of its compiled program. */
 function compareOwnRuns(page, program, tally, texts) {
   for (const [name, text] of texts) {
     const own = /A (?:telling schedule|run): ([\w :]+)/.exec(text.replace(/\s+/g, " "))[1].trim();
-    const ask = (question, more) => page.questions.answerTo(program, question, { text, ...more });
+    const ask = (question, more) => page.questions.answerQuestion(program, question, { text, ...more });
     const { state, schedule, films, isOwn } = ask("film", { own, state: null, protocol: "mesi" });
     const listed = new Native().run(["states"], text).out.toString().split("\n");
     tally.compare(`${name}: its own run ends in a state that is listed`, [true, true], [isOwn, listed.includes(state)]);
@@ -567,29 +568,43 @@ function compareOwnRuns(page, program, tally, texts) {
   }
 }
 
+/** A run by interleaving to a state, if there is one, ends there, and each of its stores drains at once; of other states it is the one that is listed. */
+function compareTurns(page, program, tally, texts) {
+  for (const [name, text] of texts.filter(([, it]) => /^X86/m.test(it))) {
+    const ask = (question, more) => page.questions.answerQuestion(program, question, { text, ...more });
+    const [{ report }, { interleaved }] = [ask("states", {}), ask("interleaved", {})];
+    for (const { line } of report?.states.slice(0, 4) ?? []) {
+      const { state, isByTurns = false, films } = ask("film", { state: line, protocol: "mesi", isByTurns: true });
+      const waiting = films.x86.states.map(({ threads }) => threads.reduce((sum, it) => sum + it.buffer.length, 0));
+      const isTurns = (interleaved ?? []).includes(line);
+      tally.compare(`${name}: a run by interleaving to ${line}`, [line, isTurns, isTurns], [state, isByTurns, isByTurns && Math.max(...waiting) < 2]);
+    }
+  }
+}
+
 /** A fence that is put into the text of a test and taken out again leaves the text as it was; and each fence of the text can be taken out. */
 function compareFenceEdits(page, tally, texts) {
-  const { textWithFences, textWithoutFence } = page.fence_edit;
+  const { insertFencesInText, removeFenceFromText } = page.fence_edit;
   for (const [name, text] of texts.filter(([, it]) => it.startsWith("X86"))) {
-    const cells = page.aligned.aligned(text);
+    const cells = page.aligned.alignCells(text);
     const threads = /^ P0.*$/m.exec(cells)[0].split("|").length;
     for (let thread = 0; thread < threads; thread += 1) {
-      const fenced = textWithFences(cells, [[thread, 1]]);
+      const fenced = insertFencesInText(cells, [[thread, 1]]);
       if (fenced === null) continue;
-      tally.compare(`${name}: a fence in P${thread} comes and goes`, cells, textWithoutFence(fenced, [thread, 1]));
+      tally.compare(`${name}: a fence in P${thread} comes and goes`, cells, removeFenceFromText(fenced, [thread, 1]));
     }
   }
   const code = " MOV [x],$1 | MOV EAX,[x] ;\n MOV [y],$1 | L: JE L2    ;\n  | L2: MOV EBX,[y] ;\n";
-  const text = `X86 A\n(* P0 | ; *)\n{}\n P0         | P1          ;\n${code}exists (x=1)\n`;
+  const text = `X86 A\n(* P0 (* | *) ; *)\n{}\n P0         | P1          ;\n${code}exists (x=1)\n`;
   const rows = [[[1, 1]], [[0, 1], [1, 1]], [[1, 2]]];
   const expected = [
     "            | L: MFENCE   ;\n MOV [y],$1 | JE L2       ;\n", " MFENCE     | L: MFENCE   ;\n MOV [y],$1 | JE L2       ;\n",
     "  | L2: MFENCE      ;\n  | MOV EBX,[y]     ;\n",
   ];
   for (const [at, places] of rows.entries()) {
-    tally.compare(`fences at ${JSON.stringify(places)}`, true, textWithFences(text, places)?.includes(expected[at]) ?? null);
+    tally.compare(`fences at ${JSON.stringify(places)}`, true, insertFencesInText(text, places)?.includes(expected[at]) ?? null);
   }
-  tally.compare("no fence at a place that is none", null, textWithFences(text, [[0, 9]]));
+  tally.compare("no fence at a place that is none", null, insertFencesInText(text, [[0, 9]]));
 }
 
 /** Compares the examples that words find: the first of them, and at most how many; and the words that are near to others. */
@@ -602,40 +617,91 @@ function compareFinding(page, tally, families) {
   tally.compare("nothing is found by a word that is none", [], namesFor("zebra"));
   tally.compare("an exact name first", ["MP", "MP-x86"], page.finding.findTests(families, "mp", false, true).map((it) => it.name).slice(0, 2));
   const first = (text) => page.finding.findTests(families, text, false, true)[0]?.name;
-  const fullNames = ["load buffering", "Store buffer", "message passing", "independent reads of independent writes", "stale"];
-  tally.compare("full names, and what readers call them", ["LB-x86", "SB-x86", "MP-x86", "IRIW-x86", "MP-x86"], fullNames.map(first));
-  const notes = (text) => page.finding.notesOn(text).length;
+  const fullNames = {
+    "load buffering": "LB-x86", "Store buffer": "SB-x86", "message passing": "MP-x86", "independent reads of independent writes": "IRIW-x86", stale: "MP-x86",
+    "load buff": "LB-x86", "message-passing": "MP-x86", "double-checked": "DoubleChecked", "double checked locking": "DoubleChecked", "dekker's algorithm": "Dekker-x86",
+    "peterson lock": "Peterson-x86", dekker: "Dekker", "test-and-set": "SpinLock-x86", "false sharing": "Sharing-x86",
+  };
+  tally.compare("full names, and what readers call them", Object.values(fullNames), Object.keys(fullNames).map(first));
+  const notes = (text) => page.finding.listNotes(text).length;
   tally.compare("notes on what the format has not", [1, 1, 1, 1, 1, 1, 1, 0],
     ["CAS", "deadlock", "volatile flag", "nontemporal", "herd", "c11", "AT&T", "MP"].map(notes));
-  const near = ["MFENC", "JZ", "MVO", "INC", "MFENCE"].map((it) => page.nearest.nearest(it, ["MOV", "JE", "JNE", "MFENCE", "ADD"]));
+  const near = ["MFENC", "JZ", "MVO", "INC", "MFENCE"].map((it) => page.nearest.findNearest(it, ["MOV", "JE", "JNE", "MFENCE", "ADD"]));
   tally.compare("the nearest words", ["MFENCE", "JE", "MOV", null, null], near);
 }
 
 const FOUND = [
-  ["MP", ["MP", "MP-x86"]], ["sb-x86", ["SB-x86"]], ["mutex", ["SpinLock", "SpinLock-x86", "Peterson", "Peterson-x86"]], ["CAS", ["TryLock", "Consensus"]], ["lock", ["TryLock", "SpinLock"]],
+  ["MP", ["MP", "MP-x86"]], ["sb-x86", ["SB-x86"]], ["mutex", ["SpinLock", "SpinLock-x86", "Peterson", "Peterson-x86"]], ["CAS", ["TryLock", "Consensus"]], ["mpsc", ["ProducerQueue"]], ["spsc", ["SpscRing"]], ["lock", ["TryLock", "SpinLock"]],
   ["spin", ["SpinLock", "SpinLock-x86"]], ["fence", ["HazardPointer+fences-x86", "SB+own+mfences-x86"]], ["queue", ["QueueLock", "ProducerQueue"]],
   ["jump", ["SB+join", "SB+join-x86"]], ["publication early x86", ["Publication+early-x86"]],
 ];
 
 /** Compares the page's words on slips in a test that lw takes. */
 function compareSlips(page, tally) {
-  const text = "X86 A\n{ k=2; }\n P0 | P1 ;\n MOV [flag],$1 | MOV EAX,[flga] ;\n | MOV ECX,[k] ;\nexists (1:EBX=1 /\\ z=0)\n";
+  const text = "X86 A\n(* { flga } *)\n{ k=2; }\n P0 | P1 ;\n MOV [flag],$1 | MOV EAX,[flga] ;\n | MOV ECX,[k] ;\nexists (1:EBX=1 /\\ z=0)\n";
   tally.compare("slips", [
     "The question names `1:EBX`, but nothing in P1 writes EBX: it is 0 in every run.",
     "The question names `z`, but no thread writes z: it is 0 in every run.",
     "A thread loads `flga`, but no thread writes flga: it is 0 in every run. Did you mean `flag`?",
-  ].sort(), page.slips.slipsIn(text).map((it) => it.words).sort());
+  ].sort(), page.slips.findSlips(text).map((it) => it.words).sort());
   const twice = "X86 A\n{}\n P0 | P1 ;\n MOV [y],$1 | MOV EAX,[y] ;\n | MOV EBX,[y] ;\nexists (1:EAX=0 /\\ 1:EAX=1)\n";
-  tally.compare("a place with two words", ["The question asks for two words of `1:EAX` at once: no state has both."], page.slips.slipsIn(twice).map((it) => it.words));
-  tally.compare("no slips", [], page.slips.slipsIn(example("SB-x86")));
+  const wordsOfTwice = page.slips.findSlips(twice).map((it) => it.words);
+  tally.compare("a site with two words", ["The question asks for two words of `1:EAX` at once: no state has both."], wordsOfTwice);
+  const address = "X86 A\n{}\n P0 | P1 ;\n MOV [rbx],$1 | MOV EAX,[rbx] ;\nexists (0:EAX=1)\n";
+  tally.compare("a location with a register's name, and another thread's register", [
+    "`[rbx]` is read as a location of the name rbx: lw has no addresses in registers.",
+    "The question names `0:EAX`, but nothing in P0 writes EAX: it is 0 in every run. Did you mean `1:EAX`?",
+  ], page.slips.findSlips(address).map((it) => it.words));
+  const other = "X86 A\n{}\n P0 | P1 ;\n MOV [rdi],$1 | MOV EAX,[rsi] ;\nexists (1:eax=0 /\\ 0:ebx=0)\n";
+  const slips = page.slips.findSlips(other);
+  tally.compare("two registers as addresses are not taken for one", [null], slips.filter(({ words }) => words.startsWith("A thread loads")).map((it) => it.change));
+  const small = "X86 A\n{}\n P0 | P1 ;\n MOV [x],$1 | MOV EAX,[x] ;\nexists (1:ebx=0)\n";
+  const { change } = page.slips.findSlips(small)[0];
+  const eight = page.slips.findSlips(small.replace("$1", "$010").replace("ebx", "eax"));
+  tally.compare("a number that begins with 0", ["`010` is 10: lw has no base 8."], eight.map((it) => it.words));
+  tally.compare("a register in small letters is changed", small.replace("1:ebx", "1:EAX"), page.slips.applyChange(small, change));
+  tally.compare("no slips", [], page.slips.findSlips(example("SB-x86")));
 }
+
+/** Compares the page's words on faults of source tests, and the texts that it proposes. */
+function compareSourceHints(page, program, tally) {
+  for (const [rows, words, proposed] of SOURCE_HINTS) {
+    const text = `SRC A\n{}\n P0 | P1 ;\n ${rows} ;\nexists (1:r0=0)\n`;
+    const { fault } = page.questions.answerQuestion(program, "states", { text });
+    const { words: found, change } = page.faults.explainFault(fault, text);
+    tally.compare(`the words on ${rows}`, [true, proposed], [found.includes(words), change?.text]);
+  }
+}
+
+const SOURCE_HINTS = [
+  ["x = 1 | r0 = x", "A statement sets a location or a register by `:=`.", ":= 1 | r0 :="],
+  ["x := 1 | fence ;\n mfence() | r0 := x", "A source test has no fences: the compiler adds them.", "      ;\n         "],
+  ["x := 1 | r0 := cas x 0 1", "lw has no compare-and-swap", undefined],
+  ["[x] = 1 | r0 := [x]", "a location has no brackets", "x := 1 | r0 := x"],
+  ["x := 1 | r0 := [r1]", "does not fit here", undefined],
+  ["x := 1 | if (r0 == 1) goto E ;\n | E:", "A branch is `if r0 = 1 goto L`.", "if r0 = 1 goto E"],
+  ["x = 1; | r0 = x; ", "Only a row's end has a `;`.", "P0 | P1 ;\n x = 1 | r0 = x  ;\nexists (1:r0=0)\n"],
+  ["0:r1 := x | 1:r0 := x", "In code a register has no thread before it", "r1 := x | r0"],
+  ["x := 1 | x := 0:r0", "`0:r0` is a register of P0", undefined],
+  ["x++ | r0 := x", "lw does this by `r1 := x`, then `r1 := r1 + 1`, then `x := r1`. Another thread may write between them: `fetchadd` does it in one step.",
+    "r1 := x | r0 := x ;\n r1 := r1 + 1 |         ;\n x := r1 |         ;"],
+  ["r0 += x | r0 := x", "lw does this by `r1 := x`, then `r0 := r1 + r0`.", "r1 := x | r0 := x ;\n r0 := r1 + r0 |         ;"],
+  ["x := y - 1 | r0 := x", "lw does this by `r1 := y`, then `r1 := r1 + 4294967295`, then `x := r1`.",
+    "r1 := y | r0 := x ;\n r1 := r1 + 4294967295 |         ;\n x := r1    |         ;"],
+  ["x := y | r0 := x", "lw does this by `r1 := y`, then `x := r1`.", "r1 := y | r0 := x ;\n x := r1 |         ;"],
+  ["x := EAX | r0 := x", "`EAX` is no register, and one is needed here: `r0` to `r5`.", "r0"],
+  ["x := 1 | r0 := r1 - 1", "lw has no negative numbers", "+ 4294967295"],
+  ["x := r1 - r2 | r0 := x", "`-` is not expected here.", undefined],
+  ["x := r6 | if r6 = 1 goto L ;\n r7 := x | L:", "Registers are `r0` to `r5`.", "r0 | if r1 = 1 goto L ;\n r1"],
+  ["x := 1 r0 := x", "Cells have a `|` between them.", " x := 1 | r0 := x ;\nexists (1:r0=0)\n"],
+];
 
 /** Compares the page's words on faults, each made by a change of a text; and the texts that it proposes in place of a part. */
 function compareHints(page, program, tally) {
   for (const [part, wrong, words, line, proposed, changed] of HINTS) {
     const text = RIGHT.replace(part, () => wrong);
-    const { fault } = page.questions.answerTo(program, "states", { text });
-    const hint = page.faults.hintOn(fault, text);
+    const { fault } = page.questions.answerQuestion(program, "states", { text });
+    const hint = page.faults.explainFault(fault, text);
     const row = page.faults.explainMissingRowEnd(fault, text).match(/^Line (\d+) has no `;`/)?.[1];
     const expected = [true, line, proposed, changed ?? hint.at?.row];
     tally.compare(`the words on ${wrong}`, expected, [hint.words.includes(words), row && Number(row), hint.change?.text, hint.at?.row]);
@@ -644,12 +710,15 @@ function compareHints(page, program, tally) {
 
 const NO_COMMA = "The operands of an instruction have a comma between them.";
 const NO_CONSTANT = "A constant is a whole number from 0 to 4294967295.";
+const NO_NEGATIVE = "lw has no negative numbers: in a word of 32 bits -1 is 4294967295.";
 const NO_END_OF_ROW = "This row has no `;` at its end.";
 // A cell of the other thread, as it is in rows that are put in.
 const OTHER = "            |";
 const NO_END = "The initial values lack a `}` at their end.";
 const ALL_ROWS = "MOV [x],$1 | MOV EAX,[x] ;\n MFENCE | XCHG [y],EAX ;";
 const RIGHT = "X86 A\n{ x=0 }\n P0 | P1 ;\n MOV [x],$1 | MOV EAX,[x] ;\n MFENCE | XCHG [y],EAX ;\nexists (x=1 /\\ 1:EAX=0)\n";
+const ALIGNED = " P0         | P1           ;\n MOV [x],$1 | MOV EAX,[x]  ;\n MFENCE     | XCHG [y],EAX ;\n";
+const LAST = "exists (x=1 /\\ 1:EAX=0)\n";
 const COMMENTS = "Comments are `(*` and `*)`.";
 const NO_TYPES = "The initial values have no types.";
 const ATT_ORDER = "This is AT&T's order, with the destination last: lw has the destination first.";
@@ -660,12 +729,14 @@ const HINTS = [
   ["MFENCE", "SFENCE", "SFENCE orders nothing that x86-TSO does not order already", undefined, "      "],
   ["MFENCE", "L: LFENCE", "LFENCE orders nothing that x86-TSO does not order already", undefined, undefined],
   ["MOV EAX,[x]", "CAS [x],EAX", "lw has no compare-and-swap", undefined, undefined],
-  ["MOV EAX,[x]", "XADD [x],EAX", "Without `LOCK` it is no single step", undefined,
+  ["MOV EAX,[x]", "XADD [x],EAX", "Another thread may write between them: `LOCK XADD` does it in one step.", undefined,
     `MOV EBX,[x] ;\n${OTHER} ADD EAX,EBX  ;\n${OTHER} MOV [x],EAX  ;\n${OTHER} MOV EAX,EBX  ;`],
   ["MOV EAX,[x]", "XADD EAX,[x]", "Write `LOCK XADD`.", undefined, undefined],
   ["MOV EAX,[x] ;\n MFENCE |", "INC [x] ;\n  | ;\n MFENCE |", "lw does this by `MOV EBX,[x]`", undefined,
     `MOV EBX,[x] ;\n  | ADD EBX,$1 ;\n${OTHER} MOV [x],EBX ;`],
   ["[y],EAX ;", "[y],EAX (* ; *)\n\n(* a; b\n *)", NO_END_OF_ROW, 5, " ;"],
+  ["[y],EAX ;", "[y],EAX (* a (* b; *) c *)", NO_END_OF_ROW, 5, " ;"],
+  ["EAX=0)\n", "EAX=0 (* a (* b *) c) *)\n", "The question lacks a `)` at its end.", undefined, ")", 6],
   ["[y],EAX ;", "[y],EAX\n locations [x;]\n", NO_END_OF_ROW, 5, " ;"],
   ["[y],EAX ;\n", "[y],EAX ", NO_END_OF_ROW, 5, " ;"],
   ["[x] ;", "[x]", NO_END_OF_ROW, 4, " ;"],
@@ -691,15 +762,91 @@ const HINTS = [
   ["MOV [x],$1", "MOV $1,x", "lw does this by `MOV [x],$1`.", undefined, "MOV [x],$1 | MOV EAX,[x] ;"],
   ["MOV [x],$1", "MOV x,$1", "Did you mean `[x]`?", undefined, "[x]"],
   ["MOV EAX,[x]", "LOCK CMPXCHG [x],EBX", "lw has no compare-and-swap", undefined, undefined],
-  ["MOV EAX,[x]", "AND EAX,$1", "lw has no `AND`, and nothing that does the same.", undefined, undefined],
+  ["MOV EAX,[x]", "AND EAX,$1", "lw has no `AND`, and the page knows nothing that does the same here.", undefined, undefined],
   [ALL_ROWS, "MOV $1,[x] | MOV $1,[y] ;\n MOV [y],EAX | MOV [x],EAX ;", ATT_ORDER, undefined, "MOV [x],$1 | MOV [y],$1 ;\n MOV EAX,[y] | MOV EAX,[x]"],
-  [ALL_ROWS, "movl $1,(x) | L: movl (x),%eax ;\n mfence | xchg (y),%eax ;", ATT_ORDER, undefined, "MOV [x],$1  | L: MOV EAX,[x]   ;\n mfence | XCHG [y],EAX"],
-  [ALL_ROWS, "add $1,%eax | lock xaddl %eax,(x) ;", ATT_ORDER, undefined, "ADD EAX,$1  | LOCK XADD [x],EAX"],
+  [ALL_ROWS, "movl $1,(x) | L: movl (x),%eax ;\n mfence | xchg (y),%eax ;", ATT_ORDER, undefined, "MOV [x],$1 | L: MOV EAX,[x] ;\n mfence | XCHG [y],EAX"],
+  [ALL_ROWS, "add $1,%eax | lock xaddl %eax,(x) ;", ATT_ORDER, undefined, "ADD EAX,$1 | LOCK XADD [x],EAX"],
   [ALL_ROWS, "movl $1,4(%rax) | ;", ATT_ORDER, undefined, undefined],
   ["MOV [x],$1", "MOV $1,[x]", "lw does this by `MOV [x],$1`.", undefined, "MOV [x],$1 | MOV EAX,[x] ;"],
-  ["EAX,[x]", "%eax,[x]", "A register has no `%` before it.", undefined, "EAX"],
+  ["EAX,[x]", "%eax,[x]", "A register has no `%` before it.", undefined, "MOV EAX,[x]"],
+  ["X86 A", "X86_64 A", "A test begins with `SRC` or `X86`.", undefined, "X86"],
+  [`X86 A\n{ x=0 }\n P0 | P1 ;\n ${ALL_ROWS}`, "X86_64 A\n{ uint64_t x; 1:rax=0 }\n P0 | P1 ;\n movq $1,(x) | movq x(%rip),%rax ;", "An x86 test begins with `X86`.",
+    undefined, "X86 A\n{ x=0; 1:EAX=0 }\n P0 | P1 ;\n MOV [x],$1 | MOV EAX,[x]"],
+  [ALL_ROWS, "mov dword ptr [x], 1 | mov eax, DWORD PTR x[rip] ;", "lw writes no sizes", undefined, "MOV [x],1 | MOV EAX,[x]"],
+  [ALL_ROWS, "MOV x,1 | MOV EAX,x ;", "A location has brackets: `[x]`.", undefined, "MOV [x],1 | MOV EAX,[x]"],
+  [ALL_ROWS, "MOV x,1 | MOV EXA,x ;", "A location has brackets: `[x]`.", undefined, "MOV [x],1 | MOV EXA,[x]"],
+  [ALL_ROWS, "MOV RBX,[x] | MOV RAX,[x] ;", "Registers are `EAX` to `EDX`", undefined, "MOV EBX,[x] | MOV EAX,[x]"],
+  [ALL_ROWS, "MOV [x],1 | JZ L ;\n | MOV RAX,[x] ;\n | L: ;", "Jumps are `JE`, `JNE` and `JMP`.", undefined, "JE L ;\n | MOV EAX,[x]"],
+  [ALL_ROWS, "MOV 0:EBX,[x] | MOV 1:EAX,[x] ;", "In code a register has no thread before it", undefined, "MOV EBX,[x] | MOV EAX,[x]"],
+  ["MOV EAX,[x]", "MOV 0:EAX,[x]", "`0:EAX` is a register of P0", undefined, undefined],
+  [ALL_ROWS, "movl $1,(%rbx) | movl (%rbx),%eax ;", "`(%rbx)` is an address in a register", undefined, undefined],
+  [ALL_ROWS, "movb $1,(x) | movb (x),%al ;", "`%al` is no register of lw", undefined, undefined],
+  [ALL_ROWS, "movb $1,(x) | movl (x),%eax ;", "lw has words of 32 bits", undefined, undefined],
+  [ALL_ROWS, "movq $1,(x) | movl (x),%eax ;", "Some instructions access 32 bits and some 64", undefined, undefined],
+  [ALL_ROWS, "movq $1,(x) | subq $1,%rax ;", "may not fit into the 32 bits", undefined, undefined],
+  [ALL_ROWS, "movl x,EAX | movl EAX,x ;", "A suffix is usual in AT&T's order", undefined, undefined],
+  [ALL_ROWS, "movl $1,$x | movl $y,%eax ;", "`$x` is an address", undefined, undefined],
+  [ALL_ROWS, "movl $-1,(x) | movl (x),%eax ;", ATT_ORDER, undefined, "MOV [x],$4294967295 | MOV EAX,[x]"],
+  [ALL_ROWS, "movq $-1,(x) | movq (x),%rax ;", "may not fit into the 32 bits", undefined, undefined],
+  [ALL_ROWS, "*x = 1 | int r0 = READ_ONCE(y) ;\n L: smp_mb() | x = r0 ;", "This is C.", undefined, "MOV [x],$1 | MOV EAX,[y] ;\n L: MFENCE | MOV [x],EAX"],
+  ["MOV EAX,[x]", "atomic_store(&x,1)", "`atomic_store(&x,1)` is a call in C", undefined, undefined],
+  ["MOV EAX,[x]", "x++", "lw does this by `MOV EBX,[x]`, then `ADD EBX,$1`", undefined, `MOV EBX,[x] ;\n${OTHER} ADD EBX,$1 ;\n${OTHER} MOV [x],EBX ;`],
+  ["MOV EAX,[x]", "SUB EAX,EBX", "lw has no `SUB`, and the page knows nothing", undefined, undefined],
+  ["1:EAX=0", "1:RAX=0", "Registers are `EAX` to `EDX`, `ESI` and `EDI`, of 32 bits.", undefined, "1:EAX"],
+  [ALL_ROWS, "MOV [x],EBX | MOV RAX,[x] ;", "Some instructions access 32 bits and some 64", undefined, "EAX"],
+  ["x=1 /\\ 1:EAX=0", "x != 1 && P1:EAX==-1", "A question has no `!=`", undefined, "~x=1 /\\ 1:EAX=4294967295"],
+  ["1:EAX=0", "EAX=0", "A register has its thread before it", undefined, "1:EAX"],
+  ["1:EAX=0", "r0=0", "A register has its thread before it", undefined, "1:EAX"],
+  ["1:EAX=0", "EBX=0", "as in `0:EBX`. No thread's code has EBX.", undefined, undefined],
+  ["MFENCE | XCHG [y],EAX ;\nexists (x=1 /\\ 1:EAX=0)", "MOV EAX,[y] | ;\nexists (x=1 /\\ EAX=0)", "outside of the code: `0:EAX` or `1:EAX`.", undefined, undefined],
+  [`${ALL_ROWS}\nexists (x=1 /\\ 1:EAX=0)`, "x = 1 | r0 = y ;\n y = 1 | r1 = x ;\nexists (r0=1 && r1=0)", "All code is that of a source test", undefined,
+    "SRC A\n{ x=0 }\n P0 | P1 ;\n x := 1 | r0 := y ;\n y := 1 | r1 := x ;\nexists (1:r0=1 /\\ 1:r1"],
+  [`${ALL_ROWS}\nexists (x=1 /\\ 1:EAX=0)`, "x = 1 | r0 = y ;\n MFENCE | r1 = x ;\nexists (r0=1 && r1=0)", "This is C.", undefined,
+    "MOV [x],$1 | MOV EAX,[y] ;\n MFENCE | MOV EBX,[x] ;\nexists (1:EAX=1 /\\ 1:EBX"],
+  [`${ALL_ROWS}\nexists (x=1 /\\ 1:EAX=0)`, "MOV RAX,[x] | MOV [x],$1 ;\nexists (rax=0)", "Registers are `EAX` to `EDX`", undefined, "MOV EAX,[x] | MOV [x],$1 ;\nexists (0:EAX"],
+  ["exists (x=1 /\\", "exist (x=1 &&", "lw has no question of the name `exist`.", undefined, "exists", 6],
+  ["X86 A\n{ x=0 }\n P0 | P1 ;", "X86 A\n{ x=0 }\nP0 (int *x) {", "The threads are functions in C", undefined, undefined],
+  ["X86 A", "use std::thread;\nX86 A", "`python3 tools/from_c.py --show mine.rs`", undefined, undefined],
+  [ALL_ROWS, "lock; xaddl %eax,(x) | movl $1,(x) ;", "Only a row's end has a `;`.", undefined,
+    RIGHT.replace(ALL_ROWS, () => "lock xaddl %eax,(x) | movl $1,(x) ;").replace(/^[^]*(?=P0)/, "")],
+  ["(x=1 /\\ 1:EAX=0)", "(*x=1 /\\ 1:EAX=0)", "`(*` opens a comment", undefined, "(x=1 /\\ 1:EAX=0)\n", 6],
+  ["(x=1 /\\ 1:EAX=0)", "(0:r0=1 /\\ 1:r0=0)", "Registers are `EAX` to `EDX`", undefined, "0:EAX=1 /\\ 1:EAX"],
+  [RIGHT, "mov dword ptr [x], 1\nmov eax, dword ptr [y]\nret\n", "These are instructions without a test around them.", undefined,
+    "X86 Mine\n{}\n P0 ;\n MOV [x],1 ;\n MOV EAX,[y] ;\nexists (0:EAX=0)\n"],
+  [RIGHT, "mov [x],1\nmov eax,[y]\nret\n\nmov [y],1\nmov ebx,[x]\n", "A blank line begins the next thread.", undefined,
+    "X86 Mine\n{}\n P0          | P1          ;\n mov [x],1   | mov [y],1   ;\n mov eax,[y] | mov ebx,[x] ;\nexists (0:EAX=0 /\\ 1:EBX=0)\n"],
+  [RIGHT, "movl $1,x(%rip)\n\nmovl y(%rip),%eax\nmovl %eax,z(%rip)\n", "The question `true` holds always: look at the list of states.", undefined,
+    "X86 Mine\n{}\n P0         | P1          ;\n MOV [x],$1 | MOV EAX,[y] ;\n            | MOV [z],EAX ;\nlocations [1:EAX;]\nexists (true)\n"],
+  ["P0 | P1", "P0 P1", "The threads' names have a `|` between them.", undefined, `${ALIGNED}${LAST}`, 3],
+  [`P0 | P1 ;\n ${ALL_ROWS}`, "P0, P1\n mov [x],1  mov eax,[x]\n            mfence\n mfence     xchg [y],eax", "The threads' names and the cells have", undefined,
+    ` P0        | P1           ;\n mov [x],1 | mov eax,[x]  ;\n           | mfence       ;\n mfence    | xchg [y],eax ;\n${LAST}`, 3],
+  [`P0 | P1 ;\n ${ALL_ROWS}`, "P0 P1 ;\n mov [x],1  mov eax,[x] ;\n    mfence ;", "`P1` is not expected here.", undefined, undefined],
+  [`P0 | P1 ;\n ${ALL_ROWS}\nexists (x=1 /\\`, "P0  P1 ;\n movl $1,(x)  movl (x),%eax ;\nexists (x=1 &&", "This is AT&T's order", undefined,
+    `X86 A\n{ x=0 }\n P0         | P1          ;\n MOV [x],$1 | MOV EAX,[x] ;\n${LAST}`, 3],
+  [RIGHT, "cmp eax,0\nje L\n\nmov [x],1\n\nL: mov [y],1\n", "These are instructions without a test around them.", undefined,
+    "X86 Mine\n{}\n P0 ;\n cmp eax,0 ;\n je L ;\n mov [x],1 ;\n L: mov [y],1 ;\nlocations [0:EAX;]\nexists (true)\n"],
+  [ALL_ROWS, "mov eax,ebx | movl %eax,%ebx ;\n mov [x],eax | movl %ebx,(y) ;", "`eax` says Intel's order", undefined, undefined],
+  [ALL_ROWS, "mov [x],1 | movl (y),%eax ;", "`[x]` says Intel's order, with the destination first, and `(y)` says AT&T's", undefined, undefined],
+  [ALL_ROWS, "mov dword ptr [x],1 | movl eax,x ;\n mov eax,[y] | movl y,eax ;", "A suffix is usual in AT&T's order", undefined, undefined],
+  [ALL_ROWS, "mov $1,x | mov y,$1 ;\n mov y,eax | mov eax,x ;", "only one order can be right", undefined, undefined],
+  ["MOV EAX,[x]", "TEST EAX,EAX", "lw does this by `CMP EAX,$0`.", undefined, "CMP EAX,$0 ;"],
+  ["MOV EAX,[x]", "TEST EAX,EBX", "lw has no `TEST`, and the page knows nothing", undefined, undefined],
+  ["MOV EAX,[x]", "XOR EAX,EAX", "`XOR` of a register with itself sets it to 0.", undefined, "MOV EAX,$0"],
+  ["EAX,[x] ;\n MFENCE | XCHG [y],EAX", "EAX,[x] ;\n | XOR EBX,EBX ;\n | JE L ;\n | L:", "lw does this by `MOV EBX,$0`, then `CMP EBX,$0`.", undefined,
+    "MOV EBX,$0 ;\n | CMP EBX,$0  ;"],
+  ["MOV EAX,[x]", "LOCK OR [y],$0", "lw does this by `MOV EBX,$0`, then `LOCK XADD [y],EBX`.", undefined, `MOV EBX,$0 ;\n${OTHER} LOCK XADD [y],EBX ;`],
+  ["MOV EAX,[x]", "PAUSE", "`PAUSE` and `NOP` change no state.", undefined, "     "],
+  ["MOV EAX,[x]", "L: rep nop", "`PAUSE` and `NOP` change no state.", undefined, "L:        "],
+  ["MFENCE", "lock add dword ptr [rsp],0", "A locked instruction on the stack is a fence.", undefined, "MFENCE"],
+  [ALL_ROWS, "movl $1,(x) | subl $1,%eax ;\n lock addl $0,(%rsp) | lock orl $0,-4(%rsp) ;\n nop | decl %eax ;", "lw has sums only.", undefined,
+    "MOV [x],$1 | ADD EAX,$4294967295 ;\n MFENCE | MFENCE ;\n     | ADD EAX,$4294967295"],
+  ["exists (x=1 /\\ 1", "not exists (x=1 && P1", "A question begins with", undefined, "~exists (x=1 /\\ 1:EAX"],
+  ["exists", "forbidden", "Did you mean `~exists`?", undefined, "~exists"],
+  [ALL_ROWS, "MOV [x],$1 MOV EAX,[x] ;", "Cells have a `|` between them.", undefined, ` MOV [x],$1 | MOV EAX,[x] ;\n${LAST}`, 4],
+  [ALL_ROWS, "MOV [x],$1; MFENCE | MOV EAX,[x] ;", "A cell has one statement", undefined, ` MOV [x],$1 | MOV EAX,[x] ;\n MFENCE |  ;\n${LAST}`, 4],
+  [ALL_ROWS, "MOV [x],$1 ; MOV EAX,[x] ;", "and `;` only at its end", undefined, undefined],
   ["X86 A", "// mine\nX86 A", COMMENTS, undefined, `(* mine *)\n${RIGHT}`],
-  ["MOV [x],$1", "MOV [x],#1", "A constant has no `#` before it.", undefined, "$1"],
+  ["MOV [x],$1", "MOV [x],#1", "A constant has no `#` before it.", undefined, "MOV [x],$1"],
   ["P1 ;", "P1 ; # a\n(* b # *)", COMMENTS, undefined, `(* a *)\n(* b # *)${RIGHT.split("P1 ;")[1]}`],
   ["P1 ;", "P1 ; /* a\n b */", COMMENTS, undefined, `(* a\n b *)${RIGHT.split("P1 ;")[1]}`],
   ["P1 ;", "P1 ; // (* a *) b", COMMENTS, undefined, undefined],
@@ -722,9 +869,9 @@ const HINTS = [
   ["[y],EAX", "[y] EAX", NO_COMMA, undefined, "XCHG [y],EAX"],
   ["EAX,[x]", "EAX [", NO_COMMA, undefined, "MOV EAX,["],
   ["MOV EAX,[x]", "ADD EAX,[x]", "lw does this by `MOV EBX,[x]`, then `ADD EAX,EBX`.", undefined, `MOV EBX,[x] ;\n${OTHER} ADD EAX,EBX ;`],
-  ["$1", "$-1", NO_CONSTANT, undefined, undefined],
+  ["$1", "$-1", NO_NEGATIVE, undefined, "MOV [x],$4294967295"],
   ["$1", "1.5", NO_CONSTANT, undefined, undefined],
-  ["x=0", "x=-1", NO_CONSTANT, undefined, undefined],
+  ["x=0", "x=-1", NO_NEGATIVE, undefined, "4294967295"],
   ["$1", "$4294967296", NO_CONSTANT, undefined, undefined],
 ];
 
@@ -741,7 +888,7 @@ function example(name) {
 
 /** Compares some answers with what is typed in here. */
 function compareTyped(page, program, tally) {
-  const ask = (question, text, more = {}) => page.questions.answerTo(program, question, { text, ...more });
+  const ask = (question, text, more = {}) => page.questions.answerQuestion(program, question, { text, ...more });
   const compare = (what, expected, actual) => tally.compare(what, expected, JSON.parse(JSON.stringify(actual)));
   for (const [name, question, isSo, telling, ...verdict] of VERDICTS) {
     const { words, report, language } = ask("states", example(name));
@@ -749,7 +896,7 @@ function compareTyped(page, program, tally) {
     compare(`the words on ${name}`, [question, isSo, telling, ...verdict], [words.question, words.is_so, words.telling, ...headline]);
   }
   compare("in how many states a condition holds", COUNTS.map(([, , words]) => words),
-    COUNTS.map(([positive, number]) => page.verdicts.countWords({ positive, number })));
+    COUNTS.map(([positive, number]) => page.verdicts.describeCount({ positive, number })));
   const causes = (name, schedule) => {
     const { moves } = ask("moves", example(name), { schedule, protocol: "mesi" });
     return moves.map(({ event, refused }) => [event, refused && refused.cause]);
@@ -765,7 +912,7 @@ function compareTyped(page, program, tally) {
   compare("a source run has one step for each statement", ["P0", "P1", "P0", "P1"], source.events);
   compare("the code of a source run", [{ text: "x := 1", at: 0 }, { text: "r0 := y", at: 1 }], source.cells[0]);
   const answer = ask("film", example("SB"), { state: "0:r0=7; 1:r0=0;", protocol: "mesi" });
-  compare("a state that is none", { error: "The test does not end in that state." }, answer);
+  compare("a state that is none", { error: "The test does not end in `0:r0=7; 1:r0=0;`." }, answer);
   const faulty = "SRC Mine (* é𝄞 *)\n{}\n P0 ;\n(* é𝄞 *) x = 1 ;\nexists (x=1)\n";
   const { kind, number, name, row, column, index } = ask("states", faulty).fault;
   compare("a fault, with a column that counts characters", ["cell", 1, "Form", 4, 12, "= 1"],
@@ -809,7 +956,7 @@ const MOVES = [
 
 /** A module that has trapped says so, and answers the next question, by another instance. */
 function compareTrapped(page, tally, workbench) {
-  const ask = () => page.questions.answerTo(new page.program.Program(workbench), "compile", { text: example("SB") });
+  const ask = () => page.questions.answerQuestion(new page.program.Program(workbench), "compile", { text: example("SB") });
   const expected = ask();
   const trap = () => {
     throw new WebAssembly.RuntimeError("unreachable");
@@ -827,7 +974,7 @@ async function workbenchOf(page, tally, { module, server }) {
     return new Both(new page.served.Served(), tally);
   }
   if (!module) return new Native();
-  const compiled = await page.module.compiled(fs.readFileSync(module));
+  const compiled = await page.module.compileModule(fs.readFileSync(module));
   if (compiled === null) throw new Error(`${module} is no module that this node takes (--experimental-wasm-memory64)`);
   compareTrapped(page, tally, new page.module.Workbench(compiled));
   const number = Number(fs.readFileSync(`${HOME}/include/lw.h`, "utf8").match(/^#define LW_VERSION (\d+)$/m)[1]);
@@ -853,9 +1000,11 @@ async function main() {
   if (!values.server) compareSearches(page, program, tally, texts);
   compareAligned(page, tally, waiting);
   compareOwnRuns(page, program, tally, texts);
+  compareTurns(page, program, tally, texts);
   compareFenceEdits(page, tally, texts);
   compareSlips(page, tally);
   compareHints(page, program, tally);
+  compareSourceHints(page, program, tally);
   if (!chosen.length) compareFinding(page, tally, familiesOfPage());
   if (!chosen.length) compareTyped(page, program, tally);
   const work = async () => {

@@ -19,6 +19,7 @@ import functools
 import gzip
 import html
 import http.server
+import io
 import itertools
 import json
 import os
@@ -26,10 +27,11 @@ import re
 import shutil
 import subprocess
 import sys
+import tarfile
 import tempfile
 import threading
 import urllib.parse
-from collections.abc import Iterator
+from collections.abc import Iterator, Sequence
 from unittest import mock
 
 import make_site
@@ -38,7 +40,7 @@ import plain
 from gate import check_library, check_page, check_slides, firefox
 from gate.browser import graphs, lists, page_case, reading, subjects
 from gate.browser.page_case import PageCase
-from gate.browser.user import Start, User, browsers, is_there
+from gate.browser.user import Start, User, list_browsers, is_installed
 from gate.cases import Comparison
 from lab import markdown
 from lab.tests import read_file
@@ -131,6 +133,7 @@ def check_bundles() -> Iterator[Comparison]:
             whole = make_site.bundle_module(entry, make_site.WEB)
             needed, found = (sorted(re.findall(r"^const from_\w+ = \(", it, re.M)) for it in (whole, shared + part))
             yield f"the parts of the page's code have each module that {entry}.js needs once", needed, found
+        yield "the page's code says the same if it is shortened", "the same", compare_tokens("".join(make_site.bundle_page(make_site.WEB)))
         for fault, text in REFUSED:
             make_site.write_file(f"{web}/main.js", text)
             message = ""
@@ -139,6 +142,26 @@ def check_bundles() -> Iterator[Comparison]:
             except make_site.NoSite as why:
                 message = str(why)
             yield f"a module that has {fault} is refused", True, fault in message
+
+
+# Prints whether two scripts have the same tokens, by the reader that node has of its own.
+TOKENS = """
+const { readFileSync } = require("node:fs");
+const { tokenizer } = require("internal/deps/acorn/acorn/dist/acorn");
+const tokensOf = (text) => [...tokenizer(text, { ecmaVersion: "latest" })].map(({ type, value }) => `${type.label} ${value?.pattern ?? ""} ${value?.flags ?? value}`);
+const [one, other] = JSON.parse(readFileSync(0, "utf8")).map(tokensOf);
+const at = one.findIndex((it, index) => it !== other[index]);
+console.log(at < 0 && one.length === other.length ? "the same" : `${one.slice(at - 3, at + 3)} is ${other.slice(at - 3, at + 3)}`);
+"""
+
+
+def compare_tokens(script: str) -> str:
+    """Returns "the same" if a script has the same tokens after it is shortened, or if no node can compare them; otherwise where they differ."""
+    if not NODE:
+        return "the same"
+    texts = json.dumps([script, make_site.shorten_script(script)])
+    ran = subprocess.run([NODE, "--expose-internals", "-e", TOKENS], input=texts, capture_output=True, text=True, check=False)
+    return "the same" if "Cannot find module" in ran.stderr or "No such built-in module" in ran.stderr else ran.stdout.strip() or ran.stderr[-500:]
 
 
 def check_files() -> Iterator[Comparison]:
@@ -153,6 +176,9 @@ def check_files() -> Iterator[Comparison]:
         slides = [documents.SLIDES] if make_slides.make_page_if_built() else []
         expected = sorted([*page, *documents.DOCUMENTS, documents.SHEET, documents.QUIZ, *slides, documents.STYLE, documents.SCRIPT])
         yield "the files of a site", expected, names
+        for found in ([], [documents.SLIDES]):
+            listed = [file for file, _ in documents.list_documents(bool(found)) if file == documents.SLIDES]
+            yield f"the page of a site with {found} names no other slides", found, listed
         for name in ("one.html", *(f"site/{it}" for it in names)):
             with open(f"{folder}/{name}", encoding="utf-8") as stream:
                 text = stream.read()
@@ -238,7 +264,8 @@ def check_condition_words() -> Iterator[Comparison]:
     kinds = {"exists": "Allowed", "~exists": "Forbidden", "forall": "Required"}
     is_ok = lambda test, positive: {"exists": positive > 0, "~exists": positive == 0, "forall": positive == 3}[test.quantifier]
     asked = [
-        (text, test.language, {"asked": kinds[test.quantifier], "verdict": "Ok" if is_ok(test, positive) else "No"}) for text, test, positive in reports
+        (text, test.language, {"asked": kinds[test.quantifier], "verdict": "Ok" if is_ok(test, positive) else "No", "positive": positive})
+        for text, test, positive in reports
     ]
     with tempfile.TemporaryDirectory(prefix="lw-web-") as folder:
         shutil.copytree(f"{HOME}/web", f"{folder}/web")
@@ -282,8 +309,55 @@ def check_origin() -> Iterator[Comparison]:
         (origin.Origin(None, False, None), ". Whether its gate has passed is not recorded here."),
     ):
         yield f"the origin {given_origin}", f"{begin}{words} {origin.NO_ADDRESS} {origin.NO_LICENCE}", origin.describe_origin(given_origin)
+    address = "https://example.org/lw"
+    published = origin.describe_origin(origin.Origin(None, False, None, address))
+    expected = f"{begin}. Whether its gate has passed is not recorded here. The repository is at {address} . {origin.NO_LICENCE}"
+    yield "the origin of a published repository", expected, published
     with mock.patch.object(origin, "read_lines", lambda path: ["a", "5 passed, 0 failed"] if path.endswith("/gate") else ["", "", "", "b"]):
         yield "the gate of other sources is not that of these", None, origin.read_origin().gate
+
+
+def write_archive(path: str, commit: str, names: Sequence[str] = ("PACK.txt", "README.md")) -> None:
+    """Writes an archive with files of these names, each of which names a commit as that of a pack does."""
+    with tarfile.open(path, "w:gz") as tar:
+        for name in names:
+            text = f"lw, packed\n\nCommit:    {commit}\n".encode()
+            info = tarfile.TarInfo(f"lw-packed/{name}")
+            info.size = len(text)
+            tar.addfile(info, io.BytesIO(text))
+
+
+def check_archive() -> Iterator[Comparison]:
+    """Checks that a site carries the archive that it is given, with links to it, and refuses one of other sources."""
+    commit = "0123456789abcdef" * 2
+    with tempfile.TemporaryDirectory(prefix="lw-site-") as folder, mock.patch.object(origin, "read_origin", lambda _: origin.Origin(commit, False, None)):
+        archive = f"{folder}/lw-01234567.tar.gz"
+        write_archive(archive, commit)
+        make_site.make_site(f"{folder}/site", [SMALLEST], archive=archive)
+        with open(archive, "rb") as given_file, open(f"{folder}/site/lw-01234567.tar.gz", "rb") as carried:
+            yield "a site has its archive", given_file.read(), carried.read()
+        texts = {}
+        for name in ("tables.js", "offline.js", "tutorial.html", "fences.html"):
+            with open(f"{folder}/site/{name}", encoding="utf-8") as stream:
+                texts[name] = stream.read()
+        site = require_match(re.search(r"^globalThis.site = (.*);$", texts["tables.js"], re.M))[1]
+        yield "the page knows the archive", {"file": "lw-01234567.tar.gz", "size": "1 MB"}, json.loads(site)["archive"]
+        for name in ("tutorial.html", "fences.html"):
+            yield f"{name} has a link to the archive", True, '<a href="lw-01234567.tar.gz" download>' in texts[name]
+        yield "the browser does not keep the archive", False, "lw-01234567" in texts["offline.js"]
+        others = {"other.tar.gz": "fedc" * 8, "text.tar.gz": "", "empty.tar.gz": commit}
+        write_archive(f"{folder}/other.tar.gz", others["other.tar.gz"])
+        make_site.write_file(f"{folder}/text.tar.gz", "lw")
+        write_archive(f"{folder}/empty.tar.gz", commit, ["README.md"])
+        for name in (*others, "missing.tar.gz"):
+            try:
+                make_site.make_site(f"{folder}/refused", [SMALLEST], archive=f"{folder}/{name}")
+                cause = None
+            except origin.NoArchive as why:
+                cause = str(why).replace(f"{folder}/", "")
+            words = "is of another commit than these sources" if name == "other.tar.gz" else "is no archive of tools/pack.py: "
+            yield f"{name} is refused", True, cause is not None and cause.startswith(f"{name} {words}")
+        yield "and nothing is written", False, os.path.exists(f"{folder}/refused")
 
 
 def is_carried(name: str) -> bool:
@@ -326,7 +400,7 @@ def check_words() -> Iterator[Comparison]:
     """Checks the command line."""
     tool = [sys.executable, f"{HOME}/tools/make_site.py"]
     run = lambda *words: subprocess.run([*tool, *words], capture_output=True, text=True, check=False)
-    for words in ((), ("--one-file",), ("out", "--module"), ("out", "--more", "x")):
+    for words in ((), ("--one-file",), ("out", "--module"), ("out", "--more", "x"), ("out", "--one-file", "--archive", "x")):
         yield f"make_site.py {' '.join(words)}", 2, run(*words).returncode
     printed = run("-h")
     yield "make_site.py -h prints its words", (0, True), (printed.returncode, "make_site.py" in printed.stdout)
@@ -338,11 +412,11 @@ def check_words() -> Iterator[Comparison]:
 
 # Calls a module as the page does, and keeps what it answers.
 COMPARED = """
-import { Workbench, compiled } from "./module.js";
+import { Workbench, compileModule } from "./module.js";
 
 globalThis.load = async (number) => {
   const bytes = Uint8Array.from(atob(site.modules[number]), (it) => it.charCodeAt(0));
-  const module = await compiled(bytes);
+  const module = await compileModule(bytes);
   globalThis.workbench = module && new Workbench(module);
   document.body.dataset.module = module ? number : "none";
 };
@@ -415,8 +489,8 @@ class Site(PageCase):
 
 
 def choose_subjects(site: str, browser: str) -> tuple[type[page_case.PageCase], ...]:
-    """Returns the subjects that are tried on a site: all of them; of the one file those that it may keep from working; all examples in one
-    browser.
+    """Returns the subjects that are tried on a site: on one of files all, with all examples one after another in Chromium only; on one of one file
+    those that this form could break.
     """
     if site != "a site":
         return (Site, *subjects.OF_ONE_FILE)
@@ -435,6 +509,7 @@ class Quiet(http.server.SimpleHTTPRequestHandler):
     """Serves files, and writes nothing."""
 
     def log_message(self, *_message: object) -> None:
+        """Writes nothing."""
         pass
 
 
@@ -460,7 +535,7 @@ def check_by_browser() -> Iterator[Comparison]:
     """Yields all comparisons in a browser, if there is one, and of the module."""
     if not web_files.read_module():
         yield from report_missing("the module of the sources as they are")
-    if not is_there():
+    if not is_installed():
         yield from report_missing("a browser")
     if web_files.read_module():
         answer = lambda words, text: format_answer(check_library.capture_status_and_streams([check_library.PROGRAM, *words], text))
@@ -472,12 +547,12 @@ def check_by_browser() -> Iterator[Comparison]:
             yield "the site: the one file is small", True, os.path.getsize(f"{folder}/one.html") < MAX_BYTES
             loaded = sum(os.path.getsize(f"{folder}/site/{name}") for name in LOADED)
             yield f"the site: few bytes come before the first answer: {loaded}", True, loaded < MAX_LOADED_BYTES
-            for name, start in browsers().items():
+            for name, start in list_browsers().items():
                 in_browser = lambda it: ((f"in {name}, {subject}", expected, actual) for subject, expected, actual in it)
                 yield from in_browser(check_page.run_twice_if_needed(compare_module_answers, comparing, modules, cases, start))
                 for subject, address in opened.items():
                     yield from check_page.run_check(page_case.make_comparisons, address, choose_subjects(subject, name), f"{subject}, in {name}", start)
-            if is_there():
+            if is_installed():
                 yield from check_page.run_twice_if_needed(check_offline, f"{folder}/site")
 
 
@@ -492,7 +567,7 @@ def report_missing(requirement: str) -> Iterator[Comparison]:
 
 def describe_skipped() -> str | None:
     """Returns the line that says what was left out, or None if nothing was."""
-    requirements: dict[str, object] = {"node": NODE, "Chromium": is_there(), "Firefox": firefox.is_there()}
+    requirements: dict[str, object] = {"node": NODE, "Chromium": is_installed(), "Firefox": firefox.is_installed()}
     requirements["the module of the sources as they are"] = web_files.read_module()
     lacking = [requirement for requirement, has_it in requirements.items() if not has_it]
     return f"the site: checks were skipped, since this is missing: {', '.join(lacking)}" if lacking else None
@@ -501,7 +576,7 @@ def describe_skipped() -> str | None:
 def make_comparisons() -> Iterator[Comparison]:
     """Yields all comparisons: what is compared, what is expected, and what was found."""
     for check in (
-        check_bundles, check_files, check_documents, check_answers, check_condition_words, check_commands, check_origin, check_packed, check_words,
+        check_bundles, check_files, check_documents, check_answers, check_condition_words, check_commands, check_origin, check_archive, check_packed, check_words,
     ):
         yield from ((f"the site: {subject}", expected, actual) for subject, expected, actual in check())
     yield from check_by_node()

@@ -193,13 +193,14 @@ def check_command() -> Iterator[Comparison]:
 
 def check_browser(folder: str) -> Iterator[Comparison]:
     """Checks the keys, clicks, and the pages of paper."""
-    if not users.is_there():
+    if not users.is_installed():
         return
     driver = users.start_chromium(folder)
     try:
         from selenium.webdriver.common.keys import Keys
 
         driver.get(f"file://{folder}/slides.html")
+        # Keys and clicks that lead from slide to slide.
         moves = [(Keys.PAGE_DOWN, 2), (Keys.SPACE, 3), (Keys.ARROW_RIGHT, 4), (Keys.ARROW_DOWN, 5), (Keys.PAGE_UP, 4), (Keys.ARROW_LEFT, 3)]
         moves += [(Keys.ARROW_UP, 2), (Keys.ENTER, 3), (Keys.END, COUNT), (Keys.PAGE_DOWN, COUNT), (Keys.HOME, 1), (Keys.PAGE_UP, 1)]
         for key, number in moves:
@@ -208,6 +209,7 @@ def check_browser(folder: str) -> Iterator[Comparison]:
             yield f"a key leads to slide {number}", ([number], f"{number} of {COUNT}", f"#{number}"), (*shown, driver.current_url[-len(f"#{number}") :])
         driver.find_element("tag name", "body").click()
         yield "a click leads on", "#2", driver.current_url[-2:]
+        # The two buttons, by clicks and by keys.
         back, on = driver.find_elements("css selector", ".controls button")
         yield "the buttons have names", ["Previous slide", "Next slide"], [it.accessible_name for it in (back, on)]
         for button, number in ((on, 3), (back, 2), (back, 1), (back, 1), (on, 2)):
@@ -217,6 +219,7 @@ def check_browser(folder: str) -> Iterator[Comparison]:
             button.send_keys(key)
             yield f"a key on a button leads to slide {number}", f"#{number}", driver.current_url[-2:]
         driver.find_element("tag name", "body").send_keys(Keys.HOME)
+        # A link to the page, and the notes.
         driver.find_element("css selector", ".slide.shown .open").click()
         yield "a link leads to no other slide, and opens one tab", ("#1", 2), (driver.current_url[-2:], len(driver.window_handles))
         yield "nothing of a slide is below the buttons", [], driver.execute_script(COVERED)
@@ -227,6 +230,7 @@ def check_browser(folder: str) -> Iterator[Comparison]:
         driver.find_element("tag name", "body").send_keys("n")
         yield "a key shows the note of a slide", (0, 1), (before, notes())
         driver.find_element("tag name", "body").send_keys("n")
+        # A phone, light and dark, and paper.
         driver.execute_cdp_cmd("Emulation.setDeviceMetricsOverride", {"width": 360, "height": 740, "deviceScaleFactor": 2, "mobile": True})
         yield "the slides fit a phone", 360, driver.execute_script("return document.documentElement.scrollWidth")
         size = "return parseFloat(getComputedStyle([...document.querySelectorAll('.slide p')].find((it) => it.offsetHeight)).fontSize)"

@@ -44,13 +44,15 @@ def find_crate_log(log: str) -> str:
 
 
 def find_last_line(start_of_line: str, text: str) -> str | None:
-    """Returns the last line that starts so, with or without blanks before it, or `None` if there is none."""
+    """Returns the last line that begins with `start_of_line`, a pattern, whatever blanks are before it. `None` if there is none."""
     lines = re.findall(rf"^ *({start_of_line}.*)$", text, re.M)
     return lines[-1] if lines else None
 
 
 def parse_reached(text: str) -> dict[str, tuple[list[str], int]]:
-    """Returns, for each crate of which the report reaches a function, those that it names, and their number; a crate with none is left out."""
+    """Returns, for each crate of which the report reaches a function, the names of functions that it lists (perhaps only the first ones), and the
+    number of all that it reaches.
+    """
     reached = {}
     for crate, names, count in re.findall(r"^ *axioms (\w+): (.*) \((\d+) of the \d+ declared\)$", text, re.M):
         reached[crate] = [it for it in names.split(", ") if it != "..."], int(count)

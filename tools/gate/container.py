@@ -28,6 +28,7 @@ class Container:
     """The container's folder, for use in a `with`."""
 
     def __init__(self) -> None:
+        """Starts without a folder: `__enter__` makes it."""
         self.room = tempfile.mkdtemp(prefix="lw-container-")
 
     def __enter__(self) -> Container:
@@ -47,6 +48,7 @@ class Container:
         return self
 
     def __exit__(self, *_why: object) -> None:
+        """Removes the folder."""
         subprocess.run(["chmod", "-R", "u+w", self.room], check=False)
         shutil.rmtree(self.room)
 

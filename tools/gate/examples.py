@@ -24,6 +24,6 @@ def examples() -> list[tuple[str, str]]:
 
 
 def run(arguments: list[str], text: str = "") -> tuple[str, str, int]:
-    """Returns the output of a command of tools/ on both streams, and its exit status."""
+    """Runs a command of tools/. Returns its output on both streams, and its exit status."""
     ran = subprocess.run([sys.executable, os.path.join(TOOLS, arguments[0]), *arguments[1:]], input=text.encode(), capture_output=True, cwd=HOME)
     return ran.stdout.decode(), ran.stderr.decode(), ran.returncode

@@ -40,10 +40,11 @@ class Element:
     """An element of the page."""
 
     def __init__(self, firefox: Firefox, reference: str) -> None:
+        """Makes an element of the page that Firefox knows by a reference."""
         self.firefox, self.reference = firefox, reference
 
     def _ask(self, name: str, **parameters: Any) -> Any:
-        """Asks Firefox about this element."""
+        """Sends Firefox a command about this element. Returns its answer."""
         return self.firefox.ask(f"WebDriver:{name}", id=self.reference, **parameters)
 
     def is_displayed(self) -> bool:
@@ -51,7 +52,8 @@ class Element:
         return self._ask("IsElementDisplayed")
 
     def click(self) -> None:
-        """Clicks on the element."""
+        """Clicks on the element; by a script if Firefox finds no place for the click. Raises WebDriverError if Firefox refuses it for another reason.
+        """
         try:
             self._ask("ElementClick")
         except WebDriverError as why:
@@ -234,7 +236,7 @@ class Firefox:
 
 
 @functools.lru_cache(maxsize=None)
-def is_there() -> bool:
+def is_installed() -> bool:
     """Returns whether there is a Firefox, and it starts and can be driven on this system."""
     if BINARY is None:
         return False

@@ -47,7 +47,7 @@ def find_work(process: int) -> tuple[str, str] | None:
 
 
 def list_descendants(top: int, parents: dict[int, int]) -> list[int]:
-    """Returns the processes that `top` has started, and their descendants, each after its parent."""
+    """Returns the processes that `top` has started and their descendants, each after its parent. `parents` has the parent of each process."""
     children: dict[int, list[int]] = {}
     for process, parent in parents.items():
         children.setdefault(parent, []).append(process)
@@ -75,12 +75,12 @@ class Watch:
         self.thread.start()
 
     def watch_processes(self) -> None:
-        """Looks at the processes from time to time, until the watch is over."""
+        """Records the processes from time to time, until `is_over` is set."""
         while not self.is_over.wait(PAUSE):
             self.record_processes()
 
     def record_processes(self) -> None:
-        """Records what each process has taken."""
+        """Records the processor time that each process below `top` has taken so far, and for which crate and part it works."""
         stats = {}
         for name in os.listdir("/proc") if os.path.isdir("/proc") else []:
             try:
@@ -101,7 +101,7 @@ class Watch:
             self.ticks[process, start] = ticks
 
     def measure_minutes(self) -> dict[Work, float]:
-        """Returns minutes of processor time by crate and part."""
+        """Ends the watch. Returns the minutes of processor time by crate and part."""
         self.is_over.set()
         self.thread.join()
         minutes: dict[tuple[str, str], float] = {}

@@ -13,7 +13,9 @@ INITIAL = (None, None, None, 0, 1, 2, 5, 2**31 - 1, 2**31, 2**32 - 1, -1)
 
 
 class WideRow:
-    """A random sequence of instructions of 32 and of 64 bits in AT&T's order."""
+    """A random sequence of instructions of 32 and of 64 bits in AT&T's order, and the words that it leaves on x86. The methods `make_with_..` get two
+    of the registers, `a` and `b`, how `a` is spelled (`register`), and its word in the instruction's bits.
+    """
 
     def __init__(self, seed: int) -> None:
         """Makes a row. The same seed makes the same one."""
@@ -27,7 +29,7 @@ class WideRow:
         self.cells = [self.execute_instruction() for _ in range(self.random.randint(1, 6))]
 
     def set_initial_word(self, name: str) -> None:
-        """Sets a register's first word, by one of its names."""
+        """Chooses a register's initial word, and writes it into the initial block by one of the register's names, or leaves it out."""
         word, bits = self.random.choice(INITIAL), self.random.choice((64, 64, 32))
         if word is not None:
             self.entries.append(f"0:{self.spell_register(name, bits)[1:]}={word};")
@@ -52,7 +54,7 @@ class WideRow:
         self.x = word % 2**64 if self.bits == 64 else self.x // 2**32 * 2**32 + word % 2**32
 
     def execute_instruction(self) -> str:
-        """Executes an instruction, and returns it."""
+        """Chooses a random instruction and executes it. Returns its text."""
         self.bits = self.random.choice((64, 64, 32))
         a, b = (self.random.choice(list(self.words)) for _ in range(2))
         draw = self.random.choice(
@@ -63,7 +65,7 @@ class WideRow:
         return f"{mnemonic.replace('_', ' ')}{'q' if self.bits == 64 else 'l'} {operands}"
 
     def make_with_number(self, a: str, register: str, word: int, _: str) -> str:
-        """Returns an instruction with a number. Only MOV to a register has one of 64 bits."""
+        """Executes an instruction with a number, and returns its text. Only MOV to a register has a number of 64 bits."""
         number, kind = self.random.choice(NUMBERS), self.random.randint(0, 5)
         if kind == 0 or self.bits == 64 and number >= 2**31:
             self.set_register(a, number)
@@ -81,7 +83,7 @@ class WideRow:
         return f"add ${number},{register}"
 
     def make_with_registers(self, a: str, register: str, word: int, b: str) -> str:
-        """Returns an instruction with two registers."""
+        """Executes an instruction with two registers, and returns its text."""
         other, spelled, kind = self.words[b] % WORDS[self.bits], self.spell_register(b, self.bits), self.random.randint(0, 5)
         if kind == 0:
             self.set_register(a, self.set_flag(word + other))
@@ -102,13 +104,13 @@ class WideRow:
         return f"mov {spelled},{register}"
 
     def make_lea(self, a: str, register: str, b: str) -> str:
-        """Returns LEA with an address of 32 or of 64 bits."""
+        """Executes LEA with an address of 32 or of 64 bits, and returns its text."""
         bits, number = self.random.choice((64, 64, 32)), self.random.choice((-3, -1, 0, 1, 2))
         self.set_register(a, (self.words[b] + number) % WORDS[bits])
         return f"lea {number}({self.spell_register(b, bits)}),{register}"
 
     def make_with_memory(self, a: str, register: str, word: int, _: str) -> str:
-        """Returns an instruction with the location."""
+        """Executes an instruction with the location, and returns its text."""
         old_word, kind = self.x % WORDS[self.bits], self.random.randint(0, 5)
         if kind == 0:
             self.set_register(a, old_word)
@@ -131,7 +133,7 @@ class WideRow:
         return f"xchg {register},(x)"
 
     def make_with_one_register(self, a: str, register: str, word: int, _: str) -> str:
-        """Returns an instruction with one register."""
+        """Executes an instruction with one register, and returns its text."""
         kind = self.random.randint(0, 3)
         if kind == 0:
             self.set_register(a, self.set_flag(word - 1))
@@ -220,7 +222,7 @@ class SpelledRow:
         return f"{mnemonic}{letter} {','.join(operands)}"
 
     def execute_instruction(self) -> str:
-        """Executes an instruction, and returns it."""
+        """Chooses a random instruction and executes it. Returns its text."""
         words, number = self.words, self.random.randint(0, 9)
         location = self.random.choice("xy")
         a, b = (self.random.choice(("eax", "ebx", "ecx")) for _ in range(2))

@@ -20,7 +20,7 @@ from typing import NamedTuple
 import given
 from c.compiler import compile_to_assembly, demangle_assembly
 from c.condition import Global, ThreadValue
-from c.convert import Converter
+from c.convert import ProgramConverter
 from c.refused import Refused
 from c.report import make_answer
 from c.source import read_source, strip_prefix
@@ -127,7 +127,7 @@ def replace_sees(assembly: str) -> str:
     return re.sub(r"^\s*#lw see (\S+) %?(\w+)", r"\tmovl %\2, %fs:lw_seen_\1@tpoff", assembly, flags=re.M)
 
 
-def list_objects(converter: Converter) -> list[tuple[str, int, bool]]:
+def list_objects(converter: ProgramConverter) -> list[tuple[str, int, bool]]:
     """Returns the named objects, each with its length, and whether some thread stores to it."""
     layout, writers = converter.program.layout, converter.program.locations.writers
     stored = {containing_object[0] for address in writers if (containing_object := layout.find_object(address))}
@@ -135,7 +135,7 @@ def list_objects(converter: Converter) -> list[tuple[str, int, bool]]:
     return [(name, it.length, name in stored) for name, it in objects if not name.startswith(".") and it.length]
 
 
-def make_declarations(converter: Converter, sites: list[ThreadValue | Global]) -> str:
+def make_declarations(converter: ProgramConverter, sites: list[ThreadValue | Global]) -> str:
     """Returns the harness's tables of a program: its functions, objects and values."""
     objects = list_objects(converter)
     names = sorted({site.name for site in sites if isinstance(site, ThreadValue) and site.name != "return"})
@@ -145,8 +145,12 @@ def make_declarations(converter: Converter, sites: list[ThreadValue | Global]) -
     lines += [f"_Thread_local unsigned lw_seen_{name};" for name in names] + [f"unsigned P{thread}(void);" for thread in range(count)]
     lines += [f"static char kept_{number}[{size}];" for number, (_, size, _) in enumerate(objects)]
     stored = [(number, size) for number, (_, size, is_stored) in enumerate(objects) if is_stored]
-    copies = lambda to_name, from_name: "".join(f" memcpy({to_name}_{n}, {from_name}_{n}, {size});" for n, size in stored)
-    lines += [f"static void keep(void) {{{copies('kept', 'object')} }}", f"static void reset(void) {{{copies('object', 'kept')} }}"]
+
+    def format_copies(to_name: str, from_name: str) -> str:
+        """Returns the statements that copy all objects to which some thread stores."""
+        return "".join(f" memcpy({to_name}_{n}, {from_name}_{n}, {size});" for n, size in stored)
+
+    lines += [f"static void keep(void) {{{format_copies('kept', 'object')} }}", f"static void reset(void) {{{format_copies('object', 'kept')} }}"]
     zeros = "".join(f" lw_seen_{name} = 0;" for name in names)
     statements = "".join(f" into[{index}] = lw_seen_{name};" for index, name in enumerate(names))
     switch = "".join(f" case {thread}: returned = P{thread}(); break;" for thread in range(count))
@@ -159,7 +163,7 @@ def make_declarations(converter: Converter, sites: list[ThreadValue | Global]) -
     return "\n".join(lines)
 
 
-def make_expression(converter: Converter, site: ThreadValue | Global, names: list[str], objects: list[tuple[str, int, bool]]) -> str:
+def make_expression(converter: ProgramConverter, site: ThreadValue | Global, names: list[str], objects: list[tuple[str, int, bool]]) -> str:
     """Returns the expression for a site's value after a run."""
     if isinstance(site, ThreadValue):
         return f"results[{site.thread}][{len(names) if site.name == 'return' else names.index(site.name)}]"
@@ -169,7 +173,7 @@ def make_expression(converter: Converter, site: ThreadValue | Global, names: lis
     return f"*(uint{8 * size}_t *)(object_{number} + {offset or 0})"
 
 
-def run_native(converter: Converter, assembly: str, compiler: str, seconds: float) -> NativeStates:
+def run_native(converter: ProgramConverter, assembly: str, compiler: str, seconds: float) -> NativeStates:
     """Runs a program for some seconds. The compiler assembles and links it. Raises Refused if it does not build."""
     sites = list(dict.fromkeys(it.site for it in converter.condition.list_atoms()))
     text = make_declarations(converter, sites)
@@ -208,7 +212,7 @@ def compare_with_list(path: str, compiler: str, seconds: float, tries: int) -> t
     with open(path, encoding="utf-8") as file:
         source = read_source(path, file.read())
     raw = compile_to_assembly(source, compiler, 0, os.path.dirname(os.path.abspath(path)))
-    converter = Converter(demangle_assembly(raw), source.condition, source.name, source.threads, tries, source.added)
+    converter = ProgramConverter(demangle_assembly(raw), source.condition, source.name, source.threads, tries, source.added)
     answer = make_answer(converter)
     native = run_native(converter, demangle_assembly(raw), compiler, seconds)
     lines = answers.filter_state_lines(answer.report)

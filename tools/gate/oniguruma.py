@@ -78,6 +78,7 @@ class Match:
         return self.spans[group][1]
 
     def __getitem__(self, group: int) -> str:
+        """Returns the text of a group."""
         begin, end = self.spans[group]
         return self.text[begin:end]
 
@@ -86,6 +87,7 @@ class Pattern:
     """A compiled pattern."""
 
     def __init__(self, library: Library, pointer: ctypes.c_void_p) -> None:
+        """Makes a pattern of the library's pointer to it."""
         self.library, self.handle = library, pointer
 
     def search(self, line: str, index: int) -> Match | None:

@@ -22,6 +22,7 @@ import graph
 import picture
 import plain
 from effects import describe_refusal
+from fencing import exchanges
 from films import Film, Refused, make_film, parse_language, replay_schedule
 from replay_state import State, is_final_in
 from shared import command
@@ -49,11 +50,12 @@ class NoAnswer(Exception):
     """There is no answer: why, and in `more` the further fields of what is answered."""
 
     def __init__(self, why: str, **fields: object) -> None:
+        """Makes the exception of a sentence and of further fields."""
         super().__init__(why)
         self.more = fields
 
 
-def remember(ask_once: Callable[[list[str], bytes], str]) -> Callable[[list[str], bytes], str]:
+def memoize(ask_once: Callable[[list[str], bytes], str]) -> Callable[[list[str], bytes], str]:
     """Returns a function that calls `ask_once` only once for the same words and text, and then answers from memory."""
     results = {}
 
@@ -67,7 +69,7 @@ def remember(ask_once: Callable[[list[str], bytes], str]) -> Callable[[list[str]
     return ask
 
 
-ask = remember(films.ask_program)
+ask = memoize(films.ask_program)
 films.ask_program = ask  # type: ignore[assignment]
 
 
@@ -158,7 +160,7 @@ def find_schedule(text: bytes, state: str) -> str:
     lines = ask(["schedules"], text).splitlines()[2:]
     schedule = dict(zip(lines[::2], lines[1::2])).get(state)
     if schedule is None:
-        raise NoAnswer("The test does not end in that state.")
+        raise NoAnswer(f"The test does not end in `{state}`.")
     return schedule.strip()
 
 
@@ -213,14 +215,16 @@ def answer_film(text: bytes, state: str, protocol: str) -> Answer:
 
 
 def answer_moves(text: bytes, schedule: str, protocol: str, whole: bool = False) -> Answer:
-    """Returns a state with what led to it, in what it ends, and what the machine can do next: each event, with its cause if it is refused; of a
-    whole answer also the registers that events have put words into."""
+    """Returns the answer on the state that a schedule reaches: the state, the one before, the last effect, how the run ends if it is final, and each
+    event with its cause if the machine refuses it; with `whole` also `list_set_registers`. Raises NoAnswer if an event of the schedule is refused.
+    """
     state = replay_schedule(text, schedule, protocol)
     end = state["end"]
     if end["kind"] == "Stopped":
         event = schedule.split()[end["at"]]
         why = f"Event {end['at'] + 1} of the schedule, {event}, is refused: {describe_refusal(end['number'])}."
         raise NoAnswer(why, refused={"event": event, "at": end["at"], "number": end["number"], "cause": end["cause"]})
+    # Each event that could be next, by a replay that has it at its end.
     is_x86 = parse_language(text) == "X86"
     moves = []
     for thread in range(len(state["threads"])):
@@ -229,6 +233,7 @@ def answer_moves(text: bytes, schedule: str, protocol: str, whole: bool = False)
             ended = replay_schedule(text, f"{schedule} {event}", protocol)["end"]
             why_not = {"number": ended["number"], "cause": ended["cause"]} if ended["kind"] == "Stopped" else None
             moves.append({"event": event, "thread": thread, "refused": why_not})
+    # The last effect, and the state before it.
     film = make_film(text, schedule, protocol)
     effect, before = film["effects"][-1] if film["effects"] else None, film["states"][-2:][0]
     answer: Answer = {
@@ -290,6 +295,24 @@ def answer_more_fences(text: bytes) -> Answer:
     return {"fenced": {"number": number, "isAnswered": not fences.count_unwanted_states(test), "sets": shown, "more": len(sets) - len(shown)}}
 
 
+def answer_exchanges(text: bytes, everything: bool) -> Answer:
+    """Returns of each exchange its place, what tools/fences.py tries in its place, and the states that are added by that; its place if no register is free."""
+    read = plain.read_test(ask(["compile"], text))
+    test = fences.show_everything(read) if everything else read
+    fences.lists.clear()
+    rows: list[Answer] = []
+    for thread, position in exchanges.list_exchanges(test):
+        row: Answer = {"place": f"P{thread} at {position}, {plain.format_instruction(test, test.threads[thread][position])}"}
+        instructions = exchanges.make_unlocked_instructions(test, (thread, position))
+        if instructions:
+            unlocked, known = exchanges.replace_instruction(test, (thread, position), instructions), set(fences.list_states(test))
+            row["words"] = exchanges.format_instructions(instructions)
+            row["added"] = [line for line in fences.list_states(unlocked) if line not in known]
+            row["text"] = plain.format_canonical_text(unlocked)
+        rows.append(row)
+    return {"exchanges": rows}
+
+
 def answer_interleaved(text: bytes) -> Answer:
     """Returns the lines of the states of an x86 test that interleaving on one memory gives."""
     test = plain.read_test(ask(["compile"], text))
@@ -337,6 +360,7 @@ QUESTIONS: dict[str, Callable[..., Answer]] = {
     "compile": answer_compile,
     "fences": answer_fences,
     "more fences": answer_more_fences,
+    "exchanges": answer_exchanges,
     "interleaved": answer_interleaved,
     "picture": answer_picture,
     "graph": answer_graph,

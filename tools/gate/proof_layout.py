@@ -26,8 +26,8 @@ from gate.layout_texts import TEXTS
 from shared import antt, command, start
 from shared.antt import Sentence
 from shared.antt_terms import (
-    LEVELS, Application, Bracket, Chain, Item, Lambda, Let, Node, Rows, Term, Unread, find_index, format_pattern, group_tokens, raise_if, read_term,
-    read_word, require_index,
+    LEVELS, Application, Bracket, Chain, Item, Lambda, Let, Node, Rows, Term, Unread, find_index, format_pattern, group_tokens, raise_if, parse_term,
+    parse_word, require_index,
 )
 from shared.home import HOME
 
@@ -46,6 +46,7 @@ class Page:
     """
 
     def __init__(self, base: int) -> None:
+        """Starts a page whose first line is indented by `base` blanks."""
         self.base, self.line = base, " " * base
         self.lines: list[str] = []
 
@@ -264,8 +265,8 @@ def put_block(page: Page, nodes: list[Node]) -> None:
     """Writes the head of a module, a record or a type: its words and binders fill lines."""
     raise_if(nodes[-1] != "where", "a head")
     colon = find_index(nodes, ":")
-    *parts, last = [read_word(it) for it in nodes[: len(nodes) - 1 if colon is None else colon]]
-    end = " where" if colon is None else f" : {read_term(nodes[colon + 1 : -1]).flat} where"
+    *parts, last = [parse_word(it) for it in nodes[: len(nodes) - 1 if colon is None else colon]]
+    end = " where" if colon is None else f" : {parse_term(nodes[colon + 1 : -1]).flat} where"
     page.write_text(" ".join(it.flat for it in parts[:1]))
     for part in parts[1:]:
         put_after(page, part, 0)
@@ -275,7 +276,7 @@ def put_block(page: Page, nodes: list[Node]) -> None:
 
 def put_signature(page: Page, nodes: list[Node], colon: int) -> None:
     """Writes a signature, whose colon has an index."""
-    term = read_term(nodes[colon + 1 :])
+    term = parse_term(nodes[colon + 1 :])
     first = term.first if isinstance(term, Chain) else term
     has_binders = isinstance(first, Application) and isinstance(first.parts[0], Bracket)
     page.write_text(f"{format_pattern(nodes[:colon])} :")
@@ -289,7 +290,7 @@ def put_signature(page: Page, nodes: list[Node], colon: int) -> None:
 def put_clause(page: Page, nodes: list[Node], equals: int) -> None:
     """Writes a clause, whose sign of equality has an index."""
     page.write_text(f"{format_pattern(nodes[:equals])} =")
-    put_after(page, read_term(nodes[equals + 1 :]), 0)
+    put_after(page, parse_term(nodes[equals + 1 :]), 0)
 
 
 def lay_out(sentence: Sentence) -> list[str]:

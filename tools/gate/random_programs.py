@@ -268,6 +268,7 @@ class Interpreter:
     """All outcomes of a program's source."""
 
     def __init__(self, program: Program) -> None:
+        """Prepares to run a program."""
         self.program = program
 
     def list_outcomes(self) -> set[End]:
@@ -288,7 +289,7 @@ class Interpreter:
         return ends
 
     def list_successors(self, state: State, thread: int) -> list[State]:
-        """Returns the next actions of a thread: drain its oldest store, or execute its next statement."""
+        """Returns the states after each next action of a thread: to drain its oldest store, or to execute its next statement."""
         successors, buffer = [], state.buffers[thread]
         if buffer:
             (location, word), *rest = buffer

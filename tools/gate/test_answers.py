@@ -62,7 +62,7 @@ class Tree:
         os.chmod(f"{self.room}/{name}", mode)
 
     def run_tool(self, tool: str) -> list[str]:
-        """Returns the lines that a tool prints of SB-x86, in this tree and without a toolchain."""
+        """Returns the lines that a tool prints on SB-x86, in this tree and without a toolchain."""
         words = [sys.executable, f"{self.room}/tools/{tool}", os.path.join(HOME, SB)]
         ran = subprocess.run(words, stdout=subprocess.PIPE, stderr=subprocess.STDOUT, env={"PATH": "/usr/bin:/bin"}, check=False)
         return ran.stdout.decode().splitlines()
@@ -78,7 +78,7 @@ class Stale(cases.Case):
         self.room = room.name
 
     def test_program(self) -> None:
-        """The lists of lw are proved, until the sources change."""
+        """The lists of lw are proved until the sources change."""
         tree = Tree(self.room, lw=f"cat <<'END'\n{WRONG}END")
         self.assertEqual("Put together from 1 test, listed by lw", tree.run_tool("assume.py")[-1])
         self.assertEqual("SB-x86, by its question, exists (0:EAX=0 /\\ 1:EAX=0): fences 0, states 1", tree.run_tool("fences.py")[0])
@@ -89,7 +89,7 @@ class Stale(cases.Case):
         self.assertEqual(f"Not proved: of 1 lists 1 are made by {STALE}", last)
 
     def test_beyond(self) -> None:
-        """So is what beyond lists, if lw refuses the test."""
+        """The lists of beyond are proved, if lw refuses the test, until the sources change."""
         tree = Tree(self.room, lw=LIMIT, beyond=f"cat <<'END'\n{WRONG}END")
         self.assertEqual("Put together from 1 test, listed by beyond", tree.run_tool("assume.py")[-1])
         tree.write_file("crates.txt", "lw: other\n")

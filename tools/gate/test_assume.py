@@ -58,10 +58,10 @@ Step = Callable[[plain.Statement, int, plain.Processor, plain.OneMemory], plain.
 
 
 def extend_with_cmpxchg(instruction_step: Step) -> Step:
-    """Returns the step of tools/plain.py, and that of one instruction more."""
+    """Returns a function that executes what `instruction_step` executes, and LOCK CMPXCHG."""
 
     def step(instruction: plain.Statement, cpu: int, processor: plain.Processor, memory: plain.OneMemory) -> plain.Processor:
-        """Executes an instruction, which may be CMPXCHG."""
+        """Executes an instruction, which may be CMPXCHG. Raises Refused if CMPXCHG has to wait for the store buffer."""
         if instruction.kind != "cmpxchg":
             return instruction_step(instruction, cpu, processor, memory)
         if processor.buffer:
@@ -94,7 +94,7 @@ def make_random_cmpxchg(seed: int) -> str:
 
 
 def make_machine(text: str) -> plain.Test:
-    """Returns a test as the machine that has the instruction reads it."""
+    """Returns the test of a text in the form of X86, with the kind `cmpxchg` for its LOCK CMPXCHG, which `extend_with_cmpxchg` executes."""
     test = plain.read_test(text.replace("LOCK CMPXCHG", "LOCK XADD"))
     as_cmpxchg = lambda it: replace(it, kind="cmpxchg") if it.kind == "xadd" else it
     test.threads = [tuple(as_cmpxchg(it) for it in code) for code in test.threads]
@@ -133,7 +133,9 @@ LOOPS = (
 
 
 def restore_loops(text: str) -> plain.Test:
-    """Returns a test with its loops, as no text of lw says: the jumps to the label that is left over at the end lead back."""
+    """Returns the test of one of LOOPS with its loops, which lw's reader refuses: the jumps to the label of a last row are made to lead back to where
+    the loop begins.
+    """
     heads = [[index for index, cell in enumerate(column) if "{0}" in cell] for column in split_columns(text)]
     lines = text.replace("{0}", "").replace("{1}", "BACK").splitlines()
     index = next(index for index, line in enumerate(lines) if line.startswith(("exists", "forall", "locations")))
@@ -148,7 +150,7 @@ def restore_loops(text: str) -> plain.Test:
 
 
 def split_columns(text: str) -> list[tuple[str, ...]]:
-    """Returns the cells of each thread."""
+    """Returns, for each thread of a test's text, its cells."""
     rows = [line.rstrip(" ;").split("|") for line in text.splitlines()[3:] if line.startswith(" ")]
     return list(zip(*rows))
 
@@ -174,40 +176,45 @@ JumpCell = Tuple[str, Optional[int]]
 
 
 def make_random_cells(random: Random, is_loop: bool) -> list[JumpCell]:
-    """Returns the cells of a thread with jumps: for each its instruction, and where it jumps, if it does. With loops they jump to random places,
-    otherwise forward, before a block is put after the end."""
+    """Returns the cells of a random thread with jumps. With `is_loop` they jump to any place; otherwise they jump forward, and then a block is put
+    after the end.
+    """
     size = random.randint(5, 8)
     jumps = random.sample(range(1, size), random.randint(1, 3))
     names = ("JE", "JNE", "JMP") if is_loop else ("JE", "JNE")
-    jump = lambda index: (random.choice(names), random.randint(0 if is_loop else index + 1, size))
-    cells = [jump(index) if index in jumps else ("", None) for index in range(size)]
+
+    def make_jump(index: int) -> JumpCell:
+        """Returns a random jump of the cell at an index."""
+        return random.choice(names), random.randint(0 if is_loop else index + 1, size)
+
+    cells = [make_jump(index) if index in jumps else ("", None) for index in range(size)]
     filled = [(text or make_random_access(random, is_on_cycle(cells, index)), target) for index, (text, target) in enumerate(cells)]
     return filled if is_loop else move_block_to_end(filled, *sorted(random.sample(range(size), 2)))
 
 
 def move_block_to_end(cells: list[JumpCell], begin: int, end: int) -> list[JumpCell]:
-    """Returns the cells, of which a block is moved to the end, from where it jumps back."""
+    """Returns cells in another order that do the same: those from `begin` to `end` come last, a jump leads to them, and one leads back."""
     size = len(cells)
 
-    def new_index(index: int) -> int:
-        """Returns the index that a cell has then."""
+    def find_new_index(index: int) -> int:
+        """Returns the index in the new order of the cell that had an index before."""
         if index == size:
             return size + 3
         return index if index < begin else index + size - end + 2 if index < end else index - (end - begin) + 1
 
-    rows = [(text, None if target is None else new_index(target)) for text, target in cells]
-    return [*rows[:begin], ("JMP", new_index(begin)), *rows[end:], ("JMP", new_index(size)), *rows[begin:end], ("JMP", new_index(end))]
+    rows = [(text, None if target is None else find_new_index(target)) for text, target in cells]
+    return [*rows[:begin], ("JMP", find_new_index(begin)), *rows[end:], ("JMP", find_new_index(size)), *rows[begin:end], ("JMP", find_new_index(end))]
 
 
 def make_random_access(random: Random, is_in_loop: bool) -> str:
-    """Returns an instruction that is no jump; no store in a loop, which has states without end, since the store buffer grows."""
+    """Returns a random instruction that is no jump. In a loop it is no store: the store buffer could grow without end."""
     location, register, word = random.choice("xy"), random.choice(("EAX", "EBX")), random.randint(0, 2)
     others = (f"MOV {register},[{location}]", f"CMP {register},${word}", f"MOV {register},${word}", f"XCHG [{location}],{register}")
     return random.choice(others if is_in_loop else (f"MOV [{location}],${word}", f"MOV [{location}],${word}", *others))
 
 
 def list_successors(cells: list[JumpCell], index: int) -> set[int]:
-    """Returns the numbers of the cells that may come next."""
+    """Returns the indices of the cells that may be executed after one."""
     text, target = cells[index]
     if target is None:
         return {index + 1}
@@ -215,7 +222,7 @@ def list_successors(cells: list[JumpCell], index: int) -> set[int]:
 
 
 def is_on_cycle(cells: list[JumpCell], index: int) -> bool:
-    """Returns whether a run may come to a cell twice, as far as its branches say."""
+    """Returns whether some path leads from a cell back to it; paths follow branches in both directions."""
     seen, queue = set(), [index]
     while queue:
         for follower in list_successors(cells, queue.pop()):
@@ -226,7 +233,7 @@ def is_on_cycle(cells: list[JumpCell], index: int) -> bool:
 
 
 def list_reachable(cells: list[JumpCell]) -> set[int]:
-    """Returns the cells that some way leads to from the first."""
+    """Returns the indices of the cells that some path reaches from the first."""
     seen, queue = {0}, [0]
     while queue:
         new = {it for it in list_successors(cells, queue.pop()) if it < len(cells)} - seen
@@ -236,7 +243,7 @@ def list_reachable(cells: list[JumpCell]) -> set[int]:
 
 
 def is_looping(cells: list[JumpCell]) -> bool:
-    """Returns whether some run may go through a cell twice, as far as its branches say."""
+    """Returns whether some path from the first cell goes through a cell twice."""
     return any(is_on_cycle(cells, index) for index in list_reachable(cells))
 
 
@@ -309,8 +316,8 @@ def list_states_by_assumption(threads: list[list[JumpCell]], tries: int) -> set[
 def list_random_threads(
     is_loop: bool, is_taken: Callable[..., Any] = lambda _cells: True
 ) -> Iterator[tuple[int, list[list[JumpCell]], set[str]]]:
-    """Yields random threads that jump backward on some way: with loops, or with none. Each is such as is taken, and together they have some states
-    by their loops, which come last.
+    """Yields random tests of two threads: the seed, the cells of each thread, and the states by `list_states_by_loops`. Some thread jumps backward;
+    some has a loop if `is_loop`, and none otherwise; `is_taken` holds of each thread; and there are at least three states.
     """
     for seed in range(1, MAX_SEEDS):
         random = Random(f"jumps {is_loop} {seed}")
@@ -361,10 +368,14 @@ class Jumps(cases.Case):
 
 
 def is_simple(cells: list[tuple[str, None] | tuple[str, int]]) -> bool:
-    """Returns whether a thread has one jump backward at most, over what no jump leads into except to its begin."""
+    """Returns whether a thread has at most one jump backward, and enters the loop of that one only at its start."""
     backward_jumps = [(target, index) for index, (_, target) in enumerate(cells) if target is not None and target <= index]
-    inside = lambda index, target: any(begin < target <= end and not begin <= index <= end for begin, end in backward_jumps)
-    return len(backward_jumps) <= 1 and not any(target is not None and inside(index, target) for index, (_, target) in enumerate(cells))
+
+    def enters_loop(index: int, target: int) -> bool:
+        """Returns whether a jump from outside a loop leads into it, and not to its start."""
+        return any(begin < target <= end and not begin <= index <= end for begin, end in backward_jumps)
+
+    return len(backward_jumps) <= 1 and not any(target is not None and enters_loop(index, target) for index, (_, target) in enumerate(cells))
 
 
 class Command(cases.Case):

@@ -43,13 +43,13 @@ FIRST_CRATES = 6
 
 
 def make_plan(record: dict[str, Any], processors: int = PROCESSORS) -> Plan:
-    """Returns the plan of a build."""
+    """Returns the plan of a build, by rows like those of RECORD."""
     return Plan({name: row[0] for name, row in record.items()}, {name: row[1] for name, row in record.items()}, processors)
 
 
 def list_moments(pace: float) -> Iterator[tuple[Bounds, float]]:
-    """Yields a build with the record's times, multiplied by a pace: at its start, and at the end of each crate except the last, the bounds
-    of the minutes to go, and the actual ones.
+    """Yields, at the start of the recorded build and at the end of each crate but the last, the estimated bounds of the minutes to go and the actual
+    minutes; all times are multiplied by `pace`.
     """
     plan, jobs = make_plan(RECORD), dict.fromkeys(RECORD, 0)
     estimate, end = Estimate(plan, list(RECORD)), max(row[3] for row in RECORD.values())

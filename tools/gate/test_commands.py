@@ -77,7 +77,7 @@ class Help(cases.Case):
                     self.assertIn(f"tools/{name}", out)
 
     def test_modules(self) -> None:
-        """`python3 tools`, in any folder, prints the first sentence of each of them and of the commands in packages."""
+        """`python3 tools`, in any folder, prints the first sentence of each command and of those in packages."""
         for words in ("", *HELP):
             ran = run_module(*words.split())
             with self.subTest(words):
@@ -87,7 +87,7 @@ class Help(cases.Case):
                 self.assertEqual(SAYS, listed["gate.test_commands"])
 
     def test_page(self) -> None:
-        """So does `./page`."""
+        """`./page --help` prints its use on standard output, with status 0."""
         for word in HELP:
             with self.subTest(word):
                 ran = subprocess.run([os.path.join(HOME, "page"), word], capture_output=True, text=True, check=False)
@@ -132,14 +132,14 @@ class Pipes(cases.Case):
                 self.assertEqual(("", start.CLOSED), run_without_reader([name, "--help"]))
 
     def test_answers(self) -> None:
-        """So does an answer."""
+        """An answer ends quietly when nobody reads it."""
         for words in QUICK:
             words, text = split_input(words)
             with self.subTest(words):
                 self.assertEqual(("", start.CLOSED), run_without_reader(words, text))
 
     def test_faults(self) -> None:
-        """So does the line of a fault when standard error is not read either."""
+        """The line of a fault ends quietly when nobody reads standard error either."""
         for words in QUICK:
             if words[0] != "cycles.py":
                 with self.subTest(words[0]):
@@ -154,7 +154,7 @@ class Pipes(cases.Case):
         self.assertEqual((message, 1), (ran.stderr.decode(), ran.returncode))
 
     def test_closed_at_start(self) -> None:
-        """So is an output that was closed when the command started, if anything is printed."""
+        """An output that was closed when the command started is reported, with status 1, if anything is printed."""
         for name, *words in (("plain", "states"), ("fences",)):
             shell = ["sh", "-c", 'exec "$0" "$@" >&-', sys.executable, os.path.join(TOOLS, f"{name}.py"), *words, "examples/SB.litmus"]
             ran = subprocess.run(shell, stderr=subprocess.PIPE, cwd=HOME, check=False)

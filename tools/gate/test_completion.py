@@ -81,7 +81,7 @@ class Table(cases.Case):
                 self.assertEqual(sorted(printed), list_tool_options()[tree.name_command(tool)])
 
     def test_words(self) -> None:
-        """The words of the programs are those of their manual pages."""
+        """Each word of a program is on its manual page, and each option of the page is among the words."""
         for program in completion.PROGRAMS:
             page = re.sub(r"\\f.|\\", "", read(f"tools/packing/debian/{program}.1"))
             words = {word for row in completion.ROWS if row.program == program for word in row.words}

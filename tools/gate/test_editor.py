@@ -67,8 +67,8 @@ OF_PAGE = {
 # In place of the page's own ways to make elements, and what prints the pieces of texts.
 DOM = "export const el = (_name, more, ...inside) => ({ kind: more.class ?? null, text: inside.join('') });\n"
 COLOURS_OF_PAGE = """import fs from "node:fs";
-import { textNodes, tintsOf } from "./tint.js";
-const pieces = (text) => textNodes(text, tintsOf(text)).map((it) => (typeof it === "string" ? [it, null] : [it.text, it.kind]));
+import { findTints, renderText } from "./tint.js";
+const pieces = (text) => renderText(text, findTints(text)).map((it) => (typeof it === "string" ? [it, null] : [it.text, it.kind]));
 console.log(JSON.stringify(JSON.parse(fs.readFileSync(0, "utf8")).map(pieces)));
 """
 
@@ -189,7 +189,7 @@ class Words(cases.Case):
     """The table of words."""
 
     def test_format(self) -> None:
-        """It has the words of docs/FORMAT.md's tables, and its reserved names."""
+        """The table has the words of docs/FORMAT.md's tables, and its reserved names."""
         self.assertEqual({*words.SOURCE, *words.SOURCE_WHOLE}, read_table_words("**Statements of a source test:**"))
         self.assertEqual({*words.X86, *words.X86_WAITING}, read_table_words("**Instructions of an x86 test.**"))
         text = " ".join(read("docs/FORMAT.md").partition("**Reserved names**")[2].partition("in any case of the letters")[0].split())

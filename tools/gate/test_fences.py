@@ -83,7 +83,7 @@ def make_report_by_search(test: plain.Test) -> str:
 
 
 def find_all_smallest(items: Sequence[Any], is_enough: Callable[[Any], bool]) -> list[Any]:
-    """Returns all smallest sets that are enough, by a look at each."""
+    """Returns all smallest sets of items that are enough: it tries each set."""
     for size in range(len(items) + 1):
         sets = [list(it) for it in combinations(items, size) if is_enough(frozenset(it))]
         if sets:
@@ -92,7 +92,7 @@ def find_all_smallest(items: Sequence[Any], is_enough: Callable[[Any], bool]) ->
 
 
 def list_states_with(test: plain.Test, places: list[tuple[int, int]], kept_places: frozenset[tuple[int, int]]) -> list[str]:
-    """Returns the lines of the states of a test with those of its fences that are kept."""
+    """Returns the lines of the states of a test that keeps only the fences at `kept_places`, of those at `places`."""
     return answers.filter_state_lines(make_report_by_search(fences.remove_fences(test, [it for it in places if it not in kept_places])))
 
 
@@ -125,7 +125,7 @@ class Places(BySearch):
     """Places for fences in random tests and in examples."""
 
     def list_unwanted_tests(self) -> Iterator[tuple[str, plain.Test, list[list[tuple[int, int]]]]]:
-        """Yields the tests in which something is unwanted, with the sets of places that are reported."""
+        """Yields each test in which something is unwanted: its name, the test, and the sets of places that are reported for it."""
         texts = [(name, text) for name, text in examples() if name.endswith("-x86")]
         texts += [(f"random x86 test {seed}", random_tests.Writer("X86", seed).draw_test()) for seed in range(1, RANDOM_TESTS)]
         for name, text in texts:
@@ -154,7 +154,7 @@ class Exchanges(BySearch):
     """Exchanges without their lock."""
 
     def test_states(self) -> None:
-        """They have all states of those with it."""
+        """An exchange without its lock has all states of the one with it."""
         texts = [text for _, text in examples()] + [random_tests.Writer("X86", seed).draw_test() for seed in range(1, RANDOM_TESTS // 2)]
         for text in texts:
             test = plain.compile_test(plain.read_test(text))
@@ -243,7 +243,7 @@ class Spare(BySearch):
     """Fences that are spare by the local law."""
 
     def list_fenced_tests(self) -> Iterator[tuple[str, plain.Test]]:
-        """Yields random tests with fences at random places, and examples, which show all registers and locations."""
+        """Yields names and tests, which show all registers and locations: random ones with fences at random places, and examples."""
         for seed in range(1, FENCED_TESTS + 1):
             test, random = plain.read_test(random_tests.Writer("X86", seed).draw_test()), Random(seed)
             everywhere = [(thread, index) for thread, code in enumerate(test.threads) for index in range(len(code))]
@@ -283,7 +283,7 @@ class Spare(BySearch):
             with self.subTest(first):
                 self.assertEqual(spare, is_spare(test, fences.list_fences(test)[0]))
 
-    def test_told(self) -> None:
+    def test_reported(self) -> None:
         """A spare fence is reported as one, by the words of the law."""
         text = re.sub(r"^ r0 := y.*\n", "", read("examples/SB+unwritten.litmus"), flags=re.M)
         out = io.StringIO()
@@ -324,7 +324,7 @@ class Makers(cases.Case):
 
     @unittest.skipUnless(os.path.exists(answers.BEYOND), "the program beyond is not built")
     def test_by_beyond(self) -> None:
-        """It is proved if beyond is built, with lw and without, and the states are the same as those of the search."""
+        """An answer is proved if beyond is built, with lw and without, and the states are the same as those of the search."""
         for path in glob.glob(os.path.join(TOOLS, "search", "tests", "*.litmus")):
             searched = self.list_printed_lines(path, program="/no/program", beyond="/no/program")
             for program in (None, "/no/program"):

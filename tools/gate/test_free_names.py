@@ -86,7 +86,7 @@ class Places(cases.Case):
     def setUpClass(cls) -> None:
         # (No Common exports anything.)
         """Prepares the search for names in two crates without Commons."""
-        cls.missing = Missing(SimpleNamespace(passed=dict.fromkeys(("lw_memory", "lw_tso"), {})), "STD", {"◌∷◌"})
+        cls.missing = Missing(SimpleNamespace(exported=dict.fromkeys(("lw_memory", "lw_tso"), {})), "STD", {"◌∷◌"})
 
     def setUp(self) -> None:
         """Makes `rt lemma` find nothing."""
@@ -115,7 +115,7 @@ class Places(cases.Case):
         """A definition of a crate that is not below is not found."""
         self.assertFalse("Rattle.lw_litmus.specs.WellFormed" in self.find_modules("lw_memory", "IsWellFormedOperation"))
 
-    def test_told(self) -> None:
+    def test_reported(self) -> None:
         """The report says what is imported, from where, and what is nowhere."""
         with tempfile.TemporaryDirectory(prefix="lw-names-") as folder:
             file = write_proof(folder, "f : IsWellFormedOperation\nf = nowhere_at_all")

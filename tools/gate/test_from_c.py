@@ -27,9 +27,9 @@ import from_c
 import given
 import plain
 from c.assembly import Assembly
-from c.compiler import demangle_assembly, list_compilers, read_version
+from c.compiler import demangle_assembly, list_compilers, find_version
 from c.condition import read_condition
-from c.convert import Converter
+from c.convert import ProgramConverter
 from c.layout import Layout
 from c.operands import Memory, Number, Other, Register, parse_operand, parse_sum
 from c.refused import Refused
@@ -109,7 +109,7 @@ def make_program(*threads: str, data: str = DATA, after: str = "") -> str:
 def answer_assembly(text: str, condition: str, tries: int = 1) -> Answer:
     """Returns the answer on assembly."""
     count = len(set(re.findall(r"^P\d(?=:|\s*=)", text, re.M))) + len(re.findall(r"^\.set P\d", text, re.M))
-    return make_answer(Converter(text, read_condition(condition, 0, len(condition)), "T", count, tries))
+    return make_answer(ProgramConverter(text, read_condition(condition, 0, len(condition)), "T", count, tries))
 
 
 def list_states(text: str, condition: str, tries: int = 1) -> list[str]:
@@ -118,7 +118,7 @@ def list_states(text: str, condition: str, tries: int = 1) -> list[str]:
 
 
 def find_cause(text: str, condition: str = "exists (x=0)", tries: int = 1) -> str:
-    """Returns why assembly is refused, or nothing."""
+    """Returns why assembly is refused; an empty text if it is not."""
     try:
         answer_assembly(text, condition, tries)
     except (Refused, given.Fault) as why:
@@ -178,18 +178,18 @@ class Reading(cases.Case):
     def test_lost_thread(self) -> None:
         """A thread that the assembly lacks is reported."""
         condition = read_condition("exists (x=0)", 0, 12)
-        self.assertIn("the source has 2 threads", find_refusal(lambda: Converter(make_program(STORES_X), condition, "T", 2, 1)))
+        self.assertIn("the source has 2 threads", find_refusal(lambda: ProgramConverter(make_program(STORES_X), condition, "T", 2, 1)))
 
     def test_first_words(self) -> None:
         """Bytes of data are put together, whatever they are written as."""
         data = '.data\n.align 8\nx:\n.asciz "\\002\\000a"\n.byte 1\n.short 2\ny:\n.long 5\n.quad x+4\n.zero 4\nz:\n'
         layout = Layout(Assembly(data))
         index = layout.addresses
-        self.assertEqual(0x61000200 >> 8 | 0, layout.read_initial_word(index["x"], 4))
-        self.assertEqual(0x00020100, layout.read_initial_word(index["x"] + 3, 4))
-        self.assertEqual(5 | (index["x"] + 4 & 0xFFFFFFFF) << 32, layout.read_initial_word(index["y"], 8))
-        self.assertEqual(0, layout.read_initial_word(index["y"] + 12, 4))
-        self.assertIn("which no variable has", find_refusal(lambda: layout.read_initial_word(index["y"] + 12, 8)))
+        self.assertEqual(0x61000200 >> 8 | 0, layout.find_initial_word(index["x"], 4))
+        self.assertEqual(0x00020100, layout.find_initial_word(index["x"] + 3, 4))
+        self.assertEqual(5 | (index["x"] + 4 & 0xFFFFFFFF) << 32, layout.find_initial_word(index["y"], 8))
+        self.assertEqual(0, layout.find_initial_word(index["y"] + 12, 4))
+        self.assertIn("which no variable has", find_refusal(lambda: layout.find_initial_word(index["y"] + 12, 8)))
 
     def test_unknown_data(self) -> None:
         """Data in a form that is not read is refused, in code too; debug data is skipped."""
@@ -236,7 +236,7 @@ class Reading(cases.Case):
 
 
 def find_refusal(work: Callable[..., object]) -> str:
-    """Returns the words of a refusal: the cause after the word `refused`, or nothing."""
+    """Returns the cause for which `work` refuses something, after the word `refused`; an empty text if it refuses nothing."""
     try:
         work()
     except (Refused, given.Fault) as why:
@@ -391,7 +391,7 @@ class Places(cases.Case):
         self.assertIn("aligned to 2 only", find_cause(make_program("movl $1, x+2(%rip)", "movl x+2(%rip), %eax", data=data)))
         self.assertEqual("", find_cause(make_program("movl $1, x+4(%rip)", "movl x+4(%rip), %eax", data=data)))
 
-    def test_own_word_is_told(self) -> None:
+    def test_own_word(self) -> None:
         """A global that only one thread uses is shown with all its bytes, and compared with them."""
         text = make_program("movq $-1, x(%rip)", "movl $1, y(%rip)")
         self.assertEqual([f"x={2**64 - 1}"], list_states(text, "exists (x=4294967295)"))
@@ -399,7 +399,7 @@ class Places(cases.Case):
         self.assertIn("Always", answer_assembly(text, "exists (x=-1)").report)
 
     def test_own_word_of_parts(self) -> None:
-        """So is one that is put together from what was loaded and what was stored."""
+        """A global that is put together from what was loaded and what was stored is shown with all its bytes."""
         text = make_program("movl x(%rip), %eax; movl %eax, y(%rip); movl $1, y+4(%rip); movq y(%rip), %rcx", STORES_X)
         self.assertEqual([f"y={2**32}", f"y={2**32 + 1}"], list_states(text, "exists (y=1)"))
 
@@ -588,7 +588,7 @@ class Sources(cases.Case):
 def is_known(compiler: str, folder: str) -> bool:
     """Returns whether the compiler is one that made the lists of a folder's README.md, of the same version."""
     name = compiler.split()[0]
-    return f"{name} {read_version(name)}" in program_lists.read_versions(folder)
+    return f"{name} {find_version(name)}" in program_lists.read_versions(folder)
 
 
 def read_verdicts(folder: str) -> dict[str, list[str]]:
@@ -614,7 +614,7 @@ class Compiled(cases.Case):
     def compare(self, folder: str, compiler: str, name: str, expected: object, actual: object) -> None:
         """Compares what a compiler makes of an example. If its version is not that of the lists, a difference is reported and no fault."""
         if expected != actual and not is_known(compiler, folder):
-            version = read_version(compiler.split()[0])
+            version = find_version(compiler.split()[0])
             OTHER_VERSIONS.append(f"examples/{folder}/{name} by {compiler}, version {version}: {actual}, and not {expected}")
         else:
             self.assertEqual(expected, actual)

@@ -35,7 +35,7 @@ from herd.convert import ConversionResult, convert
 from herd.rewrite import REWRITINGS
 from herd.together import make_merged_report
 from herd.widths import ACTIONS
-from herd.write import FORMS, write_herd_report, write_herd_text
+from herd.write import FORMS, format_herd_report, format_herd_text
 from interpreter import machines
 from shared import logs
 from shared.matches import require_match
@@ -54,7 +54,7 @@ def read_written_tests() -> list[tuple[str, str, str]]:
 
 
 def describe_test(name: str, options: str) -> str:
-    """Returns the observation of a test in herd's form, or the position and the cause of its refusal."""
+    """Returns the observation of a test in herd's form; if it is refused, the position and the cause."""
     text = read(f"tools/herd/tests/{name}.litmus")
     tries = int(options.split()[1]) if options else 0
     try:
@@ -96,7 +96,7 @@ class BothForms(cases.Case):
             expected = plain.format_canonical_text(program)
             for form in FORMS:
                 with self.subTest(name, form=form):
-                    back = convert(write_herd_text(program, form)).conversions
+                    back = convert(format_herd_text(program, form)).conversions
                     self.assertEqual([expected], [plain.format_canonical_text(it.test) for it in back])
 
     def test_own(self) -> None:
@@ -128,7 +128,7 @@ class Row:
         return word % 2**32
 
     def execute_instruction(self) -> str:
-        """Executes an instruction, and returns it."""
+        """Chooses a random instruction and executes it on the words of this object. Returns its text."""
         number = self.random.randint(0, 3)
         choices = (
             (f"ADD EAX,${number}", lambda: self.set_words(a=self.set_flag(self.a + number))),
@@ -167,7 +167,7 @@ class Row:
         return text
 
     def set_words(self, **words: int) -> None:
-        """Sets words, all at once."""
+        """Sets words by the names of their fields, all at once, since one may be computed from another."""
         for name, word in words.items():
             setattr(self, name, word % 2**32)
 
@@ -232,8 +232,8 @@ class OtherRows(cases.Case):
 # Single tests.
 
 
-def test_of(*cells: str, language: str = "X86_64", initial: str = "", condition: str = "exists (x=1)") -> str:
-    """Returns a test of one thread."""
+def make_test(*cells: str, language: str = "X86_64", initial: str = "", condition: str = "exists (x=1)") -> str:
+    """Returns the text of a test of one thread, with a cell in each row."""
     body = "".join(f" {cell} ;\n" for cell in cells)
     return f"{language} Cells\n{{ {initial} }}\n P0 ;\n{body}{condition}\n"
 
@@ -277,7 +277,7 @@ class Orders(cases.Case):
             (("mov %eax,x", "mov %ebx,%ecx"), f"4:6 {self.ATT}"),
             (("movl $2,x", "lock addl $0,(%rsp)"), f"4:7 {self.ATT}"),
         ):
-            text = test_of(*cells)
+            text = make_test(*cells)
             with self.subTest(cells):
                 self.assertEqual([note], list_order_notes(text))
                 self.assertTrue(any(it.startswith("MOV [x],") for it in list_cells(text)))
@@ -285,15 +285,15 @@ class Orders(cases.Case):
     def test_language(self) -> None:
         """Without a mark the language decides, and a note says so if the order matters; X86 with Intel's marks has no note."""
         no_mark = "no mark says the order of operands: {} is taken, the destination {}, as in herd's tests of {}"
-        of_registers = lambda language: test_of("mov eax,ebx", language=language, condition="exists (0:eax=1)")
+        of_registers = lambda language: make_test("mov eax,ebx", language=language, condition="exists (0:eax=1)")
         notes = [list_order_notes(of_registers(language)) for language in ("X86", "X86_64")]
         expected = [["4:2 " + no_mark.format("Intel's", "first", "X86")], ["4:2 " + no_mark.format("AT&T's", "last", "X86_64")]]
         self.assertEqual(expected, notes)
         self.assertEqual([["MOV EAX,EBX"], ["MOV EBX,EAX"]], [list_cells(of_registers(language)) for language in ("X86", "X86_64")])
-        of_one = test_of("lock incl [z]", "incl (x)", "xchg (x),eax")
-        for text in (test_of("MOV [x],$1", language="X86"), test_of("xchg eax,ebx"), test_of("je L", "L:"), of_one):
+        of_one = make_test("lock incl [z]", "incl (x)", "xchg (x),eax")
+        for text in (make_test("MOV [x],$1", language="X86"), make_test("xchg eax,ebx"), make_test("je L", "L:"), of_one):
             self.assertEqual([], list_order_notes(text))
-        self.assertEqual([f"4:7 {self.ATT}"], list_order_notes(test_of("movl %eax,(x)", language="X86")))
+        self.assertEqual([f"4:7 {self.ATT}"], list_order_notes(make_test("movl %eax,(x)", language="X86")))
 
     def test_contradictions(self) -> None:
         """Marks that contradict one another are refused, with both places; an order that is named is taken."""
@@ -308,11 +308,11 @@ class Orders(cases.Case):
         ):
             for language in ("X86", "X86_64"):
                 with self.subTest(cells, language=language):
-                    refusal = find_refusal(test_of(*cells, language=language))
+                    refusal = find_refusal(make_test(*cells, language=language))
                     self.assertTrue(refusal.startswith(second))
                     self.assertIn(first or "order of operands", refusal)
                     self.assertIn("--order intel or --order att", refusal)
-        mixed = test_of("mov [x],eax", "mov eax,(x)")
+        mixed = make_test("mov [x],eax", "mov eax,(x)")
         self.assertEqual(["MOV [x],EAX", "MOV EAX,[x]"], list_cells(mixed, False))
         self.assertEqual(["MOV EAX,[x]", "MOV [x],EAX"], list_cells(mixed, True))
 
@@ -324,7 +324,7 @@ class Orders(cases.Case):
     def test_numbers_of_att(self) -> None:
         """In AT&T's order a number without a `$` is an address."""
         message = "4:7: in AT&T's order a number without '$' is the address of a word: write $1 for the number"
-        self.assertEqual(message, find_refusal(test_of("movl 1,%eax")))
+        self.assertEqual(message, find_refusal(make_test("movl 1,%eax")))
 
 
 def widen_number(statement: plain.Statement) -> plain.Statement:
@@ -358,7 +358,7 @@ class Words64(cases.Case):
             (("cmpq $0xffffffff,%rax",), "", f"4:2: no instruction of 64 bits has the number 4294967295: it would extend a sign, {fits}"),
         ):
             with self.subTest(cells):
-                self.assertEqual(message, find_refusal(test_of(*cells, initial=initial)))
+                self.assertEqual(message, find_refusal(make_test(*cells, initial=initial)))
 
     def test_between_threads(self) -> None:
         """A word that grows from thread to thread is refused if it may grow too large, and taken if it may not."""
@@ -373,8 +373,8 @@ class Words64(cases.Case):
         for cell in ("lock decq (x)", "decq (x)", "lock addq $-1,(x)"):
             text = f"X86_64 Dec\n{{{{ x={{}}; }}}}\n P0 | P1 ;\n {cell} | {cell} ;\nexists (x=0)\n"
             self.assertEqual([True, False], ["may be negative" in (find_refusal(text.format(word)) or "") for word in (1, 2)])
-        self.assertEqual("", find_refusal(test_of("movq (x),%rax", "decq %rax", "movq %rax,(x)", initial="x=1;")))
-        self.assertEqual("", find_refusal(test_of("L: decq %rcx", "jne L", initial="0:rcx=2;"), tries=2))
+        self.assertEqual("", find_refusal(make_test("movq (x),%rax", "decq %rax", "movq %rax,(x)", initial="x=1;")))
+        self.assertEqual("", find_refusal(make_test("L: decq %rcx", "jne L", initial="0:rcx=2;"), tries=2))
 
     def test_random_threads(self) -> None:
         """A test of two threads that is taken has the same states if the words of the machine have 64 bits."""
@@ -402,7 +402,7 @@ class Words64(cases.Case):
             (("lock xaddq %rax,(x)",), "0:rax=1; x=4;", "forall (0:rax=4 /\\ x=5)"),
         ):
             with self.subTest(cells):
-                report = plain.make_report(convert(test_of(*cells, initial=initial, condition=condition)).conversions[0].test)
+                report = plain.make_report(convert(make_test(*cells, initial=initial, condition=condition)).conversions[0].test)
                 self.assertIn("\nOk\n", report)
 
     def test_actions(self) -> None:
@@ -413,9 +413,9 @@ class Words64(cases.Case):
         """A negative number is not compared with 64 bits that may have the same lower half."""
         question = "exists (0:rax=-1)"
         message = "a negative number is compared with 64 bits: write it modulo 2 to the 32, or the register by its name of 32 bits"
-        self.assertEqual(f"5:15: {message}", find_refusal(test_of("movl $-1,%eax", condition=question)))
-        self.assertEqual("", find_refusal(test_of("movl $1,%eax", condition=question)))
-        self.assertEqual("4:2: it extends the sign of -1 to 64 bits, and a word of lw has 32 bits", find_refusal(test_of("movq $-1,(x)")))
+        self.assertEqual(f"5:15: {message}", find_refusal(make_test("movl $-1,%eax", condition=question)))
+        self.assertEqual("", find_refusal(make_test("movl $1,%eax", condition=question)))
+        self.assertEqual("4:2: it extends the sign of -1 to 64 bits, and a word of lw has 32 bits", find_refusal(make_test("movq $-1,(x)")))
 
 
 class Causes(cases.Case):
@@ -450,46 +450,46 @@ class Causes(cases.Case):
             ("subl %ebx,%eax", "a difference of two words"),
         ):
             with self.subTest(cell):
-                self.assertIn(cause, find_refusal(test_of(cell, "L:")))
+                self.assertIn(cause, find_refusal(make_test(cell, "L:")))
 
     def test_relative(self) -> None:
         """`x[rip]` is the location x, and `x[rip+4]` is none."""
-        self.assertEqual(["MOV EAX,[x]", "MOV [y],$1"], list_cells(test_of("mov eax,DWORD PTR x[rip]", "mov y[rip],1")))
-        self.assertIn("the address is computed", find_refusal(test_of("mov eax,x[rip+4]")))
-        self.assertIn("an array is not converted", find_refusal(test_of("mov eax,x[rbx]")))
-        self.assertIn("takes off numbers only", find_refusal(test_of("lea eax,[ebx-ecx]")))
-        self.assertEqual(["MOV [x],$1"], list_cells(test_of("lea rbx,x[rip]", "mov rcx,OFFSET FLAT:x", "mov DWORD PTR [rcx],1")))
+        self.assertEqual(["MOV EAX,[x]", "MOV [y],$1"], list_cells(make_test("mov eax,DWORD PTR x[rip]", "mov y[rip],1")))
+        self.assertIn("the address is computed", find_refusal(make_test("mov eax,x[rip+4]")))
+        self.assertIn("an array is not converted", find_refusal(make_test("mov eax,x[rbx]")))
+        self.assertIn("takes off numbers only", find_refusal(make_test("lea eax,[ebx-ecx]")))
+        self.assertEqual(["MOV [x],$1"], list_cells(make_test("lea rbx,x[rip]", "mov rcx,OFFSET FLAT:x", "mov DWORD PTR [rcx],1")))
 
     def test_registers_without_thread(self) -> None:
         """A register without a thread is no location."""
         message = "'EAX' is a register: write of which thread, as 0:EAX"
-        self.assertEqual(f"5:9: {message}", find_refusal(test_of("mov [x],1", condition="exists (EAX=1)")))
-        self.assertEqual(f"2:3: {message}", find_refusal(test_of("mov [x],1", initial="EAX=1;")))
+        self.assertEqual(f"5:9: {message}", find_refusal(make_test("mov [x],1", condition="exists (EAX=1)")))
+        self.assertEqual(f"2:3: {message}", find_refusal(make_test("mov [x],1", initial="EAX=1;")))
 
     def test_two_initial_values(self) -> None:
         """If a site has two values the last one is taken, with a note; an entry that only has a type has none."""
         note = "'x' has two values in the initial block: the last one is taken"
         for initial, word, notes in (("x=1; x=2;", 2, [note]), ("x=-1; x=2;", 2, [note]), ("x=5; int x;", 5, []), ("int x; x=5;", 5, [])):
-            conversion = convert(test_of("mov [x],eax", initial=initial))
+            conversion = convert(make_test("mov [x],eax", initial=initial))
             self.assertEqual(((word,), notes), (conversion.conversions[0].test.words, [it for _, it in conversion.notes if "two values" in it]))
-        self.assertEqual(["MOV [x],$2"], list_cells(test_of("mov DWORD PTR [rbx],2", initial="0:rbx=1; 0:rbx=x;")))
+        self.assertEqual(["MOV [x],$2"], list_cells(make_test("mov DWORD PTR [rbx],2", initial="0:rbx=1; 0:rbx=x;")))
 
     def test_byte_order_marks(self) -> None:
         """A byte order mark is reported as one."""
         self.assertEqual("1:1: the text is a byte order mark (U+FEFF) and nothing else", find_refusal("\ufeff"))
         message = "1:1: the text begins with a byte order mark (U+FEFF): save it without one"
-        self.assertEqual(message, find_refusal("\ufeff" + test_of("mov [x],1")))
+        self.assertEqual(message, find_refusal("\ufeff" + make_test("mov [x],1")))
 
     def test_unset_flag(self) -> None:
         """A note says where the flag is read before an instruction sets it."""
         says = "the zero flag is read here before an instruction has set it: it is taken as not set at first"
         for cells, notes in ((("je L", "movl $1,(x)", "L:"), [says]), (("cmpl $0,%eax", "je L", "movl $1,(x)", "L:"), [])):
-            self.assertEqual(notes, [it for _, it in convert(test_of(*cells)).notes if "zero flag" in it])
+            self.assertEqual(notes, [it for _, it in convert(make_test(*cells)).notes if "zero flag" in it])
 
     def test_name_of_mark(self) -> None:
         """A location with the name that a mark would have is still itself."""
         registers = [f"movl %eax,%{name}" for name in ("ebx", "ecx", "edx", "esi", "edi")]
-        text = test_of("L: movl (done0),%eax", *registers, "cmpl $5,%eax", "jne L", initial="done0=5;", condition="forall (done0=5)")
+        text = make_test("L: movl (done0),%eax", *registers, "cmpl $5,%eax", "jne L", initial="done0=5;", condition="forall (done0=5)")
         test = convert(text, tries=1).conversions[0].test
         self.assertEqual((["done0", "done0_"], (5, 0)), (test.locations, test.words))
         self.assertIn("Observation Cells Always 1 0", plain.make_report(test))
@@ -504,7 +504,7 @@ class Reports(cases.Case):
     def test_lines(self) -> None:
         """Its lines are the test, the states, whether the question holds, and the observation."""
         report = plain.make_report(plain.read_test(read("examples/SB-x86.litmus")))
-        lines = write_herd_report(report, "X86_64").splitlines()
+        lines = format_herd_report(report, "X86_64").splitlines()
         self.assertEqual(["Test SB-x86 Allowed", "States 4", "0:rax=0; 1:rax=0;"], lines[:3])
         self.assertEqual(["Ok", "Witnesses", "Positive: 1 Negative: 3"], lines[6:9])
         self.assertEqual(["Observation SB-x86 Sometimes 1 3", "Time SB-x86 0.00", ""], lines[10:])
@@ -560,8 +560,8 @@ class Files(cases.Case):
         with tempfile.TemporaryDirectory(prefix="lw-herd-") as folder:
             into = os.path.join(folder, "into")
             os.mkdir(into)
-            first = self.write_file(folder, "first", test_of("mov [x],1", language="X86"))
-            second = self.write_file(folder, "second", test_of("mov [x],2", language="X86"))
+            first = self.write_file(folder, "first", make_test("mov [x],1", language="X86"))
+            second = self.write_file(folder, "second", make_test("mov [x],2", language="X86"))
             out, err, status = run(["from_herd.py", "--into", into, first, second])
             path = os.path.join(into, "Cells.litmus")
             expected = f"{second}:1:5: 'Cells' of {second} and a test of {first} have one file name, {path}: "
@@ -639,7 +639,7 @@ class Logs(cases.Case):
         """A location with another name in lw is compared by its own."""
         log = "Test Names Allowed\nStates 1\n0:r15=1; if=1;\nOk\n"
         with tempfile.TemporaryDirectory(prefix="lw-herd-") as folder:
-            path, text = os.path.join(folder, "log"), test_of("movl $1,(if)", "movl (if),%r15d", condition="exists (0:r15=1 /\\ if=1)")
+            path, text = os.path.join(folder, "log"), make_test("movl $1,(if)", "movl (if),%r15d", condition="exists (0:r15=1 /\\ if=1)")
             with open(path, "w", encoding="utf-8") as file:
                 file.write(log)
             with open(os.path.join(folder, "Names.litmus"), "w", encoding="utf-8") as file:
@@ -722,7 +722,7 @@ class Logs(cases.Case):
         with tempfile.TemporaryDirectory(prefix="lw-herd-") as folder:
             for number in (1, 2):
                 with open(os.path.join(folder, f"{number}.litmus"), "w", encoding="utf-8") as file:
-                    file.write(test_of(f"MOV [x],${number}", language="X86"))
+                    file.write(make_test(f"MOV [x],${number}", language="X86"))
             path = os.path.join(folder, "log")
             with open(path, "w", encoding="utf-8") as file:
                 file.write("Test Cells Allowed\nStates 1\nx=1;\nOk\n")
@@ -732,9 +732,9 @@ class Logs(cases.Case):
 
     def test_cut_off(self) -> None:
         """A log that is cut off has the states that it has, and the next test its own."""
-        states = logs.read_states(["Test A Allowed", "Histogram (3 states)", "1 :>x=1;", "Test B Allowed", "States 1", "y=2;", "Ok"])
+        states = logs.parse_states(["Test A Allowed", "Histogram (3 states)", "1 :>x=1;", "Test B Allowed", "States 1", "y=2;", "Ok"])
         self.assertEqual({"A": {frozenset({"x=1"})}, "B": {frozenset({"y=2"})}}, states)
-        self.assertEqual({"A": {frozenset()}}, logs.read_states(["Test A Allowed", "States 1", "", "Ok"]))
+        self.assertEqual({"A": {frozenset()}}, logs.parse_states(["Test A Allowed", "States 1", "", "Ok"]))
 
     def test_nothing_compared(self) -> None:
         """A log without any of the tests is no agreement."""

@@ -332,7 +332,9 @@ class Processors(cases.Case):
         self.assertEqual(((0, 1, 2, 3), {it: str(it) for it in range(4)}, {it: 0 for it in range(4)}, frozenset(), 0.0), tuple(bare))
 
     def test_placements(self) -> None:
-        """Threads come on siblings and apart, on one node and on two, each on a processor of its own."""
+        """Threads are placed on siblings and apart, on one node and on two, each on a processor of its own; a machine without siblings and nodes has one
+        arrangement; with too few processors nothing is pinned.
+        """
         machine = processors.Processors(tuple(range(8)), {it: f"{it % 4},{it % 4 + 4}" for it in range(8)}, {it: it % 4 // 2 for it in range(8)})
         placements = processors.make_placements(machine, 2, Random(1))
         self.assertEqual([(processors.PLACEMENTS, 2)], sorted({(len(placements), len(set(it))) for it in placements}))
@@ -340,7 +342,10 @@ class Processors(cases.Case):
         nodes = {len({machine.nodes[cpu] for cpu in it}) for it in placements}
         self.assertEqual(({1, 2}, {1, 2}), (cores, nodes))
         four = processors.make_placements(machine, 4, Random(1))
-        self.assertEqual({2, 3, 4}, {len({machine.cores[cpu] for cpu in it}) for it in four} | {3})
+        cores = {len({machine.cores[cpu] for cpu in it}) for it in four}
+        # Three cores occur only by chance.
+        self.assertLessEqual({2, 4}, cores)
+        self.assertLessEqual(cores, {2, 3, 4})
         flat = processors.Processors((0, 1, 5), {0: "0", 1: "1", 5: "5"}, {0: 0, 1: 0, 5: 0})
         self.assertEqual(1, len(processors.list_arrangements(flat)))
         self.assertEqual({(0, 1, 5)}, {tuple(sorted(it)) for it in processors.make_placements(flat, 3, Random(1))})
@@ -399,12 +404,12 @@ class Logs(cases.Case):
     def test_read(self) -> None:
         """tools/shared/logs.py reads the states of a log, and of several in sequence, and nothing else."""
         expected = {"SB-x86": {frozenset({f"0:EAX={a}", f"1:EAX={b}"}) for a, b in ((0, 0), (0, 1), (1, 0))}}
-        self.assertEqual(expected, readers.read_states(LOG.splitlines()))
-        self.assertEqual({**expected, "B": expected["SB-x86"]}, readers.read_states((LOG + LOG.replace("SB-x86", "B")).splitlines()))
+        self.assertEqual(expected, readers.parse_states(LOG.splitlines()))
+        self.assertEqual({**expected, "B": expected["SB-x86"]}, readers.parse_states((LOG + LOG.replace("SB-x86", "B")).splitlines()))
         result = make_result({(1, 1): 1})
         nothing = subjects.make_subject("X86 N\n{}\n P0 ;\n MOV [x],$1 ;\nexists (true)\n", everything=False)
         log = summary.format_result(result._replace(subject=nothing, listed=result.listed._replace(states=[()]), seen=make_seen({(): 3})))
-        self.assertEqual({"N": {frozenset()}}, readers.read_states(log.splitlines()))
+        self.assertEqual({"N": {frozenset()}}, readers.parse_states(log.splitlines()))
 
     def test_verdicts(self) -> None:
         """The verdict is on what was seen, by the quantifier."""

@@ -10,7 +10,7 @@ import sys
 
 from gate import cases
 from gate.check_names import (
-    Names, find_crate_path_faults, find_linked_name_faults, find_logic_faults, find_path_faults, find_table_faults, parse_crate_rows,
+    RELATION, Names, find_crate_path_faults, find_linked_name_faults, find_logic_faults, find_path_faults, find_table_faults, parse_crate_rows,
 )
 from gate.check_trusted import PAGE, find_differences, read_text
 
@@ -122,6 +122,12 @@ class Paths(cases.Case):
                 faults = list(find_crate_path_faults("docs/X.md", text, crates))
                 self.assertEqual([f"docs/X.md names {it}, which is not there" for it in expected], faults)
 
+    def test_relation_of_proofs(self) -> None:
+        """A relation that only proofs define is none for a page on contracts, even if it has arguments there."""
+        names = Names()
+        self.assertEqual((True, False), ("IsStatesReport" in names.defined, "IsDone" in names.defined))
+        self.assertEqual(["IsDone", "HasRows"], RELATION.findall("IsDone States, HasRows t and AIsB"))
+
     def test_path_with_sign(self) -> None:
         """A path with a `+` is checked too."""
         names = Names()
@@ -207,7 +213,7 @@ class Logic(cases.Case):
     """The logic that README.md names."""
 
     def test_logic(self) -> None:
-        """It is that of `rt version`, whatever the kit is called; without an `rt` it is one."""
+        """README.md names the logic of `rt version`, whatever the kit is called; without an rt it names some logic."""
         for page, printed, fault_count in (
             (f"proved with\n\n    {LOGIC}\n", f"rattle-kit-13f {LOGIC}\n", 0),
             (f"proved with {LOGIC}", "", 0),

@@ -257,7 +257,7 @@ class Controls(cases.Case):
                 self.assertTrue(self.shows_in_some_run(lambda result, state=state: result.list_not_listed() == [state], read(f"examples/{name}.litmus"), knobs=past))
 
     def test_plain(self) -> None:
-        """With plain stores they are not."""
+        """With plain stores the forbidden states of 2+2W and of MP are not seen."""
         for name in ("2+2W-x86", "MP-x86"):
             result = self.run_test(read(f"examples/{name}.litmus"), limits=Limits(1.0))
             with self.subTest(name):
@@ -531,7 +531,7 @@ class Surroundings(cases.Case):
         self.assertTrue(runs.list_missing(seen, plan))
 
     def test_traced(self) -> None:
-        """So it is under a tracer."""
+        """Under a tracer there are no halts and no directed schedules; the run is not ended."""
         program, plan = self.make_program("MP-x86")
         libc = ctypes.CDLL(None, use_errno=True)
         traced = subprocess.Popen(

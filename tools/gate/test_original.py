@@ -68,7 +68,7 @@ class Examples(cases.Case):
     """Tests that lw reads."""
 
     def test_same(self) -> None:
-        """They have the same states, and the same fences that are enough or help, as lw reads them."""
+        """Converted examples have the same states, and the same fences that are enough or help, as lw reads them."""
         for name, text in examples():
             test = plain.read_test(text) if name.endswith("-x86") else None
             if test is None:

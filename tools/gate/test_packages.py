@@ -141,7 +141,7 @@ class Packed(cases.Case):
 
     @classmethod
     def setUpClass(cls) -> None:
-        """Gathers the files that are packed."""
+        """Gathers the files that are packed. Raises SkipTest if a part is not built."""
         if describe_missing():
             raise unittest.SkipTest(str(describe_missing()))
         room = tempfile.TemporaryDirectory(prefix="lw-packed-")
@@ -183,7 +183,7 @@ class Origins(cases.Case):
         for sum_of_gate, gate in (("the sum of others", pack.NO_GATE), (None, pack.NO_GATE), ("the sum of these", "5 passed, 0 failed")):
             ended = [sum_of_gate, "5 passed, 0 failed"] if sum_of_gate else []
             read_lines = lambda path, ended=ended: ended if path.endswith("/gate") else made_of
-            with mock.patch.multiple(pack, read_commit=lambda: ORIGIN.commit, capture_lines=lambda *_: ["5"], read_lines=read_lines):
+            with mock.patch.multiple(pack, find_commit=lambda: ORIGIN.commit, capture_lines=lambda *_: ["5"], read_lines=read_lines):
                 self.assertEqual((ORIGIN.commit, 5, "5", gate), tuple(tree.read_origin()))
 
     def test_refusals(self) -> None:
@@ -193,7 +193,7 @@ class Origins(cases.Case):
                 errors = io.StringIO()
                 with tempfile.TemporaryDirectory() as folder, contextlib.redirect_stderr(errors):
                     argv = ["tool", *words.replace("FOLDER", os.path.join(folder, "folder")).split()]
-                    with mock.patch.object(sys, "argv", argv), mock.patch.object(pack, "read_commit", side_effect=pack.NoPack(why)):
+                    with mock.patch.object(sys, "argv", argv), mock.patch.object(pack, "find_commit", side_effect=pack.NoPack(why)):
                         self.assertEqual((status, []), (find_status(tool.main), os.listdir(folder)))
                 self.assertIn(why or "usage: python3 tools/make_", errors.getvalue())
 
@@ -333,7 +333,7 @@ class Debian(Packed):
 
     @classmethod
     def setUpClass(cls) -> None:
-        """Makes a package, and unpacks it."""
+        """Makes a package, and unpacks it. Raises SkipTest without dpkg-deb."""
         super().setUpClass()
         if not shutil.which("dpkg-deb"):
             raise unittest.SkipTest("dpkg-deb is missing")
@@ -429,8 +429,9 @@ class Debian(Packed):
         self.assertIn(".IP \\(bu 2\none\ngoes on\n.IP \\(bu 2\ntwo\n", page)
 
     def test_completion(self) -> None:
-        """It has the completions of three shells, where Debian has such files, and each command's name leads to them (tools/gate/test_completion.py
-        tries them)."""
+        """The package has the completions of three shells, where Debian has such files, and each command's name leads to them
+        (tools/gate/test_completion.py tries them).
+        """
         commands = sorted(os.listdir(f"{self.unpacked_folder}/usr/bin"))
         options = {tree.name_command(it): completion.list_options(self.files[tree.find_tool(it)].decode()) for it in tree.TOOLS}
         for name, text in completion.make_files(options).items():

@@ -5,7 +5,7 @@
 - Each cause for which tools/plain.py takes a text for no test, with its line FILE:LINE:COLUMN.
 - plain.py, by each of its commands, fences.py, replay_state.py and picture.py: for a file by its name, by its name with line ends of
   Windows, and as standard input, they print the same; and how they report a missing file, a fault and other words.
-- What they print is UTF-8 with line ends of one byte, whatever the console has.
+- What they print is UTF-8 with line ends of one byte, whatever the console has. If standard input is a terminal, they say that they read it.
 
 Nothing here needs the program, or more than Python 3.8, on any system; of picture.py, which needs the program, only refusals before
 that are tested. tools/check_documents.py calls all this (tools/gate/cases.py).
@@ -13,6 +13,7 @@ that are tested. tools/check_documents.py calls all this (tools/gate/cases.py).
 from __future__ import annotations
 
 import errno
+import io
 import os
 import re
 import subprocess
@@ -317,6 +318,17 @@ def format_arguments(words: list[str]) -> str:
 def make_refused_output(text: str) -> tuple[bytes, bytes, int]:
     """Returns the output of a tool that reports one line, and has no answer."""
     return b"", f"{text}\n".encode(), 1
+
+
+class Terminals(cases.Case):
+    """Standard input that is a terminal."""
+
+    def test_notice(self) -> None:
+        """A line on standard error says that a terminal is read, and what ends that; of a pipe none does."""
+        for is_terminal, notice in ((True, f"reading from the terminal, up to {given.END_KEY}; a file is given by its name or after <\n"), (False, "")):
+            stream = mock.Mock(buffer=io.BytesIO(b"SRC A"), isatty=lambda is_terminal=is_terminal: is_terminal)
+            with self.subTest(is_terminal=is_terminal), mock.patch.object(sys, "stdin", stream), mock.patch.object(sys, "stderr", io.StringIO()) as shown:
+                self.assertEqual((b"SRC A", notice), (given.read_bytes("-"), shown.getvalue()))
 
 
 class InRoom(cases.Case):

@@ -136,7 +136,7 @@ class Answers(cases.Case):
     """The values that are read from answers, here those of tools/plain.py."""
 
     def is_refused(self, read_answer: Callable[[bytes], object], text: str) -> bool:
-        """Returns whether a text is no answer."""
+        """Returns whether `read_answer` refuses a text as an answer."""
         try:
             read_answer(text.encode())
         except ValueError:
@@ -160,7 +160,7 @@ class Answers(cases.Case):
                     self.assertTrue(changed != report and self.is_refused(lw.report_of, changed))
 
     def test_schedules(self) -> None:
-        """So is a list of schedules."""
+        """A list of schedules is read as it is, and none that is changed in a place."""
         for name in ("SB", "SB-x86", "MP", "IRIW-x86"):
             listed = plain.format_schedules(plain.read_test(read(f"examples/{name}.litmus")))
             lines = [line for it in lw.schedules_of(listed.encode()) for line in (str(it.state), f" {it.words}")]
@@ -180,7 +180,7 @@ class Calls(cases.Case):
 
     @classmethod
     def setUpClass(cls) -> None:
-        """Compiles the stand-in."""
+        """Compiles the stand-in. Raises SkipTest without cc."""
         if not shutil.which("cc"):
             raise unittest.SkipTest("cc is missing")
         cls.room = tempfile.TemporaryDirectory(prefix="lw-")
@@ -211,7 +211,7 @@ class Calls(cases.Case):
                 self.assertIn(message, says)
 
     def test_memory(self) -> None:
-        """So does memory that is no number of bytes."""
+        """Memory that is no number of bytes raises ValueError, and the message says what is wanted."""
         for memory in (-1, -20, 1.5, "1"):
             with self.subTest(memory):
                 error = ValueError, f"memory has to be a number of bytes, and not {memory!r}"

@@ -153,7 +153,7 @@ class Pages(cases.Case):
                 self.assertEqual(state, parse_in_python(page.replace("\n", "\r\n")))
 
     def test_refused(self) -> None:
-        """It refuses texts that no replay prints."""
+        """tools/replay_state.py refuses texts that no replay prints."""
         for page in list_wrong_pages():
             with self.subTest(page):
                 self.assertEqual(None, parse_in_python(page))

@@ -84,7 +84,7 @@ HAS_GCC = shutil.which("gcc") is not None
 
 
 def fail_conversion(_choices: object, _job: object) -> NoReturn:
-    """Fails as a conversion with a fault would."""
+    """Raises KeyError, as a conversion with a fault would."""
     raise KeyError("register")
 
 
@@ -451,7 +451,7 @@ class Answers(cases.Case):
     def test_addresses(self) -> None:
         """States of programs are compared by their addresses, and by the bytes after the start of a global, too."""
         states = ["0:p=&x; x+8=1; y+8=1;", "0:p=&y; x+8=1; y+8=1;", "0:p=&y; x+8=1; y+8=2;", "0:p=0; x+8=2; y+8=1;"]
-        states_read = logs.read_states(["Test A Allowed", "States 4", *states, "Ok"])["A"]
+        states_read = logs.parse_states(["Test A Allowed", "States 4", *states, "Ok"])["A"]
         self.assertEqual({frozenset(line.rstrip(";").split("; ")) for line in states}, states_read)
 
     def test_two_names(self) -> None:

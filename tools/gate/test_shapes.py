@@ -73,7 +73,7 @@ class Families(cases.Case):
                 self.assertEqual(name, make_name(parse_shape(cycle).edges))
 
     def test_threads(self) -> None:
-        """It has the row's threads."""
+        """The shape of a cycle has the row's threads."""
         for name, threads, cycle, *_ in read_rows():
             with self.subTest(name):
                 self.assertEqual(sorted(threads.split(", ")), sorted(format_threads(parse_shape(cycle)).split(", ")))
@@ -85,7 +85,7 @@ class Families(cases.Case):
                 self.assertEqual(tuple(words), plain.find_verdicts(plain.read_test(format_test(parse_shape(cycle), name, SRC))))
 
     def test_reports(self) -> None:
-        """It has as many states as the example, in both languages, and as many with its outcome."""
+        """The test of a cycle has as many states as the example, in both languages, and as many with its outcome."""
         for name, _, cycle, *_ in read_rows():
             for language, form in ((SRC, name), (X86, f"{name}-x86")):
                 if os.path.exists(os.path.join(HOME, "examples", f"{form}.litmus")):
