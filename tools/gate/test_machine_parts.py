@@ -463,6 +463,8 @@ class Logs(cases.Case):
         self.assertEqual(["lw, proved complete", "beyond, proved complete", *not_proved], makers)
         makers = [subjects.StateList([], answers.Maker.PROGRAM, it).describe_maker() for it in (answers.Maker.PROGRAM, answers.Maker.PLAIN)]
         self.assertEqual(["lw, of the test that lw compiled, proved complete", "lw, of the test that tools/plain.py compiled, not proved"], makers)
+        of_tests = subjects.StateList([], answers.Maker.PROGRAM, of_tests="of the 2 tests that tools/from_c.py makes").describe_maker()
+        self.assertEqual("lw, of the 2 tests that tools/from_c.py makes (each list: proved complete)", of_tests)
 
     def test_json(self) -> None:
         """The JSON of a run has its states with their counts, the states that were not seen, and the notes."""

@@ -53,10 +53,13 @@ class StateList(NamedTuple):
     of_tests: str = ""
 
     def describe_maker(self) -> str:
-        """Returns the maker of the list, and whether the list is proved."""
+        """Returns the maker of the list, and whether the list is proved, or of a program the lists of its tests."""
         is_proved = answers.are_proved(it for it in (self.by, self.compiled_by) if it)
-        compiled = f", of the test that {self.compiled_by.value} compiled" if self.compiled_by else self.of_tests and f", {self.of_tests}"
-        return f"{self.by.value}{compiled}, {'proved complete' if is_proved else 'not proved'}"
+        words = "proved complete" if is_proved else "not proved"
+        if self.of_tests:
+            return f"{self.by.value}, {self.of_tests} (each list: {words})"
+        compiled = f", of the test that {self.compiled_by.value} compiled" if self.compiled_by else ""
+        return f"{self.by.value}{compiled}, {words}"
 
 
 def make_subject(text: str, everything: bool) -> Subject:
