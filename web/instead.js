@@ -119,7 +119,7 @@ export function explainSpareFence(place) {
     place.proposeChange(" ".repeat(token.length), index, index + token.length);
     place.change.title = `Take out ${token}`;
   }
-  return `${token} orders nothing that x86-TSO does not order already: leave it out. Of the fences only MFENCE holds back a later load.`;
+  return `${token} orders nothing that x86-TSO does not order already: leave it out. Of the fences only MFENCE holds back a later load until earlier stores are in memory.`;
 }
 
 /** Returns what does the same as an instruction, one after another, with a free register; none if it is not known, or no register is free. */

@@ -66,7 +66,7 @@ const SENTENCES = {
   heading: "An x86 test begins with `X86`.",
   first: SAID_OF_ALL.SRC,
   order: "This is AT&T's order, with the destination last: lw has the destination first.",
-  c: "This is C. As x86 code a store is `MOV [x],$1`, a load `MOV EAX,[x]`, and a fence `MFENCE`.",
+  c: "This is C. As x86 code a plain or relaxed store is `MOV [x],$1` (a `seq_cst` store is an `XCHG`), a load `MOV EAX,[x]`, and a fence `MFENCE`.",
   register: "Registers are `EAX` to `EDX`, `ESI` and `EDI`, of 32 bits.",
   source: "Registers are `r0` to `r5`.",
   percent: "A register has no `%` before it.",

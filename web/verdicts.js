@@ -36,8 +36,8 @@ export function describeReport(language, report) {
 }
 
 /**
- * Returns the verdict: its kind (`can`, `yes`, `no`, or `wrong` if the test forbids what is allowed), the word for it, and the sentence on what runs do.
- * The condition may be put into words.
+ * Returns the verdict: its kind (`can`; `yes` if the test claims it; `no`; or `wrong` if the test forbids what is allowed), the word for it, and the
+ * sentence on what runs do. The condition may be put into words.
  * @param {string} language
  * @param {Report} report
  * @param {string | null} [condition]
@@ -52,7 +52,7 @@ export function describeVerdict(language, { asked, verdict, positive }, conditio
   if (asked === "Required" && isOk) return ["yes", "Always.", `In every run${runs} ${words}.`];
   if (asked === "Required" && !positive) return ["no", "Never.", `${none.slice(0, -1)}; the test requires that of every run.`];
   if (asked === "Required") return ["no", "Not always.", `Not in every run${runs} ${words}.`];
-  if (asked === "Forbidden") return isOk ? ["no", "Forbidden.", none] : ["wrong", "Allowed.", `${some.slice(0, -1)}; the test forbids that.`];
+  if (asked === "Forbidden") return isOk ? ["yes", "Forbidden.", none] : ["wrong", "Allowed.", `${some.slice(0, -1)}; the test forbids that.`];
   return isOk ? ["can", "Allowed.", some] : ["no", "Forbidden.", none];
 }
 

@@ -116,6 +116,6 @@ def describe_verdict(test: Test, positive: int, count: int) -> tuple[str, str, s
             return "yes", "Always.", f"In every run{runs} {words}."
         return ("no", "Not always.", f"Not in every run{runs} {words}.") if positive else ("no", "Never.", f"{none}; the test requires that of every run.")
     if not positive:
-        return "no", "Forbidden.", f"{none}."
+        return "yes" if test.quantifier == "~exists" else "no", "Forbidden.", f"{none}."
     some = f"There is a run{runs} in which {words}"
     return ("wrong", "Allowed.", f"{some}; the test forbids that.") if test.quantifier == "~exists" else ("can", "Allowed.", f"{some}.")
