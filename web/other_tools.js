@@ -1,6 +1,7 @@
 // Finds what a text has from other tools and languages: their first words, comments, types of initial values; and what it lacks before its rows. Not
 // proved.
 
+import { rewriteProgram } from "./c_program.js";
 import { isAllIn } from "./other_language.js";
 import { readTest } from "./tests.js";
 import { blankComments } from "./tokens.js";
@@ -9,9 +10,17 @@ const HERE = "Here only `SRC` and `X86` tests are read.";
 const OF_HERD = `${HERE} \`tools/from_herd.py\` converts tests of herd for X86 and X86_64.`;
 const OF_OTHERS = `${HERE} They are of x86 processors, and no tool of lw converts tests of others.`;
 const OTHERS = /^(?:AArch64|ARM|PPC|RISCV|MIPS)$/i;
-const C = /^\s*(?:C\s|#\s*(?:include|define)\b|\/\/[^\n]*\n\s*#|(?:extern\s+|static\s+|volatile\s+|_Atomic\s+)*(?:atomic_\w+|std::\w+|int|void|uint\d+_t)\s)/;
+// The blanks and comments before a program in C, and how it begins.
+const C_COMMENTS = /^(?:\s|\/\/.*|\/\*[^]*?\*\/)*/;
+const C =
+  /^(?:C\s|#\s*(?:include|define)\b|(?:(?:extern|static|volatile|_Atomic)\s+)*(?:(?:atomic_\w+|int|void|unsigned|u?int\d+_t)\s|std::|_Atomic\())/;
 const OF_C = "`tools/from_c.py` compiles programs in C, C++ and Rust, and herd's tests in C";
 const OF_PROGRAM = " For that its threads are functions `P0`, `P1` and so on without parameters, and its last line asks, as `// lw: exists (0:r0=0)` does.";
+const OF_BUTTON =
+  "The button rewrites it, which is not proved: each access as gcc and clang compile it, in the order of the program. A compiler may also reorder " +
+  "or merge relaxed and plain accesses.";
+const NOT_ASKED = " The question `true` holds always: look at the list of states.";
+const NO_BUTTON = "A button rewrites straight-line threads of 32-bit loads, stores, exchanges, additions and fences, but not";
 // How a program in Rust begins, what only C++ has, and how a thread in C begins.
 const RUST = /^\s*(?:use|fn|pub|static\s+\w+\s*:|#!?\[)/;
 const CPP = /\bstd::|<atomic>/;
@@ -24,19 +33,27 @@ const ENTRY = new RegExp(`^(?:(${TYPES}))?((?:\\d\\s*:\\s*)?\\w+)(?:\\s*=\\s*(\\
 const TYPED = new RegExp(`(?:[{;]|^)\\s*${TYPES}(?:\\d\\s*:\\s*)?\\w`);
 
 /**
- * Returns a hint on a program, that `words` say begins here: the `command` that prints its test, which a file of a likely name has.
+ * Returns a hint on a program, that `words` say begins here: the `command` that prints its test, which a file of a likely name has. Proposes the test
+ * in place of the whole text if the program is in C or C++ and simple, and otherwise says why it is not.
  * @param {string} words
  * @param {string} text
+ * @param {FaultPlace} place
  * @returns {{words: string, document: string, command: string}}
  */
-function explainProgram(words, text) {
+function explainProgram(words, text, place) {
   const name = /^\s*(?:C|X86|SRC)\s+([\w+.-]+)/.exec(text)?.[1] ?? "mine";
   const file = `${name}.${RUST.test(text) ? "rs" : CPP.test(text) ? "cc" : "c"}`;
   const command = `python3 tools/from_c.py --show ${file}`;
   const once = /_ONCE\b/.test(text) ? " (In place of `READ_ONCE(*x)` it takes `atomic_load_explicit(x, memory_order_relaxed)`.)" : "";
   const form = /^\s*(?:C|X86|SRC)\s/.test(text) ? "" : OF_PROGRAM;
   const how = `${OF_C}: save this as \`${file}\`, then \`${command}\` prints a test for this page.${form}${once}`;
-  return { words: `${words} ${HERE} ${how}`, document: "from-c.html", command };
+  const { made, why } = RUST.test(text) ? {} : rewriteProgram(text);
+  if (made) {
+    place.proposeChange(made, 0, place.text.length);
+    Object.assign(place.change, { title: "Rewrite it as an x86 test", done: "Rewritten." });
+  }
+  const button = made ? `${OF_BUTTON}${made.endsWith("(true)\n") ? NOT_ASKED : ""} ` : "";
+  return { words: `${words} ${HERE} ${button}${how}${why ? ` ${NO_BUTTON} ${why}.` : ""}`, document: "from-c.html", command };
 }
 
 /**
@@ -50,16 +67,17 @@ export function explainCall(code) {
 
 /**
  * Returns words on the first word of a text, if it is that of another language, the document that says what converts it, and the command that does so, if it
- * is known; or null.
+ * is known; or null. Of a simple program in C it proposes the test.
  * @param {FaultPlace} place
  * @returns {{words: string, document: string, command?: string} | null}
  */
-export function findOtherLanguage({ text, index, token }) {
-  if (THREAD_IN_C.test(text)) return explainProgram("The threads are functions in C: the first word is `C` then.", text);
+export function findOtherLanguage(place) {
+  const { text, index, token } = place;
+  if (THREAD_IN_C.test(text)) return explainProgram("The threads are functions in C: the first word is `C` then.", text, place);
   if (blankComments(text.slice(0, index)).trim()) return null;
   const rest = text.slice(index);
-  if (C.test(rest)) return explainProgram("This begins as a program or a test in C does.", rest);
-  if (RUST.test(rest)) return explainProgram("This begins as a program in Rust does.", rest);
+  if (C.test(rest.replace(C_COMMENTS, ""))) return explainProgram("This begins as a program or a test in C does.", rest, place);
+  if (RUST.test(rest)) return explainProgram("This begins as a program in Rust does.", rest, place);
   if (OTHERS.test(token)) return { words: `\`${token}\` is the language of another processor in herd's tests. ${OF_OTHERS}`, document: "from-herd.html" };
   if (/^X86_64$/i.test(token) && !isRead(rest.replace(/^\w+/, "X86"))) {
     return { words: `\`X86_64\` is a language of herd's tests. ${OF_HERD}`, document: "from-herd.html" };

@@ -7,12 +7,14 @@
 - Sources: threads, conditions, where values are seen, herd's form.
 - With the installed compilers: the programs of examples/from_c and examples/from_rust, random programs compared with an interpreter of their
   source (tools/gate/random_programs.py), and some programs run on this processor (tools/gate/native_runs.py).
+- With node, too: simple programs that the page rewrites by itself (web/c_program.js) have the states that compilers give.
 
 Lists come from the program if it is built, otherwise from the search of tools/beyond.py. tools/check_documents.py calls all this
 (tools/gate/cases.py).
 """
 from __future__ import annotations
 
+import json
 import os
 import re
 import shutil
@@ -98,6 +100,70 @@ void P0() {
 }
 // lw: exists (0:swapped=1 /\\ 0:r0=8 /\\ 0:r1=15 /\\ 0:r2=1)
 """
+
+# Litmus tests as programs that the page rewrites: of each thread its stores (W), loads (R), fences (F), exchanges (X) and additions (A).
+SHAPES = {
+    "SB": ("W x 1, R y r0", "W y 1, R x r0"), "MP": ("W x 1, W y 1", "R y r0, R x r1"), "LB": ("R x r0, W y 1", "R y r0, W x 1"),
+    "2+2W": ("W x 1, W y 2", "W y 1, W x 2"), "R": ("W x 1, W y 1", "W y 2, R x r0"), "S": ("W x 2, W y 1", "R y r0, W x 1"),
+    "IRIW": ("W x 1", "R x r0, R y r1", "W y 1", "R y r0, R x r1"), "SB+fences": ("W x 1, F, R y r0", "W y 1, F, R x r0"),
+    "R+fence": ("W x 1, F, W y 1", "W y 2, R x r0"), "SB+exchange": ("X x 1 r1, R y r0", "W y 1, R x r0"),
+    "SB+additions": ("A x 1 r1, R y r0", "A y 2, A x 3 r1, R x r0"), "MP+copy": ("W x 1, W y 1", "R y r0, W z r0 + 2, R x r1", "R z r0, R x r1"),
+}
+# The orders of stores, loads and all others, for each variant of a shape.
+ORDERS = (("relaxed", "relaxed", "relaxed"), ("release", "acquire", "acq_rel"), ("seq_cst", "seq_cst", "seq_cst"))
+
+
+def make_shape(threads: Iterable[str], orders: tuple[str, str, str]) -> str:
+    """Returns a shape as a program in C, whose question names all registers and locations. The orders are those of stores, loads and all others."""
+    store, load, other = (f"memory_order_{it}" for it in orders)
+    lines: list[str] = []
+    registers: list[str] = []
+    for number, code in enumerate(threads):
+        statements = []
+        for kind, *words in map(str.split, code.split(", ")):
+            if kind == "W":
+                statements.append(f"atomic_store_explicit(&{words[0]}, {' '.join(words[1:])}, {store});")
+            elif kind == "R":
+                statements.append(f"int {words[1]} = atomic_load_explicit(&{words[0]}, {load});")
+            elif kind == "F":
+                statements.append("atomic_thread_fence(memory_order_seq_cst);")
+            else:
+                # Compilers make different code of relaxed exchanges.
+                name, order = ("exchange", "memory_order_acq_rel") if kind == "X" else ("fetch_add", other)
+                result = f"int {words[2]} = " if len(words) > 2 else ""
+                statements.append(f"{result}atomic_{name}_explicit(&{words[0]}, {words[1]}, {order});")
+        lines.append(f"void P{number}(void) {{ {' '.join(statements)} }}")
+        registers += [f"{number}:{it}=0" for it in re.findall(r"\bint (\w+)", lines[-1])]
+    names = sorted({it for code in threads for it in re.findall(r"\b[xyz]\b", code)})
+    question = " /\\ ".join([*registers, *(f"{it}=0" for it in names)])
+    return "\n".join(["#include <stdatomic.h>", f"atomic_int {', '.join(names)};", *lines, f"// lw: exists ({question})", ""])
+
+
+def convert_to_herd_form(text: str) -> str:
+    """Returns a program that `make_shape` made as a test in herd's form."""
+    locations = require_match(re.search(r"atomic_int (.*);", text))[1].split(", ")
+    parameters = ", ".join(f"atomic_int* {it}" for it in locations)
+    code = re.sub(r"void (P\d)\(void\)", rf"\1 ({parameters})", text[text.index("void") :]).replace("&", "").replace("// lw: ", "")
+    return f"C Shape\n{{ {' '.join(f'{it}=0;' for it in locations)} }}\n{code}"
+
+
+def rewrite_by_page(texts: list[str]) -> list[str]:
+    """Returns the tests that the page makes of programs in C, or why it does not."""
+    words = ["node", os.path.join(HOME, "tools", "gate", "c_programs.mjs"), "--rewrite"]
+    ran = subprocess.run(words, input=json.dumps(texts), capture_output=True, text=True, check=True)
+    return [it.get("made") or it["why"] for it in json.loads(ran.stdout)]
+
+
+def parse_states(report: str, names: dict[str, str]) -> set[frozenset[tuple[str, str]]]:
+    """Returns the states of a report, with some names in place of others."""
+    read = lambda line: (entry.split("=") for entry in line.rstrip(";").split("; "))
+    return {frozenset((names.get(site, site), word) for site, word in read(line)) for line in answers.filter_state_lines(report)}
+
+
+def list_rewritten_states(made: str) -> set[frozenset[tuple[str, str]]]:
+    """Returns the states of a test that the page made, by tools/plain.py, with the names of its source's variables."""
+    pairs = re.findall(r"(\d):(E\w\w) is (\w+)", made)
+    return parse_states(plain.make_report(plain.read_test(made)), {f"{thread}:{register}": f"{thread}:{name}" for thread, register, name in pairs})
 
 
 def make_program(*threads: str, data: str = DATA, after: str = "") -> str:
@@ -779,6 +845,17 @@ class Compiled(cases.Case):
             with self.subTest(compiler):
                 self.assertEqual([reports[0]] * 3, reports)
                 self.assertIn("\nObservation a Always 1 0\n", reports[0])
+
+    @unittest.skipUnless(shutil.which("node"), "node is not here")
+    def test_rewritten(self) -> None:
+        """Simple programs have the same states as the page rewrites them, and as a compiler makes them, in C and in herd's form."""
+        compiler = list_compilers(".c")[0].split()[0] + " -O2"
+        programs = [make_shape(threads, orders) for threads in SHAPES.values() for orders in ORDERS]
+        programs += [convert_to_herd_form(it) for it in programs[:: len(ORDERS)]]
+        for text, made in zip(programs, rewrite_by_page(programs)):
+            answer = from_c.convert_source(read_source("a.c", text), compiler, 1)[0]
+            with self.subTest(text, made=made):
+                self.compare("from_c", compiler, text, parse_states(answer.report, {}), list_rewritten_states(made))
 
     def test_native(self) -> None:
         """No state is seen on this processor that is not listed, in some thousand runs of the same assembly."""

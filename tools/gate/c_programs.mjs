@@ -1,0 +1,410 @@
+// Compares what the page makes of programs in C with what is typed in here: each kind of statement, both forms, each refusal, and the hint with its
+// button.
+//
+//     node tools/gate/c_programs.mjs               compares; the last line is 'N passed, M failed'
+//     node tools/gate/c_programs.mjs --rewrite     prints what it makes of each text of a list in JSON, as `rewriteProgram` returns it
+//
+// tools/gate/check_site.mjs compares this too, and tools/gate/test_from_c.py rewrites programs by it. The JavaScript is that of web/, which is
+// copied, since node takes a file for a module by the folder that it is in.
+
+import fs from "node:fs";
+import os from "node:os";
+import path from "node:path";
+import { fileURLToPath, pathToFileURL } from "node:url";
+import { isDeepStrictEqual } from "node:util";
+
+const HOME = path.dirname(path.dirname(path.dirname(fileURLToPath(import.meta.url))));
+const PARTS = ["aligned", "c_program", "other_tools"];
+
+// Statements of P0 on `atomic_int x, y; volatile int v; int p, q;`, of which no other thread uses p, and one loads q; the instructions that they
+// become; and the same statements on pointers, in a test of herd, or null.
+const STATEMENTS = [
+  // Stores.
+  ["atomic_store(&x, 1);", "MOV EAX,$1; XCHG [x],EAX", "atomic_store(x, 1);"],
+  ["atomic_store_explicit(&x, 1, memory_order_seq_cst);", "MOV EAX,$1; XCHG [x],EAX", "atomic_store_explicit(x, 1, memory_order_seq_cst);"],
+  ["atomic_store_explicit(&x, 1, memory_order_release);", "MOV [x],$1", "atomic_store_explicit(x, 1, memory_order_release);"],
+  ["std::atomic_store_explicit ( & x , 0x1F , std::memory_order::relaxed ) ;", "MOV [x],$31",
+    "atomic_store_explicit ( x , 0x1F , memory_order_relaxed ) ;"],
+  ["x.store(1);", "MOV EAX,$1; XCHG [x],EAX", "x->store(1);"],
+  ["x.store(1, std::memory_order_release);", "MOV [x],$1", "x->store(1, std::memory_order_release);"],
+  ["x = 1;", "MOV EAX,$1; XCHG [x],EAX", "*x = 1;"],
+  ["v = 1u;", "MOV [v],$1", "*v = 1u;"],
+  ["WRITE_ONCE(v, 2);", "MOV [v],$2", "WRITE_ONCE(*v, 2);"],
+  ["smp_store_release(&x, 1);", "MOV [x],$1", "smp_store_release(x, 1);"],
+  ["v = -1;", "MOV [v],$4294967295", "*v = -1;"],
+  // Loads.
+  ["int r0 = atomic_load(&x);", "MOV EAX,[x]", "int r0 = atomic_load(x);"],
+  ["int r0; r0 = atomic_load_explicit(&x, memory_order_acquire);", "MOV EAX,[x]", "int r0; r0 = atomic_load_explicit(x, memory_order_acquire);"],
+  ["auto r0 = x.load(std::memory_order_consume);", "MOV EAX,[x]", "auto r0 = x->load(std::memory_order_consume);"],
+  ["const unsigned int r0 = x, r1 = y;", "MOV EAX,[x]; MOV EBX,[y]", "const unsigned int r0 = *x, r1 = *y;"],
+  ["int r0 = READ_ONCE(v);", "MOV EAX,[v]", "int r0 = READ_ONCE(*v);"],
+  ["int r0 = v;", "MOV EAX,[v]", "int r0 = *v;"],
+  ["int r0 = smp_load_acquire(&x);", "MOV EAX,[x]", "int r0 = smp_load_acquire(x);"],
+  ["x.load();", "MOV EAX,[x]", "x->load();"],
+  ["int a = atomic_load_explicit(&x, memory_order_relaxed), b = atomic_load_explicit(&y, memory_order_relaxed);", "MOV EAX,[x]; MOV EBX,[y]",
+    "int a = atomic_load_explicit(x, memory_order_relaxed), b = atomic_load_explicit(y, memory_order_relaxed);"],
+  // Values.
+  ["int r0 = x; atomic_store_explicit(&y, r0, memory_order_relaxed);", "MOV EAX,[x]; MOV [y],EAX",
+    "int r0 = *x; atomic_store_explicit(y, r0, memory_order_relaxed);"],
+  ["int r0 = x; y.store(r0 + 1, std::memory_order_release);", "MOV EAX,[x]; MOV EBX,EAX; ADD EBX,$1; MOV [y],EBX",
+    "int r0 = *x; y->store(r0 + 1, std::memory_order_release);"],
+  ["int r0 = x; y = r0;", "MOV EAX,[x]; MOV EBX,EAX; XCHG [y],EBX", "int r0 = *x; *y = r0;"],
+  ["int r0 = x; int r1 = r0 - 2; r0 = r1 + 0x10; r1++; --r0; r0 += 3;",
+    "MOV EAX,[x]; MOV EBX,EAX; ADD EBX,$4294967294; MOV EAX,EBX; ADD EAX,$16; ADD EBX,$1; ADD EAX,$4294967295; ADD EAX,$3",
+    "int r0 = *x; int r1 = r0 - 2; r0 = r1 + 0x10; r1++; --r0; r0 += 3;"],
+  ["int r0 = 5; int r1 = r0; r0 = r0;", "MOV EAX,$5; MOV EBX,EAX", "int r0 = 5; int r1 = r0; r0 = r0;"],
+  ["v = x.load() + 1;", "MOV EAX,[x]; ADD EAX,$1; MOV [v],EAX", "*v = x->load() + 1;"],
+  ["atomic_store(&y, atomic_load_explicit(&x, memory_order_relaxed));", "MOV EAX,[x]; XCHG [y],EAX",
+    "atomic_store(y, atomic_load_explicit(x, memory_order_relaxed));"],
+  ["x = x + 1;", "MOV EAX,[x]; ADD EAX,$1; XCHG [x],EAX", "*x = *x + 1;"],
+  // Exchanges and additions.
+  ["atomic_exchange(&x, 1);", "MOV EAX,$1; XCHG [x],EAX", "atomic_exchange(x, 1);"],
+  ["int r0 = atomic_exchange_explicit(&x, 1, memory_order_acq_rel);", "MOV EAX,$1; XCHG [x],EAX",
+    "int r0 = atomic_exchange_explicit(x, 1, memory_order_acq_rel);"],
+  ["int r0 = 7; r0 = x.exchange(r0);", "MOV EAX,$7; XCHG [x],EAX", "int r0 = 7; r0 = x->exchange(r0);"],
+  ["int r0 = 7; int r1 = x.exchange(r0 + 1);", "MOV EAX,$7; MOV EBX,EAX; ADD EBX,$1; XCHG [x],EBX", "int r0 = 7; int r1 = x->exchange(r0 + 1);"],
+  ["atomic_fetch_add(&x, 2);", "MOV EAX,$2; LOCK XADD [x],EAX", "atomic_fetch_add(x, 2);"],
+  ["int r0 = atomic_fetch_add_explicit(&x, 2, memory_order_relaxed);", "MOV EAX,$2; LOCK XADD [x],EAX",
+    "int r0 = atomic_fetch_add_explicit(x, 2, memory_order_relaxed);"],
+  ["int r0 = x.fetch_sub(1);", "MOV EAX,$4294967295; LOCK XADD [x],EAX", "int r0 = x->fetch_sub(1);"],
+  ["x++; ++x; x += 3; x -= 1; x--;",
+    "MOV EAX,$1; LOCK XADD [x],EAX; MOV EAX,$1; LOCK XADD [x],EAX; MOV EAX,$3; LOCK XADD [x],EAX; MOV EAX,$4294967295; LOCK XADD [x],EAX; " +
+    "MOV EAX,$4294967295; LOCK XADD [x],EAX", "(*x)++; ++*x; *x += 3; *x -= 1; (*x)--;"],
+  ["int r0 = x++;", "MOV EAX,$1; LOCK XADD [x],EAX", "int r0 = (*x)++;"],
+  ["int r0 = 3; x.fetch_add(r0);", "MOV EAX,$3; MOV EBX,EAX; LOCK XADD [x],EBX", "int r0 = 3; x->fetch_add(r0);"],
+  ["x.fetch_add(0);", "MOV EAX,$0; LOCK XADD [x],EAX", "x->fetch_add(0);"],
+  // Fences.
+  ["atomic_thread_fence(memory_order_seq_cst);", "MFENCE", "atomic_thread_fence(memory_order_seq_cst);"],
+  ["std::atomic_thread_fence(std::memory_order::seq_cst); smp_mb(); __sync_synchronize();", "MFENCE; MFENCE; MFENCE",
+    "smp_mb(); smp_mb(); smp_mb();"],
+  ["atomic_thread_fence(memory_order_acq_rel); std::atomic_thread_fence(std::memory_order_release); smp_wmb(); smp_rmb();", "", "smp_wmb();"],
+  // A return at the end.
+  ["x = 1; return;", "MOV EAX,$1; XCHG [x],EAX", "*x = 1; return ; "],
+  ["return;", "", "return;"],
+  // Variables that no other thread uses.
+  ["p = x;", "MOV EAX,[x]", null],
+  ["p = x; p += 2; y.store(p, std::memory_order_relaxed);", "MOV EAX,[x]; ADD EAX,$2; MOV [y],EAX", null],
+  ["int r0 = q;", "MOV EAX,[q]", "int r0 = *q;"],
+];
+
+const GLOBALS = "#include <stdatomic.h>\natomic_int x, y;\nvolatile int v;\nint p, q = 3;\n";
+const OTHER = "void P1(void) { int r9 = q; }\n";
+const POINTERS = "atomic_int* x, atomic_int *y, volatile int* v, int* q";
+
+// What is refused: a part of a program and what is in its place, and why.
+const PROGRAM = `atomic_int x, y; int d;
+void P0(void) { x = 1; int r0 = y; }
+void P1(void) { y = 1; int r0 = x; }
+// lw: exists (0:r0=0 /\\ 1:r0=0)
+`;
+const RACE = "on which threads race: make it atomic or volatile";
+const OF_GLOBALS = "outside of threads are only declarations of 32-bit integers and `bool`, as `atomic_int x = 1;`";
+const OF_VALUES = "an initial value is one constant, as in `x = 1` or `x{1}`, and of a `bool` 0 or 1";
+const OF_ENTRIES = "initial values are entries as `x=1;`";
+const OF_BRANCHES = "`tools/from_c.py` follows branches and loops";
+const OF_WAITING = "in place of a loop that waits, load once, and ask for the value that ends it";
+const REFUSED = [
+  ["int r0 = y;", "if (y == 1) { int r0 = 1; }", `\`if (y == 1) {\`. ${OF_BRANCHES}`],
+  ["int r0 = y;", "while (y != 1) ;", `\`while (y != 1)\`: ${OF_WAITING}`],
+  ["int r0 = y;", "for (int i = 0; i < 3; i++) x = i;", `\`for (int i = 0\`. ${OF_BRANCHES}`],
+  ["int r0 = y;", "while (x.exchange(1)) ;", `\`while (x.exchange(1))\`. ${OF_BRANCHES}`],
+  ["int r0 = y;", "int r0 = y; return r0;", "`return r0`: a thread returns nothing, and its results are in variables, as `int r0`"],
+  ["x = 1;", "x = 1; return;", "`return`"],
+  ["int r0 = y;", "int r0 = *x++;", "`int r0 = *x++`"],
+  ["x = 1;", "x = 1, memory_order_relaxed;", "`x = 1, memory_order_relaxed`"],
+  ["int r0 = y;", "int a = y, b = y, c = y, e = y, f = y, g = y, h = y; x = h;", "`P0`, which needs more than six registers"],
+  ["int r0 = y;", "L: int r0 = y;", "`L: int r0 = y`"],
+  ["int r0 = y;", "int r0 = y * 2;", "`int r0 = y * 2`"],
+  ["int r0 = y;", "int r0 = y + x;", "`int r0 = y + x`"],
+  ["int r0 = y;", "int r0 = 1 + y;", "`int r0 = 1 + y`"],
+  ["int r0 = y;", "int r0 = y; r0 -= 2 - 1;", "`r0 -= 2 - 1`"],
+  ["int r0 = y;", "int r0 = y; r0 += r0;", "`r0 += r0`"],
+  ["int r0 = y;", "y -= 2 - 1;", "`y -= 2 - 1`"],
+  ["int r0 = y;", "int r0 = atomic_fetch_sub(&y, 1 + 1);", "`int r0 = atomic_fetch_sub(&y, 1 + 1)`"],
+  ["int r0 = y;", "int r0 = y, r1 = r0++;", "`int r0 = y, r1 = r0++`"],
+  ["int r0 = y;", "int d = y;", "`int d = y`"],
+  ["int r0 = y;", "x = 1, y = 2;", "`x = 1, y = 2`"],
+  ["int r0 = y;", "(void) y;", "`(void) y`"],
+  ["int r0 = y;", "int r0 = ++y;", "`int r0 = ++y`"],
+  ["int r0 = y;", "int r0 = y += 1;", "`int r0 = y += 1`"],
+  ["int r0 = y;", "int r0 = x = 1;", "`int r0 = x = 1`"],
+  ["int r0 = y;", "int r0 = y == 1;", "`int r0 = y == 1`"],
+  ["int r0 = y;", "int r0 = !y;", "`int r0 = !y`"],
+  ["int r0 = y;", "int r0; int r1 = r0;", "`int r1 = r0`"],
+  ["int r0 = y;", "int *r0 = &y;", "`int *r0 = &y`"],
+  ["int r0 = y;", "long r0 = y;", "`long r0 = y`"],
+  ["int r0 = y;", "int r0 = 010;", "`int r0 = 010`"],
+  ["int r0 = y;", "int r0 = 4294967296;", "`int r0 = 4294967296`"],
+  ["int r0 = y;", "int r0 = f(y);", "`int r0 = f(y)`"],
+  ["int r0 = y;", "int r0 = *y;", "`int r0 = *y`"],
+  ["int r0 = y;", "int r0 = atomic_load(y);", "`int r0 = atomic_load(y)`"],
+  ["int r0 = y;", "int r0 = z;", "`int r0 = z`"],
+  ["int r0 = y;", "int r0 = atomic_fetch_or(&y, 1);", "`int r0 = atomic_fetch_or(&y, 1)`"],
+  ["int r0 = y;", "int e = 0, r0 = atomic_compare_exchange_strong(&y, &e, 1);", "`int e = 0, r0 = atomic_compare_exchange_..`"],
+  ["int r0 = y;", "int r0 = y.load(std::memory_order_release);",
+    "`int r0 = y.load(std::memory_order_releas..`, of which compilers make different code"],
+  ["x = 1;", "x.store(1, std::memory_order_acquire);", "`x.store(1, std::memory_order_acquire)`, of which compilers make different code"],
+  ["x = 1;", "x.exchange(1, std::memory_order_relaxed);", "`x.exchange(1, std::memory_order_relaxed)`, of which compilers make different code"],
+  ["x = 1;", "x.fetch_add(0, std::memory_order_acquire);", "`x.fetch_add(0, std::memory_order_acquire..`, of which compilers make different code"],
+  ["x = 1;", "atomic_thread_fence(seq_cst);", "`atomic_thread_fence(seq_cst)`"],
+  ["x = 1;", "asm volatile(\"mfence\" ::: \"memory\");",
+    "`asm volatile(\"mfence\" ::: \"memory\")`: a fence is `atomic_thread_fence(memory_order_seq_cst)`"],
+  ["x = 1;", "d = 1;", `\`d\`, ${RACE}`, "y = 1;", "d = 2;"],
+  ["x = 1;", "d = 1;", `\`d\`, ${RACE}`, "y = 1;", "int r1 = READ_ONCE(d);"],
+  ["x = 1;", "d++;", "`d++`", "y = 1;", "d = 2;"],
+  ["int d;", "volatile int d;", "`d++`", "x = 1;", "d++;"],
+  ["int d;", "volatile int d;", "`int r0 = d++`", "int r0 = y;", "int r0 = d++;"],
+  ["void P0(void) { x = 1; int r0 = y; }", "void P0(void) { x = 1; int a = y, b = y, c = y, e = y, f = y, g = y, h = y; }",
+    "`P0`, which needs more than six registers"],
+  ["void P0(void) { x = 1; int r0 = y; }", "void P0(void) { int a = y, b = y, c = y, e = y, f = y, g = y; x = 1; }",
+    "`P0`, which needs more than six registers"],
+  ["// lw", "void other(void) { x = 2; }\n// lw", "`other`: all functions are threads, `P0`, `P1` and so on, in this order"],
+  ["void P0", "void P2", "`P2`: all functions are threads, `P0`, `P1` and so on, in this order"],
+  ["P1(void)", "P1(void *argument)", "`void P1(void *argument) { y = 1; int r0 ..`: a thread is a function without parameters"],
+  ["void P1(void)", "int main(void) { return 0; }\nvoid P1(void)",
+    "`int main(void) { return 0; }`: in place of `main`, each thread is a function without parameters"],
+  ["int d;", "long d;", `\`long d;\`: ${OF_GLOBALS}`], ["int d;", "int d[2];", `\`int d[2];\`: ${OF_GLOBALS}`],
+  ["int d;", "int *d;", `\`int *d;\`: ${OF_GLOBALS}`], ["int d;", "#define N 1\nint d;", "`#define N 1`: write its text where it is used"],
+  ["int d;", "struct s { int a; };", `\`struct s { int a;\`: ${OF_GLOBALS}`], ["int d;", "int d = x;", `\`int d = x;\`: ${OF_VALUES}`],
+  ["int d;", "atomic_short d;", `\`atomic_short d;\`: ${OF_GLOBALS}`], ["int d;", "atomic_bool d = 2;", `\`atomic_bool d = 2;\`: ${OF_VALUES}`],
+  ["int d;", "atomic_bool d;", "`d = 2`", "x = 1;", "d = 2;"], ["int d;", "atomic_bool d;", "`d++`", "x = 1;", "d++;"],
+  ["int d;", "atomic_bool d;", "`d = x`", "x = 1;", "d = x;"], ["int r0 = y;", "bool r0 = y;", "`bool r0 = y`"],
+  ["int d;", "atomic_bool d;", "`bool r0 = d + 1`", "int r0 = y;", "bool r0 = d + 1;"], ["int r0 = y;", "_Bool r0 = 2;", "`_Bool r0 = 2`"],
+  ["0:r0", "0:r5", "`0:r5`, of which the question asks: nothing sets it"],
+  ["0:r0", "2:r0", "`2:r0`, of which the question asks: nothing sets it"],
+  ["0:r0=0", "z=0", "`z`, of which the question asks: nothing sets it"],
+  ["0:r0=0", "0:r0=0 0", "this program: found 0, expected )"],
+  ["int d;", "atomic_int eax;", "this program: eax is reserved", "x = 1", "eax = 1"],
+];
+
+/** Returns the instructions of a thread of a test, joined by `; `. */
+function listInstructions(text, thread) {
+  const rows = text.split("\n").filter((it) => /;$/.test(it) && !/^ P0|locations/.test(it));
+  return rows.map((it) => it.slice(0, -1).split("|")[thread].trim()).filter(Boolean).join("; ");
+}
+
+/** Returns the page's modules of some names. */
+async function loadModules(names) {
+  const room = fs.mkdtempSync(path.join(os.tmpdir(), "lw-programs-"));
+  try {
+    fs.writeFileSync(`${room}/package.json`, '{"type": "module"}');
+    for (const name of fs.readdirSync(`${HOME}/web`).filter((it) => it.endsWith(".js"))) fs.copyFileSync(`${HOME}/web/${name}`, `${room}/${name}`);
+    const loaded = await Promise.all(names.map((name) => import(pathToFileURL(`${room}/${name}.js`).href)));
+    return Object.fromEntries(names.map((name, at) => [name, loaded[at]]));
+  } finally {
+    fs.rmSync(room, { recursive: true });
+  }
+}
+
+/** Returns the hint on a text that begins as a program does, and the change that it proposes. */
+function findHint(page, text) {
+  const place = { text, index: text.search(/\S/), token: /\w+|\S/.exec(text)?.[0] ?? "", change: null };
+  place.proposeChange = (put, begin, end) => Object.assign(place, { change: { begin, end, text: put } });
+  return { ...page.other_tools.findOtherLanguage(place), change: place.change };
+}
+
+/** Compares statements in both forms, refusals, whole programs, and hints. `compare` takes what is compared, and the expected and the found value. */
+function comparePrograms(page, compare) {
+  const { rewriteProgram } = page.c_program;
+  const isRead = (text) => page.other_tools.isRead(text) && page.aligned.alignCells(text) === text;
+  const compareMade = (what, program, expected) => {
+    const { made, why } = rewriteProgram(program);
+    compare(what, [expected, true], made ? [listInstructions(made, 0), isRead(made)] : [why]);
+    // No location is lost, and no constant.
+    const [code] = /(?<=P0[^{]*\{)[^}]*/.exec(program);
+    const names = [...new Set(code.match(/\b[xyv]\b/g) ?? [])].filter((it) => !new RegExp(`\\[${it}\\]`).test(made));
+    compare(`${what}: its locations`, [], names);
+  };
+  for (const [statements, instructions, ofHerd] of STATEMENTS) {
+    compareMade(`C: ${statements}`, `${GLOBALS}void P0(void) { ${statements} }\n${OTHER}`, instructions);
+    if (ofHerd) compareMade(`herd: ${ofHerd}`, `C A\n{}\nP0 (${POINTERS}) { ${ofHerd} }\nexists (x=0)\n`, instructions);
+  }
+  for (const [part, wrong, why, second, third] of REFUSED) {
+    const program = PROGRAM.replace(part, () => wrong).replace(second ?? "", () => third ?? "");
+    compare(`what is refused in ${wrong}`, { why }, rewriteProgram(program));
+  }
+  for (const [what, program, expected] of WHOLE) {
+    compare(what, expected, rewriteProgram(program).made ?? rewriteProgram(program).why);
+    if (expected.startsWith("X86")) compare(`${what}: it is read`, true, isRead(expected));
+  }
+  for (const [what, text, begin, end, hasButton] of HINTS) {
+    const { words, command, document, change } = findHint(page, text);
+    const isCommand = command.startsWith("python3 tools/from_c.py --show ");
+    const found = [words.slice(0, begin.length), words.slice(words.length - end.length), change !== null, isCommand, document];
+    compare(`the hint on ${what}`, [begin, end, hasButton, true, "from-c.html"], found);
+    const made = change && [change.begin, change.end, change.title, isRead(change.text)];
+    compare(`the change of ${what}`, hasButton ? [0, text.length, "Rewrite it as an x86 test", true] : null, made);
+  }
+  compare("a text that is no program has another hint", null, page.other_tools.findOtherLanguage({ text: "X86 A", index: 0, token: "X86" }));
+}
+
+const SB = "exists (0:EAX=0 /\\ 1:EAX=0)\n";
+const BLOCK = "{ x=0; y=0; }\n";
+const NINE = [..."abcdefghi"];
+const WHOLE = [
+  ["herd's form", `C SB+a
+(* A comment (* in one *). *)
+"Quoted" { int x = 0; [y]=2; z=1; }
+
+P0 (atomic_int* x, atomic_int* y) { // lw: nothing
+  atomic_store_explicit(x, 1, memory_order_relaxed); /* x */
+  int r0 = atomic_load_explicit(y, memory_order_relaxed);
+}
+
+P1 (atomic_int* x, volatile int* y) {
+  *y = 1;
+  smp_mb();
+  int r1 = READ_ONCE(*x);
+}
+locations [x; 0:r0;]
+~exists (0:r0=2 && P1:r1==0 || [x]=3 /\\ not z=1)
+`, `X86 SB+a
+(* 0:EAX is r0, 1:EAX is r1 *)
+{ x=0; y=2; z=1; }
+ P0          | P1          ;
+ MOV [x],$1  | MOV [y],$1  ;
+ MOV EAX,[y] | MFENCE      ;
+             | MOV EAX,[x] ;
+locations [x; 0:EAX;]
+~exists (0:EAX=2 /\\ 1:EAX=0 \\/ [x]=3 /\\ not z=1)
+`],
+  ["C++ with results in variables, and the question in its last line", `#include <atomic>
+#include <thread>
+using namespace std;
+std::atomic<int> x = {0}, y(0);
+int r1, r2 = 7;
+void first() { x.store(1, memory_order_relaxed); r1 = y.load(memory_order_relaxed); }
+static void second() { y.store(1, std::memory_order_relaxed); r2 = x.load(std::memory_order_relaxed); }
+exists (r1=0 /\\ r2=0)
+`, `X86 Mine
+(* 0:EAX is r1, 1:EAX is r2 *)
+${BLOCK} P0          | P1          ;
+ MOV [x],$1  | MOV EAX,$7  ;
+ MOV EAX,[y] | MOV [y],$1  ;
+             | MOV EAX,[x] ;
+${SB}`],
+  ["the first word X86", `X86 SB
+{}
+P0 (_Atomic int *x, int32_t _Atomic * y) { *x = 1; int r0 = *y; }
+P1 (atomic_uint *x, std::atomic<unsigned int> *y) { *y = 1; int r0 = *x; }
+exists (0:r0=0 /\\ 1:r0=0)
+`, `X86 SB
+(* 0:EAX is r0, 1:EAX is r0 *)
+${BLOCK} P0           | P1           ;
+ MOV EBX,$1   | MOV EBX,$1   ;
+ XCHG [x],EBX | XCHG [y],EBX ;
+ MOV EAX,[y]  | MOV EAX,[x]  ;
+${SB}`],
+  ["no question", "atomic_int x, y;\nvoid P0() { x = 1; }\nvoid P1() { int a = x, b = x; }\n", `X86 Mine
+(* 1:EAX is a, 1:EBX is b *)
+{ x=0; }
+ P0           | P1          ;
+ MOV EAX,$1   | MOV EAX,[x] ;
+ XCHG [x],EAX | MOV EBX,[x] ;
+locations [1:EAX; 1:EBX]
+exists (true)
+`],
+  ["variables that are true or false", `#include <atomic>
+std::atomic<int> data;
+std::atomic<bool> ready{false}, done = true;
+bool saw;
+void P0() { data.store(42, std::memory_order_relaxed); ready.store(true, std::memory_order_release); bool was = done.exchange(false); }
+void P1() { saw = ready.load(std::memory_order_acquire); bool r0 = true; int r1 = data.load(std::memory_order_relaxed); }
+exists (saw=1 /\\ 1:r1=0 /\\ 0:was=1)
+`, `X86 Mine
+(* 0:EAX is was, 1:EAX is saw, 1:EBX is r0, 1:ECX is r1 *)
+{ data=0; ready=0; done=1; }
+ P0              | P1              ;
+ MOV [data],$42  | MOV EAX,[ready] ;
+ MOV [ready],$1  | MOV EBX,$1      ;
+ MOV EAX,$0      | MOV ECX,[data]  ;
+ XCHG [done],EAX |                 ;
+exists (1:EAX=1 /\\ 1:ECX=0 /\\ 0:EAX=1)
+`],
+  ["a question of memory", "atomic_int x; int d = 4, e;\nvoid P0() { x++; }\nvoid P1() { x++; }\n/* lw: forall (x=2 /\\ d=4) */\n", `X86 Mine
+{ x=0; d=4; }
+ P0                | P1                ;
+ MOV EAX,$1        | MOV EAX,$1        ;
+ LOCK XADD [x],EAX | LOCK XADD [x],EAX ;
+forall (x=2 /\\ d=4)
+`],
+  ["no question, and no registers", "std::atomic<int> x, y;\nvoid P0() { x++; }\nvoid P1() { y.store(1, std::memory_order_release); }\n", `X86 Mine
+{ x=0; y=0; }
+ P0                | P1         ;
+ MOV EAX,$1        | MOV [y],$1 ;
+ LOCK XADD [x],EAX |            ;
+locations [x; y]
+exists (true)
+`],
+  ["a question after another comment in its line", "atomic_int x;\nvoid P0() { x++; } // One. // lw: exists (x=1)\n", `X86 Mine
+{ x=0; }
+ P0                ;
+ MOV EAX,$1        ;
+ LOCK XADD [x],EAX ;
+exists (x=1)
+`],
+  ["two questions", `${PROGRAM}/* lw: exists (x=1) */\n`, "`/* lw: exists (x=1) */`: a second comment says what is asked"],
+  ["a function without an end", PROGRAM.split("}")[0], "`void P0(void) { x = 1;`: its `}` is missing"],
+  ["a pointer that is increased", "C SB\n{}\nP0 (atomic_int *x) { *x++; }\nexists (x=1)\n", "`*x++`"],
+  ["a function without parameters in herd's form", "C SB\n{}\nP0 () { }\nexists (x=1)\n",
+    "`P0 () { }`: a parameter is a pointer to 32 bits, as `atomic_int *x`"],
+  ["no thread", "C SB\n{}\n", "`C SB {}`: threads are functions `P0`, `P1` and so on"],
+  ["no initial values", "C SB\nP0 (atomic_int *x) { *x = 1; }\nexists (x=1)\n", 
+    "`C SB P0 (atomic_int *x) { *x = 1; } exis..`: a test begins with `C`, its name, and its initial values in braces"],
+  ["a parameter that is no pointer", "C SB\n{}\nP0 (int x) { }\nexists (x=1)\n", "`int x`: a parameter is a pointer to 32 bits, as `atomic_int *x`"],
+  ["two initial values without a mark between", "C SB\n{ x=1 y=2; }\nP0 (int *x) { }\nexists (x=1)\n", `\`x=1 y=2\`: ${OF_ENTRIES}`],
+  ["an initial value that is an address", "C SB\n{ x=y; }\nP0 (int *x) { }\nexists (x=1)\n", `\`x=y\`: ${OF_ENTRIES}`],
+  ["a register in the initial values", "C SB\n{ 0:r0=1; }\nP0 (int *x) { }\nexists (x=1)\n", `\`0:r0=1\`: ${OF_ENTRIES}`],
+  ["a race with a store that is atomic", "C SB\n{}\nP0 (int *x) { *x = 1; }\nP1 (int *x) { int r0 = READ_ONCE(*x); }\nexists (1:r0=1)\n",
+    `\`x\`, ${RACE}`],
+  ["five threads", `atomic_int x;\n${[0, 1, 2, 3, 4].map((it) => `void P${it}() { x = 1; }\n`).join("")}// lw: exists (x=1)\n`,
+    "this program: there are more than 4 threads"],
+  ["33 instructions", `atomic_int x;\nvoid P0() { ${"x++; ".repeat(17)}}\n// lw: exists (x=1)\n`, "this program: a thread has too many statements"],
+  ["nine locations", `atomic_int ${NINE.join(", ")};\nvoid P0() { ${NINE.map((it) => `${it} = 1;`).join(" ")} }\n// lw: exists (a=1)\n`,
+    "this program: there are more than 8 locations"],
+];
+
+const BEGIN = "This begins as a program or a test in C does. Here only `SRC` and `X86` tests are read.";
+const BUTTON =
+  " The button rewrites it, which is not proved: each access as gcc and clang compile it, in the order of the program. A compiler may also reorder " +
+  "or merge relaxed and plain accesses.";
+const FIRST = "The threads are functions in C: the first word is `C` then. Here only `SRC` and `X86` tests are read.";
+const NO_BUTTON = "A button rewrites straight-line threads of 32-bit loads, stores, exchanges, additions and fences, but not";
+const HINTS = [
+  ["a program", `/* Mine. */\n${PROGRAM}`, `${BEGIN}${BUTTON} \`tools/from_c.py\` compiles`, "as `// lw: exists (0:r0=0)` does.", true],
+  ["C++", `std::atomic<int> x;\n${PROGRAM.split("\n").slice(1).join("\n").replace(/y/g, "x")}`, `${BEGIN}${BUTTON}`, "does.", true],
+  ["no question", PROGRAM.split("//")[0], `${BEGIN}${BUTTON} The question \`true\` holds always: look at the list of states.`, "does.", true],
+  ["a test of herd", WHOLE[0][1], `${BEGIN}${BUTTON}`,
+    "`python3 tools/from_c.py --show SB+a.c` prints a test for this page. (In place of `READ_ONCE(*x)` it takes " +
+    "`atomic_load_explicit(x, memory_order_relaxed)`.)", true],
+  ["the first word X86", WHOLE[2][1], `${FIRST}${BUTTON}`, "`python3 tools/from_c.py --show SB.cc` prints a test for this page.", true],
+  ["a branch", PROGRAM.replace("int r0 = y;", "if (y) x = 2;"), `${BEGIN} \`tools/from_c.py\``,
+    `${NO_BUTTON} \`if (y) x = 2\`. ${OF_BRANCHES}.`, false],
+  ["no thread", "C SB\n{}\n", `${BEGIN} \`tools/from_c.py\``, `${NO_BUTTON} \`C SB {}\`: threads are functions \`P0\`, \`P1\` and so on.`, false],
+  ["Rust", "use std::sync::atomic::*;\n", "This begins as a program in Rust does. Here only", "does.", false],
+];
+
+/**
+ * Compares what the page makes of programs in C, by its own modules.
+ * @param {function(string, any, any)} compare
+ */
+export async function compareCPrograms(compare) {
+  comparePrograms(await loadModules(PARTS), compare);
+}
+
+if (process.argv[1] === fileURLToPath(import.meta.url)) {
+  const counts = [0, 0];
+  const compare = (what, expected, found) => {
+    const isSame = isDeepStrictEqual(expected, found);
+    counts[Number(!isSame)] += 1;
+    if (!isSame) console.log(`${what}\n  wanted: ${JSON.stringify(expected)}\n  found:  ${JSON.stringify(found)}`);
+  };
+  if (process.argv[2] === "--rewrite") {
+    const { c_program } = await loadModules(PARTS);
+    console.log(JSON.stringify(JSON.parse(fs.readFileSync(0, "utf8")).map(c_program.rewriteProgram)));
+  } else {
+    await compareCPrograms(compare);
+    console.log(`${counts[0]} passed, ${counts[1]} failed`);
+    process.exitCode = counts[1] ? 1 : 0;
+  }
+}
