@@ -11,10 +11,9 @@ loaded from elsewhere. With --archive a folder also has an archive of tools/pack
 them. With --address the site says where the repository is published.
 
 A page that was opened as a file may load neither JSON nor modules of JavaScript. So those of web/ are joined to one classic script each for
-the page and its worker, which are packed together, since they share modules, with the style sheet that nothing needs before them; tables and modules
-come in scripts too, all packed as gzip in letters.
-In a folder the page
-asks for a module as soon as it has the tables, and for the second only if the browser does not take the first.
+the page and its worker, which are packed together, since they share modules, with the style sheet that nothing needs before them; the hints on
+faults, tables and modules come in scripts too, all packed as gzip in letters. In a folder the page asks for a module as soon as it has the tables,
+for the second only if the browser does not take the first, and for the hints after its first answer.
 """
 from __future__ import annotations
 
@@ -29,6 +28,7 @@ import shutil
 import string
 import sys
 import zlib
+from collections.abc import Sequence
 from typing import Dict
 
 sys.dont_write_bytecode = True
@@ -61,6 +61,8 @@ EXPORT = re.compile(r"^export ((?:async )?(?:function\*?|class|const) (\w+))", r
 COLOURS = re.compile(r":root \{.*?\n\}\n:root\[data-theme=\"light\"\].*?\n:root\[data-theme=\"dark\"\].*?\n", re.S)
 # The style sheets of the page: that which browsers wait for, and that which is packed with the page's code.
 STYLES = ("style.css", "views.css")
+# The module of the hints on faults, and what it exports.
+HINTS = "hints"
 # What is between the parts of the page's code, when they are packed.
 BETWEEN_PARTS = "\0"
 # Unpacks the parts of the page's code in the browser, keeps the worker's script, adds the second style sheet, and runs the page's script.
@@ -131,15 +133,16 @@ def bundle_module(entry: str, web: str) -> str:
     return '"use strict";\n' + join_modules(collect_modules(entry, web), entry)
 
 
-def bundle_page(web: str) -> tuple[str, str, str]:
-    """Returns the code of the page in three parts: what the page and its worker share, with which the scripts of both begin; the rest of the page's
-    script; and the rest of the worker's. Raises NoSite as `bundle_module` does.
+def bundle_page(web: str) -> tuple[str, str, str, str]:
+    """Returns the code of the page in four parts: what the page and its worker share, with which the scripts of both begin; the rest of the page's
+    script; the rest of the worker's; and the script of the hints, which the page runs later. Raises NoSite as `bundle_module` does.
     """
-    of_page, of_worker = collect_modules("main", web), collect_modules("worker", web)
+    of_page, of_worker, of_hints = (collect_modules(entry, web) for entry in ("main", "worker", HINTS))
     shared = {name: text for name, text in of_page.items() if name in of_worker}
-    rest_of = lambda modules: {name: text for name, text in modules.items() if name not in shared}
+    rest_of = lambda modules, others: {name: text for name, text in modules.items() if name not in others}
     begin = '"use strict";\n' + join_modules(shared, "main")
-    return begin, join_modules(rest_of(of_page), "main"), join_modules(rest_of(of_worker), "worker")
+    hints = '"use strict";\n' + join_modules(rest_of(of_hints, of_page), HINTS) + f"globalThis.site.{HINTS} = {HINTS};\n"
+    return begin, join_modules(rest_of(of_page, shared), "main"), join_modules(rest_of(of_worker, shared), "worker"), hints
 
 
 def collect_modules(entry: str, web: str) -> dict[str, str]:
@@ -257,14 +260,14 @@ def parse_leb128(module: bytes, at: int) -> tuple[int, int]:
     return number, at
 
 
-def make_unpacking_script(parts: tuple[str, str, str], style: str) -> str:
-    """Returns a script that unpacks the parts of the page's code and its second style sheet and runs it: packed they are a third as long."""
+def make_unpacking_script(parts: Sequence[str], style: str) -> str:
+    """Returns a script that unpacks three parts of the page's code and its second style sheet and runs it: packed they are a third as long."""
     return UNPACKING.replace("PACKED", format_literal(pack_bytes(BETWEEN_PARTS.join([*map(shorten_script, parts), style]).encode())))
 
 
 def make_scripts(modules: list[bytes], is_kept: bool, web: str, about: origin.About, listed: list[list[str]]) -> Files:
-    """Returns the scripts of the page, in their order: what `site` is, which web/supplies.js takes, the page's own code, and the modules. `listed` has
-    the documents that the page names.
+    """Returns the scripts of the page, in their order: what `site` is, which web/supplies.js takes, the page's own code, that of the hints, and the
+    modules. `listed` has the documents that the page names.
     """
     tables = {"examples": web_files.list_families(), "sentences": web_files.list_sentences()}
     names = [f"workbench{number}.js" for number, _ in enumerate(modules, 1)]
@@ -281,7 +284,13 @@ def make_scripts(modules: list[bytes], is_kept: bool, web: str, about: origin.Ab
     }
     first = FETCHING.replace("FILE", format_literal(names[0])) if is_kept and names else ""
     begin = f"globalThis.site = {format_literal(site)};\nglobalThis.site.bytesOf = {letters.DECODER};\n"
-    scripts_by_name = {"tables.js": begin + first, "page.js": make_unpacking_script(bundle_page(web), read_styles(web)[1])}
+    *parts, hints = bundle_page(web)
+    packed = format_literal(pack_bytes(shorten_script(hints).encode()))
+    scripts_by_name = {
+        "tables.js": begin + first,
+        "page.js": make_unpacking_script(parts, read_styles(web)[1]),
+        f"{HINTS}.js": f"globalThis.site.packedHints = {packed};\n",
+    }
     for name, module in zip(names, modules):
         scripts_by_name[name] = f"globalThis.site.modules.push({format_literal(pack_bytes(remove_names(module)))});\nglobalThis.site.came?.();\n"
     return scripts_by_name

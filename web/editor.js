@@ -2,8 +2,8 @@
 // line and below its token. On paper the whole text is in its place, which shows a part.
 
 import { el } from "./dom.js";
-import { findToken } from "./faults.js";
 import { findTints, renderText } from "./tint.js";
+import { findToken } from "./tokens.js";
 
 // The least and the largest number of lines in sight.
 const [MIN_LINES, MAX_LINES] = [6, 40];
@@ -119,9 +119,9 @@ export class Editor {
     this.isByPage = false;
   }
 
-  /** Goes to the place of the fault. */
-  goToFault() {
+  /** Goes to an index of the text. */
+  goTo(index) {
     this.area.focus();
-    this.area.setSelectionRange(this.fault.index, this.fault.index + 1);
+    this.area.setSelectionRange(index, index + 1);
   }
 }

@@ -1,10 +1,10 @@
-// Shows why there is no answer: a fault, with its place and the sentence of docs/FORMAT.md for it, or an error.
+// Shows why there is no answer: a fault, with its place and the sentence of docs/FORMAT.md for it, or an error. `Hints` are the functions of hints.js.
 
+import { ask } from "./ask.js";
 import { el, findById, makeButton, renderSentence } from "./dom.js";
-import { explainFault, explainMissingRowEnd } from "./faults.js";
 import { copy } from "./output.js";
 import { fold } from "./placing.js";
-import { documents, fetchTable } from "./supplies.js";
+import { documents, fetchTable, loadHints } from "./supplies.js";
 
 // The sentences of docs/FORMAT.md, by the kind and the number of a cause, as `cell 2`.
 let sentences = {};
@@ -44,10 +44,32 @@ export function explainRefusal(event, { number }) {
  */
 export function showError(answer, panel, editor) {
   const { fault } = answer;
-  if (editor.isAlone && isInText(fault)) {
-    const { row } = showFaultInEditor(fault, editor);
-    panel.append(el("p", { class: "no-answer" }, `No answer: line ${row} of the text has a fault.`));
-  } else panel.append(el("p", { class: "notice", role: "alert" }, fault ? [describeFault(fault, editor.text), makeFaultLine(fault)] : describeError(answer)));
+  const notice = el("p", { class: "notice", role: "alert" });
+  panel.append(notice);
+  if (isInText(fault)) showFault(fault, notice, editor);
+  else notice.append(...(fault ? [describeLimit(fault), makeFaultLine(fault)] : describeError(answer)));
+}
+
+/**
+ * Shows a fault of a text, once the hints are there: at the editor, or in the notice of a panel if there are two editors. Does nothing if the notice or
+ * the text has been replaced meanwhile. If the hints do not come, it shows lw's sentence.
+ */
+async function showFault(fault, notice, editor) {
+  const { text } = editor;
+  let hints = null;
+  try {
+    hints = await loadHints();
+  } catch {
+    // The network is gone.
+  }
+  if (!notice.isConnected || editor.text !== text) return;
+  const hint = hints?.explainFault(fault, text) ?? { words: null };
+  const words = describeFault(fault, text, hint, hints);
+  if (editor.isAlone) {
+    const { row } = showFaultInEditor(fault, words, hint, hints, editor);
+    notice.className = "no-answer";
+    notice.append(`No answer: line ${row} of the text has a fault.`);
+  } else notice.append(...words, makeFaultLine(fault));
 }
 
 /** Returns whether a fault is one of the text of a test. */
@@ -76,30 +98,37 @@ function makeFaultLine({ line }) {
   return el("div", { class: "fault-line small" }, "As lw prints it: ", el("code", {}, line));
 }
 
-/**
- * Returns a fault in words: its place, and what is wrong. `hint` is the page's explanation of it.
- * @param {Fault} fault
- * @param {string} text
- * @param {Hint} [hint]
- * @returns {(Node | string)[]}
- */
-function describeFault(fault, text, hint = isInText(fault) ? explainFault(fault, text) : {}) {
-  if (fault.kind === "limit") return [`The list could take too long, so it is refused. ${LIMITS[fault.name]}.`];
-  const { row, column } = hint.at ?? fault;
-  const place = row ? el("b", {}, `Line ${row}, column ${column}: `) : "";
-  const named = fault.name ? [fault.name, ": ", renderSentence(findSentence(fault.kind, fault.number)), ". "] : [];
-  const cause = hint.words ? renderSentence(`${hint.words} `) : named;
-  return [place, ...cause, ...(isInText(fault) && !hint.at ? renderSentence(explainMissingRowEnd(fault, text)) : [])];
+/** Returns in words that a list is refused, since it could take too long. */
+function describeLimit({ name }) {
+  return `The list could take too long, so it is refused. ${LIMITS[name]}.`;
 }
 
 /**
- * Marks a fault in the editor, with a hint on it, and unfolds the text. Returns where it is marked.
+ * Returns a fault of a text in words: its place, and what is wrong, by the `hint` on it or by lw's sentence.
  * @param {Fault} fault
+ * @param {string} text
+ * @param {Hint} hint
+ * @param {Hints | null} hints
+ * @returns {(Node | string)[]}
+ */
+function describeFault(fault, text, hint, hints) {
+  const { row, column } = hint.at ?? fault;
+  const place = row ? el("b", {}, `Line ${row}, column ${column}: `) : "";
+  const named = fault.name ? [fault.name, ": ", ...renderSentence(findSentence(fault.kind, fault.number)), ". "] : [];
+  const cause = hint.words ? renderSentence(`${hint.words} `) : named;
+  return [place, ...cause, ...(hints && !hint.at ? renderSentence(hints.explainMissingRowEnd(fault, text)) : [])];
+}
+
+/**
+ * Marks a fault in the editor, with its `words` and what the hint on it proposes, and unfolds the text. Returns where it is marked.
+ * @param {Fault} fault
+ * @param {(Node | string)[]} words
+ * @param {Hint} hint
+ * @param {Hints | null} hints
  * @param {Editor} editor
  * @returns {{row: number}}
  */
-function showFaultInEditor(fault, editor) {
-  const hint = explainFault(fault, editor.text);
+function showFaultInEditor(fault, words, hint, hints, editor) {
   const marked = { ...fault, ...hint.at };
   const { change, also, command } = hint;
   fold(false);
@@ -108,11 +137,42 @@ function showFaultInEditor(fault, editor) {
   const read = file && el("a", { href: file, target: "reading" }, title);
   const makeApply = (it) => it && makeButton(it.title ?? `Change it to ${it.text}`, () => applyChange(it, editor), { class: "apply" });
   const copyIt = command && makeButton("Copy the command", () => copy(command, findById("said")), { class: "apply" });
-  const goTo = makeButton("Go to it", () => editor.goToFault(), { class: "go-to" });
-  findById("fault").replaceChildren(
-    el("p", { class: "notice" }, describeFault(fault, editor.text, hint), " ", read, " ", makeApply(change), makeApply(also), copyIt, " ", goTo, makeFaultLine(fault)),
-  );
+  const goTo = makeButton("Go to it", () => editor.goTo(marked.index), { class: "go-to" });
+  const further = el("div", { class: "further", role: "status" });
+  const buttons = [makeApply(change), makeApply(also), copyIt, " ", goTo];
+  findById("fault").replaceChildren(el("p", { class: "notice" }, words, " ", read, " ", buttons, makeFaultLine(fault), further));
+  if (hints) showFurtherFaults({ fault, hint }, hints, further, editor);
   return marked;
+}
+
+/**
+ * Shows at a place where the faults after the first one of a text are, once they are found: a button goes to each and shows its sentence. Another
+ * one changes all if it is known how.
+ * @param {{fault: Fault, hint: Hint}} first
+ * @param {Hints} hints
+ * @param {Element} place
+ * @param {Editor} editor
+ */
+async function showFurtherFaults(first, hints, place, editor) {
+  const { text } = editor;
+  const findFault = async (mended) => {
+    const answer = await ask(editor, "compile", { text: mended }, { name: "further faults" });
+    return answer?.compiled ? null : answer?.fault;
+  };
+  const { faults, change } = await hints.findFurtherFaults(first, text, findFault);
+  if (!faults.length) return;
+  const count = faults.length + 1;
+  const sentence = el("div");
+  const makePlace = ({ fault: it, hint }) => {
+    const show = () => {
+      editor.goTo(hint.at.index);
+      sentence.replaceChildren(el("span", {}, describeFault(it, text, hint, hints)));
+    };
+    return makeButton(`line ${hint.at.row}, column ${hint.at.column}`, show, { class: "link", title: hint.words?.replaceAll("`", "") });
+  };
+  const places = faults.flatMap((it) => [" · ", makePlace(it)]);
+  const changeAll = () => applyChange({ ...change, done: `${count} places are changed.` }, editor);
+  place.append("Also: ", ...places.slice(1), " ", change ? makeButton(`Change all ${count}`, changeAll, { class: "apply" }) : "", sentence);
 }
 
 /**

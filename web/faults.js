@@ -11,9 +11,8 @@ import { explainRaggedRows } from "./ragged.js";
 import { TEMPLATE } from "./template.js";
 import { readTest } from "./tests.js";
 import { REGISTERS, WORD } from "./token_reader.js";
-import { beginsWithX86, blankComments } from "./tokens.js";
+import { beginsWithX86, blankComments, findToken } from "./tokens.js";
 
-const TOKEN = /0x[\da-fA-F]+|\d\w*|[A-Za-z_]\w*|:=|[!=]=|=>|<>|&&|\|\||\/\\|\\\/|[^]/uy;
 const STATEMENTS =
   "A statement is `x := 1` or `x := r0` (a store), `r0 := x` (a load), `r0 := 1`, `r0 := r1 + 1`, `r0 := swap x r1`, `r0 := fetchadd x r1`, " +
   "`if r0 = 1 goto L` or `goto L`.";
@@ -26,7 +25,10 @@ const QUESTIONS = ["exists", "forall"];
 const HEADS = ["SRC", "X86"];
 // The labels before an instruction in its cell.
 const LABELS = /^(?:\w+\s*:\s*)*$/;
-const QUESTION_OR_LIST = /(?:[~!]|\bnot\b)?\s*\b(?:exists|forall|locations|filter)\b|\b(?:forbidden|never|allowed|required|always)\s*\(/i;
+const QUESTION_OR_LIST = /(?:(?:[~!]|\bnot\b)\s*)?\b(?:exists|forall|locations|filter)\b|\b(?:forbidden|never|allowed|required|always)\s*\(/i;
+// The line before the code of a thread, as in `P0:`, and how a question begins, or the list of locations before it.
+const HEADING = /^[ \t]*(?:#|\/\/|;)?[ \t]*(?:P|T|CPU|core|processor|thread)[ \t_]*\d[ \t]*(?::|$)/im;
+const QUESTION = /^[ \t]*(?:locations\b|filter\b|forall\b|(?:[~!]|not\b)?[ \t]*exists\b)/m;
 // A line of assembly.
 const ASSEMBLY = /^(?:[.\w]+:\s*)*(?:(?:lock|rep)\s+)?(?:mov|x?add|sub|cmp|xchg|inc|dec|test|x?or|and|j[nmez]|[mls]fence|nop|pause)\w*(?:\s[^;|{}=]*)?$/i;
 // A load, with its register, which is first, or last in AT&T's order; and a register that is an operand.
@@ -35,17 +37,6 @@ const OPERAND = /(?<!\[|\(%|\w)%?[er]([abcd]x|[sd]i)\b/gi;
 const MAX_THREADS = 4;
 // An instruction with the first of its two operands.
 const ONE_OPERAND = /\b(?:MOV|ADD|CMP|XCHG|XADD)\s+[\w[\]]+$/i;
-
-/**
- * Returns the token at an index of a text; it is empty at the end of the text.
- * @param {string} text
- * @param {number} index
- * @returns {string}
- */
-export function findToken(text, index) {
-  TOKEN.lastIndex = index;
-  return TOKEN.exec(text)?.[0] ?? "";
-}
 
 /** Returns a token in words, to begin a sentence. */
 function describeToken(token) {
@@ -356,14 +347,17 @@ function explainSpareEnds(name, text) {
 }
 
 /**
- * Returns the code of the threads in a text of instructions, each a list of lines: a blank line begins the next thread, unless a jump leaves its thread then,
- * or there are more threads than a test has.
+ * Returns the code of the threads in a text of instructions, each a list of lines. A line such as `P1:` or `Thread 1` begins a thread. If there is none, a
+ * blank line begins the next one, unless a jump leaves its thread then, or there are more threads than a test has.
  * @param {string} text
  * @returns {string[][]}
  */
 function splitThreads(text) {
   const listLines = (part) => part.split("\n").map((it) => it.trim()).filter((it) => it && !/^(?:ret\w*|\.[^:]*)$/.test(it));
-  const threads = text.replace(/;[ \t]*$/gm, "").split(/\n\s*\n/).map(listLines).filter((it) => it.length);
+  const split = (mark) => text.replace(/;[ \t]*$/gm, "").split(mark).map(listLines);
+  const [front, ...named] = split(HEADING);
+  if (!front.length && named.length && named.length <= MAX_THREADS) return named;
+  const threads = split(/\n\s*\n/).filter((it) => it.length);
   const listLabels = (code, pattern) => code.flatMap((it) => [...it.matchAll(pattern)].map(([, label]) => label));
   const isLeft = (code) => listLabels(code, /\bj\w+\s+([.\w]+)$/gi).some((it) => !listLabels(code, /([.\w]+)\s*:/g).includes(it));
   return threads.length > MAX_THREADS || threads.some(isLeft) ? [threads.flat()] : threads;
@@ -385,20 +379,22 @@ function makeQuestion(threads) {
   return { list: listed.length ? `locations [${listed.map((it) => `${it};`).join(" ")}]\n` : "", question, isAsked: asked.length > 0 };
 }
 
-/** Returns a sentence that says that a text has only instructions, and proposes to make a test of them; or "". */
+/** Returns a sentence that says that a text has only instructions, with a question or without one, and proposes to make a test of them; or "". */
 function explainAssembly(place) {
-  const threads = splitThreads(place.text);
+  const end = place.text.search(QUESTION);
+  const code = end < 0 ? place.text : place.text.slice(0, end);
+  const threads = splitThreads(code);
   if (!threads.length || !threads.flat().every((it) => ASSEMBLY.test(it))) return "";
   const names = threads.map((_, thread) => `P${thread}`);
   const rows = Array.from({ length: Math.max(...threads.map((it) => it.length)) }, (_, row) => threads.map((it) => it[row] ?? ""));
   const { list, question, isAsked } = makeQuestion(threads);
-  const made = `X86 Mine\n{}\n${[names, ...rows].map((it) => ` ${it.join(" | ")} ;\n`).join("")}${list}exists (${question})\n`;
-  const { text, words } = rewriteWhole(made);
+  const tail = end < 0 ? `${list}exists (${question})\n` : place.text.slice(end);
+  const { text, words } = rewriteWhole(`X86 Mine\n{}\n${[names, ...rows].map((it) => ` ${it.join(" | ")} ;\n`).join("")}${tail}`);
   place.proposeChange(threads.length > 1 ? alignCells(text) : text, 0, place.text.length);
   place.change.title = threads.length > 1 ? `Make ${formatNames(names)} of them` : "Make it P0 of a test";
-  const division = threads.length > 1 ? " A blank line begins the next thread." : "";
-  const asked = isAsked ? " The question is a guess: change it to yours." : " The question `true` holds always: look at the list of states.";
-  return `These are instructions without a test around them.${division}${asked} ${words}`.trim();
+  const division = threads.length < 2 || code.search(HEADING) >= 0 ? "" : " A blank line begins the next thread.";
+  const guess = isAsked ? " The question is a guess: change it to yours." : " The question `true` holds always: look at the list of states.";
+  return `These are instructions without a test around them.${division}${end < 0 ? guess : ""} ${words}`.trim();
 }
 
 /** Returns a sentence that says that a text is empty, and proposes a small test in its place; or "" if that is not so. */
@@ -471,8 +467,8 @@ const SENTENCES = {
   "text Unexpected": (place) =>
     explainComment(place) ||
     explainOpenBlock(place) ||
-    explainMissingFront(place) ||
     explainAssembly(place) ||
+    explainMissingFront(place) ||
     explainLacked(place) ||
     explainConstant(place) ||
     explainMisspeltQuestion(place) ||
@@ -530,7 +526,7 @@ export function explainFault(fault, text) {
   const other = kind === "text" && findOtherLanguage(place);
   const choice = rewriting?.also ? " The other button makes x86 code of the rows, which may have more states." : "";
   if (rewriting?.isWhole && (rewriting.count > 1 || other)) return { ...rewriting, words: rewriting.words + choice };
-  if (other) return { ...other, change: null };
+  if (other) return { ...other, change: place.change };
   const rows = explainSpareEnds(name, text) ?? explainRowsWithoutEnd(fault, text) ?? (/^(?:Ragged|Form|Unexpected)$/.test(name) ? explainRaggedRows(text) : null);
   if (rows) return rows;
   const words = SENTENCES[`${kind} ${name}`]?.(place) ?? null;

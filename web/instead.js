@@ -46,9 +46,10 @@ const isLocation = (operand) => /^(?!r\d+$)[A-Za-z_]/.test(operand);
 
 /**
  * Returns source statements that do what one with `++`, `+=`, `-`, a location in a sum or a copied location does, with a free register; none if it is no such
- * statement, or a difference of registers.
+ * statement, has words without a sign between them, or is a difference of registers.
  */
 function listSumSteps(code, register) {
+  if (/\w\s+\w/.test(code)) return [];
   const short = code.replace(/\s/g, "").replace(/^([+-])\1(\w+)$|^(\w+)([+-])\4$/, "$2$3$1$4=1");
   const copied = /^(\w+):=(\w+)$/.exec(short)?.slice(1) ?? [];
   if (copied.length && copied.every((it) => isLocation(it) && !isReserved(it))) return [`${register} := ${copied[1]}`, `${copied[0]} := ${register}`];

@@ -22,7 +22,7 @@ import { bindTheme, caches, largeType } from "./preferences.js";
 import { Present } from "./present.js";
 import { chooseRandomTest, showScore } from "./score.js";
 import { States } from "./states.js";
-import { fetchTable, hasServer, keepSite } from "./supplies.js";
+import { fetchTable, hasServer, keepSite, loadHints } from "./supplies.js";
 import { Tabs, VIEWS } from "./tabs.js";
 import { loadSentences, clearFault } from "./errors.js";
 import { findNearest } from "./nearest.js";
@@ -443,6 +443,8 @@ async function begin() {
   document.body.dataset.ready = "true";
   address.watchLinks(followFrom);
   await Promise.all([showWhere(), keepSite()]);
+  // A fault asks for them again if they do not come.
+  loadHints().catch(() => null);
 }
 
 begin();

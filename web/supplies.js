@@ -1,4 +1,4 @@
-// Gets what the page needs besides its own code: the tables, the module, and the worker that asks it. If the page is a
+// Gets what the page needs besides its first code: the hints, the tables, the module, and the worker that asks it. If the page is a
 // site of files (tools/make_site.py) they come in scripts of its own, in an object by the name `site`; otherwise `./page` serves them.
 
 const site = globalThis.site ?? null;
@@ -67,6 +67,28 @@ function runScript(name) {
     script.onerror = () => reject(new Error(`${name} does not come`));
     document.head.append(script);
   });
+}
+
+// The functions of hints.js, once they are asked for.
+let hints = null;
+
+/**
+ * Returns the functions of hints.js, which are loaded when they are first asked for. Rejects if they do not come; then the next call asks again.
+ * @returns {Promise<{explainFault: Function, explainMissingRowEnd: Function, findFurtherFaults: Function}>}
+ */
+export function loadHints() {
+  hints ??= site ? runHints() : import("./hints.js").then((it) => it.hints);
+  hints.catch(() => (hints = null));
+  return hints;
+}
+
+/** Has the site's script of the hints loaded, and runs it. Returns its functions. Rejects if it does not come. */
+async function runHints() {
+  if (!site.packedHints) await runScript("hints.js");
+  const script = document.createElement("script");
+  script.text = new TextDecoder().decode(await unpack(site.packedHints));
+  document.body.append(script);
+  return site.hints;
 }
 
 /**

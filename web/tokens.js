@@ -7,6 +7,8 @@ const TOKEN = new RegExp(
     "|(?<symbol>:=|!=|/\\\\|\\\\/|[{}\\[\\]()|;:,$=+~])",
   "y",
 );
+// A token, or what may be meant as one.
+const WRITTEN = /0x[\da-fA-F]+|\d\w*|[A-Za-z_]\w*|:=|[!=]=|=>|<>|&&|\|\||\/\\|\\\/|[^]/uy;
 const KEY = /[A-Za-z0-9_-]+[ \t]*=[^\n]*/y;
 const HEADING = /(SRC|X86)[ \t\r\n]+([!-~]{1,128})(?![^ \t\r\n])/y;
 const BLANKS = " \t\r\n";
@@ -164,4 +166,15 @@ export function parseName(text) {
   } catch {
     return "A test";
   }
+}
+
+/**
+ * Returns the token at an index of a text, or what may be meant as one; it is empty at the end of the text.
+ * @param {string} text
+ * @param {number} index
+ * @returns {string}
+ */
+export function findToken(text, index) {
+  WRITTEN.lastIndex = index;
+  return WRITTEN.exec(text)?.[0] ?? "";
 }

@@ -16,6 +16,7 @@ import readline from "node:readline";
 import { fileURLToPath, pathToFileURL } from "node:url";
 import { isDeepStrictEqual, parseArgs } from "node:util";
 import { MessageChannel, Worker, receiveMessageOnPort } from "node:worker_threads";
+import { compareCPrograms } from "./c_programs.mjs";
 
 const HOME = path.dirname(path.dirname(path.dirname(fileURLToPath(import.meta.url))));
 const PROGRAM = `${HOME}/crates/lw/out/lw`;
@@ -175,8 +176,8 @@ async function loadPage() {
     for (const name of names) fs.copyFileSync(`${HOME}/web/${name}`, `${room}/${name}`);
     const load = (name) => import(pathToFileURL(`${room}/${name}.js`).href);
     const parts = [
-      "aligned", "condition_words", "differences", "faults", "fence_edit", "finding", "module", "nearest", "program", "questions", "replays",
-      "seen_here", "served", "slips", "verdicts",
+      "aligned", "condition_words", "differences", "faults", "fence_edit", "finding", "further_faults", "module", "nearest", "program", "questions",
+      "replays", "seen_here", "served", "slips", "verdicts",
     ];
     const loaded = await Promise.all(parts.map(load));
     return Object.fromEntries(parts.map((name, at) => [name, loaded[at]]));
@@ -708,6 +709,60 @@ function compareHints(page, program, tally) {
   }
 }
 
+/** Returns the indices of the first fault of a text and of its further faults, as the page names them, and the text that it proposes, or null. */
+async function findAllFaults(page, program, text) {
+  const findFault = async (asked) => page.questions.answerQuestion(program, "compile", { text: asked }).fault ?? null;
+  const fault = await findFault(text);
+  const hint = page.faults.explainFault(fault, text);
+  const { faults, change } = await page.further_faults.findFurtherFaults({ fault, hint }, text, findFault);
+  const places = [hint.at ?? fault, ...faults.map((it) => it.hint.at)];
+  const lines = text.split("\n");
+  const findIndex = ({ row, column }) => [...lines.slice(0, row - 1), [...lines[row - 1]].slice(0, column - 1).join("")].join("\n").length;
+  return { indices: places.map((it) => it.index), mended: change?.text ?? null, arePlaces: places.every((it) => findIndex(it) === it.index) };
+}
+
+/** Compares the faults that the page finds in typed texts, and in examples with a spare mark in three rows, or a misspelt instruction in three. */
+async function compareFurtherFaults(page, program, tally, texts) {
+  const edit = (edits) => edits.reduce((whole, [part, other]) => whole.replace(part, () => other), RIGHT);
+  for (const [edits, marks, others] of FURTHER_FAULTS) {
+    const text = edit(edits);
+    const { indices, mended, arePlaces } = await findAllFaults(page, program, text);
+    const expected = [marks.map((mark) => text.lastIndexOf(mark)), others && edit(others), true];
+    tally.compare(`the faults of ${JSON.stringify(edits)}`, expected, [indices, mended, arePlaces]);
+  }
+  for (const [name, text] of texts) {
+    for (const spoil of [addSpareMarks, misspellInstructions]) {
+      const { spoilt, indices: expected } = spoil(text);
+      if (expected.length < 3) continue;
+      const { indices, mended } = await findAllFaults(page, program, spoilt);
+      const ascending = indices.sort((one, other) => one - other);
+      tally.compare(`${name}: three faults by ${spoil.name}`, [expected, spoil === addSpareMarks ? null : text], [ascending, mended]);
+    }
+  }
+}
+
+/** Returns a text of which the first three lines that a pattern matches have a part, the pattern's group, replaced; and where that differs. */
+function spoilLines(text, pattern, change) {
+  const begin = text.search(/^ P0\b/m);
+  let [spoilt, indices] = [text.slice(0, begin), []];
+  for (const line of text.slice(begin).split(/(?<=\n)/)) {
+    const front = indices.length < 3 && !/^ P0\b|\(\*|exists|forall|locations/.test(line) ? pattern.exec(line)?.[1] : undefined;
+    if (front !== undefined) indices.push(spoilt.length + front.length);
+    spoilt += front === undefined ? line : front + change(line.slice(front.length));
+  }
+  return { spoilt, indices };
+}
+
+/** Returns a text with a spare `)` at the ends of the last cells of three rows; and where these marks are. */
+function addSpareMarks(text) {
+  return spoilLines(text, /^(.*[\w\]] *);$/m, (rest) => `) ${rest}`);
+}
+
+/** Returns a text with `MVO` in place of the first `MOV` of three rows; and where these words are. */
+function misspellInstructions(text) {
+  return spoilLines(text, /^(.*?)\bMOV\b/, (rest) => rest.replace("MOV", "MVO"));
+}
+
 const NO_COMMA = "The operands of an instruction have a comma between them.";
 const NO_CONSTANT = "A constant is a whole number from 0 to 4294967295.";
 const NO_NEGATIVE = "lw has no negative numbers: in a word of 32 bits -1 is 4294967295.";
@@ -875,6 +930,31 @@ const HINTS = [
   ["$1", "$4294967296", NO_CONSTANT, undefined, undefined],
 ];
 
+// Edits of the right text; what is at the first fault then and at the further ones, from top to bottom; and of the text that is proposed the edits.
+const FURTHER_FAULTS = [
+  [[["MOV [x]", "MVO [x]"]], ["MVO"], []],
+  [[["MOV [x]", "MVO [x]"], ["MFENCE", "MFENC"], ["XCHG", "XCHNG"]], ["MVO", "MFENC", "XCHNG"], []],
+  [[["MOV [x]", "FOO [x]"], ["MFENCE", "MFENC"], ["/\\ 1", "&& 1"]], ["&&", "FOO", "MFENC"], null],
+  [[["X86", "x86"], ["MFENCE", "(* é𝄞 *) MFENCE zz"], ["exists", "exist"]], ["exist", "x86", "zz"], null],
+  [[["X86", "x86"], ["MFENCE", "MFENC"], ["MOV EAX", "MVO EAX"]], ["x86", "MVO", "MFENC"], []],
+  // The first change is of two places, between which there is another fault.
+  [[["[x],$1", "x,#1"], ["MFENCE", "MFENC"], ["/\\ 1", "&& 1"]], ["#1", "MFENC"], []],
+  // Rows that are put in do not move what is below them, and what is too many by them is no fault of the text.
+  [[["MOV EAX,[x]", "INC [x]"], ["XCHG", "XCHNG"]], ["INC", "XCHNG"],
+    [["MOV EAX,[x]", `MOV EBX,[x] ;\n${OTHER} ADD EBX,$1 ;\n${OTHER} MOV [x],EBX`]]],
+  [[["MOV EAX,[x]", "INC [x]"], [" MFENCE |", `${" | MFENCE ;\n".repeat(30)} MFENCE |`]], ["INC"], null],
+  // A label that lacks its mark is not missing, too; and a label in front of a fault stays.
+  [[["MOV EAX,[x]", "JMP L"], ["XCHG", "L XCHG"]], ["L XCHG"], null],
+  [[["MOV [x],$1", "JMP L"], ["MFENCE", "L: FOO"], ["XCHG", "XCHNG"]], ["FOO", "XCHNG"], null],
+  // Of a cell the first fault is named, and all are changed.
+  [[["MOV [x],$1", "MVO EXA,$1"], ["XCHG", "XCHNG"]], ["MVO", "XCHNG"], [["MOV [x],$1", "MOV EAX,$1"]]],
+  // After a fault of the text that has no change, and without a first line, nothing is known.
+  [[["[x] ;", "[y] [x]"], ["MFENCE", "MFENC"]], [";\nexists"], null],
+  [[["X86", "x86"], ["[x] ;", "[y] [x]"], ["MFENCE", "MFENC"]], ["x86", ";\nexists"], null],
+  [[["X86 A\n", ""], ["MFENCE", "MFENC"]], ["{ x=0 }"], null],
+  [[["MOV [x]", "MVO [x]"], ["X86", "x86"], [" /\\ 1:EAX=0)\n", " /\\"]], ["x86", ""], null],
+];
+
 /** Returns the examples by family, as tools/page/web_files.py makes them. */
 function familiesOfPage() {
   const lines = ["import json", "from page import web_files", "print(json.dumps(web_files.list_families()))"];
@@ -935,13 +1015,13 @@ const VERDICTS = [
   ["SB", `Can a run ${BY_TURNS} end this way`, false, null, "no", "Forbidden.",
     "There is no run by interleaving in which P0 reads `y=0` and P1 reads `x=0`."],
   ["SB-x86", "Can a run on x86-TSO end this way", true, 0, "can", "Allowed.", "There is a run in which P0 reads `y=0` and P1 reads `x=0`."],
-  ["MP-x86", "Can a run on x86-TSO end this way", false, null, "no", "Forbidden.", "There is no run in which P1 reads `y=1`, then `x=0`."],
+  ["MP-x86", "Can a run on x86-TSO end this way", false, null, "yes", "Forbidden.", "There is no run in which P1 reads `y=1`, then `x=0`."],
   ["Counter", `Does every run ${BY_TURNS} end this way`, true, null, "yes", "Always.", "In every run by interleaving memory ends with `x=2`."],
-  ["CoRW", `Can a run ${BY_TURNS} end this way`, false, null, "no", "Forbidden.",
+  ["CoRW", `Can a run ${BY_TURNS} end this way`, false, null, "yes", "Forbidden.",
     "There is no run by interleaving in which P0 reads `x=1`, or P0 reads `x=2` and memory ends with `x=2`."],
-  ["ByteLock", `Can a run ${BY_TURNS} end this way`, false, null, "no", "Forbidden.",
+  ["ByteLock", `Can a run ${BY_TURNS} end this way`, false, null, "yes", "Forbidden.",
     "There is no run by interleaving in which P0 and P1 both end with `r2=1`, or P0 and P2 both end with `r2=1`."],
-  ["TryLock", `Can a run ${BY_TURNS} end this way`, false, null, "no", "Forbidden.",
+  ["TryLock", `Can a run ${BY_TURNS} end this way`, false, null, "yes", "Forbidden.",
     "There is no run by interleaving in which P0 and P1 both end with `r0=0` and memory ends with `n≠2`."],
 ];
 const COUNTS = [
@@ -1005,6 +1085,8 @@ async function main() {
   compareSlips(page, tally);
   compareHints(page, program, tally);
   compareSourceHints(page, program, tally);
+  await compareCPrograms((...compared) => tally.compare(...compared));
+  await compareFurtherFaults(page, program, tally, texts);
   if (!chosen.length) compareFinding(page, tally, familiesOfPage());
   if (!chosen.length) compareTyped(page, program, tally);
   const work = async () => {

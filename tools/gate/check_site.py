@@ -133,6 +133,9 @@ def check_bundles() -> Iterator[Comparison]:
             whole = make_site.bundle_module(entry, make_site.WEB)
             needed, found = (sorted(re.findall(r"^const from_\w+ = \(", it, re.M)) for it in (whole, shared + part))
             yield f"the parts of the page's code have each module that {entry}.js needs once", needed, found
+        scripts = (make_site.bundle_module("hints", make_site.WEB), shared + rest[0], rest[-1])
+        of_hints, of_page, packed = (set(re.findall(r"^const from_\w+ = \(", it, re.M)) for it in scripts)
+        yield "the hints are the modules that hints.js needs and the page lacks", (of_hints - of_page, True), (packed, "const from_faults = (" in packed)
         yield "the page's code says the same if it is shortened", "the same", compare_tokens("".join(make_site.bundle_page(make_site.WEB)))
         for fault, text in REFUSED:
             make_site.write_file(f"{web}/main.js", text)
@@ -172,7 +175,7 @@ def check_files() -> Iterator[Comparison]:
         with open(f"{folder}/site/tables.js", encoding="utf-8") as stream:
             yield "a site says where it comes from", True, "in the repository that this site was made from" in stream.read()
         names = sorted(os.listdir(f"{folder}/site"))
-        page = ["icon.svg", "index.html", "offline.js", "page.js", "style.css", "tables.js", "workbench1.js"]
+        page = ["hints.js", "icon.svg", "index.html", "offline.js", "page.js", "style.css", "tables.js", "workbench1.js"]
         slides = [documents.SLIDES] if make_slides.make_page_if_built() else []
         expected = sorted([*page, *documents.DOCUMENTS, documents.SHEET, documents.QUIZ, *slides, documents.STYLE, documents.SCRIPT])
         yield "the files of a site", expected, names

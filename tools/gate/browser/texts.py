@@ -1,12 +1,19 @@
 """The text of a test: faults, limits, files, and the reader's own test."""
 from __future__ import annotations
 
+from urllib.parse import quote
+
 from gate.browser.page_case import PageCase
+from gate.browser.sizes import IN_WINDOW
 from gate.browser.user import read
 from shared.home import HOME
 
 FIVE = "SRC Five\n{}\n P0 | P1 ;\n" + " x := 1 | x := 2 ;\n" * 5 + "exists (x=1)\n"
 HEIGHT = "return document.getElementById('gallery').offsetHeight"
+MENDED = (
+    "X86 A\n{}\n P0         | P1          ;\n MOV [x],$1 | MOV EAX,[y] ;\n MFENCE     | MFENCE      ;\n MOV [y],$1 | MOV EBX,[x] ;\n"
+    "exists (1:EAX=1 /\\ 1:EBX=0)\n"
+)
 OWN = "SRC Own\n{}\n P0 | P1 ;\n x := 1 | r0 := x ;\nexists (1:r0=1)\n"
 
 
@@ -32,6 +39,57 @@ class Faults(PageCase):
         self.assertEqual(["No answer: line 4 of the text has a fault."], user.texts("#outcome .list-place"))
         user.click("#fault .go-to")
         self.assertEqual("text", user.focused().get_attribute("id"))
+
+    def test_further(self) -> None:
+        """The other faults are below the first: a click goes to one and shows its sentence. A button changes all, and *Undo* brings the text back."""
+        user = self.user
+        user.open_listed()
+        text = MENDED.replace("MOV [x]", "MVO [x]").replace("MFENCE     |", "MFENC     |").replace("MOV EBX", "MVO EBX")
+        user.run_text(text)
+        self.assertSays("Line 4, column 2: MVO does not fit here.", "#fault")
+        self.assertSoon(["Also: line 5, column 2 · line 6, column 15 Change all 3"], lambda: user.texts("#fault .further"))
+        self.assertEqual("✗ 4", user.text(".numbers .faulty"))
+        user.click("#fault .further .link:nth-of-type(2)")
+        self.assertSoon(text.index("MVO EBX"), lambda: user.run("return document.getElementById('text').selectionStart"))
+        self.assertSays("Line 6, column 15: MVO does not fit here.", "#fault .further")
+        user.click("#fault .further .apply")
+        self.assertSoon(MENDED, user.value)
+        self.assertSays("Forbidden.", "#outcome .verdict")
+        self.assertSoon([], lambda: user.texts("#fault p"))
+        self.assertSays("3 places are changed. Undo", "#said")
+        user.click("#undo")
+        self.assertSoon(text, user.value)
+        self.assertSays("Line 4, column 2: MVO does not fit here.", "#fault")
+
+    def test_further_kinds(self) -> None:
+        """Without a change for each fault no button changes all. Of one fault there is no such line, and of an edited text that of its own faults."""
+        user = self.user
+        user.open_listed()
+        user.run_text(MENDED.replace("MOV [x],$1", "FOO [x],$1").replace("1 /\\ 1", "1 && 1").replace("MOV EBX", "MVO EBX"))
+        self.assertSays("Line 7, column 17:", "#fault b")
+        self.assertSoon(["Also: line 4, column 2 · line 6, column 15"], lambda: user.texts("#fault .further"))
+        self.assertEqual([], user.all("#fault .further .apply"))
+        user.run_text(MENDED.replace("MFENCE     |", "MFENC     |"))
+        self.assertSays("Line 5, column 2: MFENC does not fit here.", "#fault")
+        user.paste(MENDED.replace("MOV [x]", "MVO [x]").replace("MOV EBX", "MVO EBX"))
+        self.assertSoon(["Also: line 6, column 15 Change all 2"], lambda: user.texts("#fault .further"))
+        user.paste(MENDED.replace("MOV EBX", "MVO EBX"))
+        self.assertSays("Line 6, column 15: MVO does not fit here.", "#fault")
+        self.assertEqual([], user.all("#fault .further button"))
+
+    def test_further_on_a_phone(self) -> None:
+        """On a phone the places of the other faults are on several lines, and nothing is cut."""
+        user = self.user
+        user.resize(390, 844)
+        user.open(f"#text={quote(MENDED.replace('MOV', 'MVO'))}")
+        places = "line 4, column 15 · line 6, column 2 · line 6, column 15"
+        self.assertSoon([f"Also: {places} Change all 4"], lambda: user.texts("#fault .further"))
+        tops = "return new Set([...document.querySelectorAll('#fault .further button')].map((it) => Math.round(it.getBoundingClientRect().top))).size"
+        self.assertTrue(user.run(tops) > 1)
+        self.assertTrue(user.run(IN_WINDOW, "#fault *"))
+        user.click("#fault .further .link")
+        self.assertSays("Line 4, column 15: MVO does not fit here.", "#fault .further")
+        self.assertTrue(user.run(IN_WINDOW, "#fault *"))
 
     def test_token(self) -> None:
         """The whole token of a fault is marked, and a sentence says what is expected there."""
@@ -333,6 +391,17 @@ class Faults(PageCase):
         user.click("#fault .apply")
         self.assertSoon("X86 Mine\n{}\n P0 ;\n mov [x],1 ;\n mov [y],1 ;\nlocations [x; y;]\nexists (true)\n", user.value)
 
+    def test_named_blocks(self) -> None:
+        """Of blocks of instructions, each below a line with its thread's name, a button makes a test, with the question below them."""
+        user = self.user
+        user.open_listed()
+        user.run_text("P0:\n mov [x], 1\n\n mov eax, [y]\nP1:\n mov [y], 1\n mov eax, [x]\nexists (0:eax=0 && 1:eax=0)\n")
+        self.assertSays("These are instructions without a test around them. In a question, and is /\\, or is \\/, not is ~.", "#fault")
+        user.click("#fault .apply")
+        rows = " P0           | P1           ;\n mov [x], 1   | mov [y], 1   ;\n mov eax, [y] | mov eax, [x] ;\n"
+        self.assertSoon(f"X86 Mine\n{{}}\n{rows}exists (0:eax=0 /\\ 1:eax=0)\n", user.value)
+        self.assertSays("Allowed.", "#outcome .verdict")
+
     def test_c_rows(self) -> None:
         """Rows in C become instructions by a button; of calls and of threads in C the page says what compiles them, with the command to copy."""
         user = self.user
@@ -340,18 +409,46 @@ class Faults(PageCase):
         text = "X86 t\n{}\n P0 | P1 ;\n MOV [x],$1 | MOV EAX,[y] ;\n MFENCE | MOV EBX,[x] ;\nexists (1:EAX=1 /\\ 1:EBX=0)\n"
         in_c = text.replace("MOV [x],$1", "WRITE_ONCE(*x, 1)").replace("MOV EAX,[y]", "int r0 = READ_ONCE(*y)").replace("MFENCE", "smp_mb()").replace("MOV EBX,[x]", "r1 = *x")
         user.run_text(in_c.replace("1:EAX", "1:r0"))
-        self.assertSays("This is C. As x86 code a store is MOV [x],$1, a load MOV EAX,[x], and a fence MFENCE.", "#fault")
+        self.assertSays("This is C. As x86 code a plain or relaxed store is MOV [x],$1 (a seq_cst store is an XCHG), a load MOV EAX,[x], and a fence MFENCE.", "#fault")
         self.assertEqual("Rewrite all 5 places", user.text("#fault .apply"))
         user.click("#fault .apply")
         self.assertSoon(text, user.value)
         user.run_text(text.replace("MOV [x],$1", "atomic_store(&x,1)"))
         self.assertSays("atomic_store(&x,1) is a call in C, and no instruction. tools/from_c.py compiles programs in C", "#fault")
-        user.run_text("X86 t\n{}\nP0 (atomic_int *x) {\n *x = 1;\n}\nexists (x=1)\n")
+        user.run_text("X86 t\n{}\nP0 (atomic_int *x) {\n if (*x) *x = 1;\n}\nexists (x=1)\n")
         self.assertSays("The threads are functions in C: the first word is C then.", "#fault")
         self.assertSays("save this as t.c, then python3 tools/from_c.py --show t.c prints a test for this page.", "#fault")
         user.run("document.execCommand = () => false; Object.defineProperty(navigator, 'clipboard', { value: undefined })")
         user.click("#fault .apply")
         self.assertSoon("python3 tools/from_c.py --show t.c", lambda: user.value("#said input"))
+
+    def test_c_program(self) -> None:
+        """Of a simple program in C a button makes an x86 test, beside that which copies the command; of another one the page says what is not simple."""
+        user = self.user
+        user.open_listed()
+        program = (
+            "#include <stdatomic.h>\natomic_int x, y;\nvoid P0(void) { atomic_store(&x, 1); int r0 = atomic_load(&y); }\n"
+            "void P1(void) { y = 1; int r0 = x; }\n// lw: exists (0:r0=0 /\\ 1:r0=0)\n"
+        )
+        rows = " P0           | P1           ;\n MOV EBX,$1   | MOV EBX,$1   ;\n XCHG [x],EBX | XCHG [y],EBX ;\n MOV EAX,[y]  | MOV EAX,[x]  ;\n"
+        made = f"X86 Mine\n(* 0:EAX is r0, 1:EAX is r0 *)\n{{ x=0; y=0; }}\n{rows}exists (0:EAX=0 /\\ 1:EAX=0)\n"
+        user.run_text(program)
+        self.assertSays("The button rewrites it, which is not proved: each access as gcc and clang compile it, in the order of the program.", "#fault")
+        self.assertEqual(["Rewrite it as an x86 test", "Copy the command"], user.texts("#fault .apply"))
+        user.click("#fault .apply")
+        self.assertSoon(made, user.value)
+        self.assertSays("Forbidden.", "#outcome .verdict")
+        self.assertSays("Rewritten. Undo", "#said")
+        user.click("#undo")
+        self.assertSoon(program, user.value)
+        herd = "C SB\n{}\nP0 (volatile int* x, volatile int* y) { *x = 1; int r0 = *y; }\nP1 (volatile int* x, volatile int* y) { *y = 1; int r0 = *x; }\n"
+        user.run_text(f"{herd}exists (0:r0=0 /\\ 1:r0=0)\n")
+        user.click("#fault .apply")
+        self.assertSoon("X86 SB", lambda: user.value()[:6])
+        self.assertSays("Allowed.", "#outcome .verdict")
+        user.run_text(program.replace("int r0 = x", "if (x) y = 2"))
+        self.assertSays("A button rewrites straight-line threads of 32-bit loads, stores, exchanges, additions and fences, but not if (x) y = 2.", "#fault")
+        self.assertEqual(["Copy the command"], user.texts("#fault .apply"))
 
     def test_sums(self) -> None:
         """In place of a statement with a sum that the format lacks a button puts those that it has; of a register past r5 it puts one that is free."""
