@@ -130,7 +130,7 @@ function describeFault(fault, text, hint, hints) {
  */
 function showFaultInEditor(fault, words, hint, hints, editor) {
   const marked = { ...fault, ...hint.at };
-  const { change, also, command } = hint;
+  const { change, also, command, more } = hint;
   fold(false);
   editor.mark(marked);
   const [file, title] = documents.find(([it]) => it === hint.document) ?? [];
@@ -138,9 +138,12 @@ function showFaultInEditor(fault, words, hint, hints, editor) {
   const makeApply = (it) => it && makeButton(it.title ?? `Change it to ${it.text}`, () => applyChange(it, editor), { class: "apply" });
   const copyIt = command && makeButton("Copy the command", () => copy(command, findById("said")), { class: "apply" });
   const goTo = makeButton("Go to it", () => editor.goTo(marked.index), { class: "go-to" });
+  const other = more && el("div", { class: "small" }, renderSentence(`${more} `), read, " ", copyIt);
   const further = el("div", { class: "further", role: "status" });
-  const buttons = [makeApply(change), makeApply(also), copyIt, " ", goTo];
-  findById("fault").replaceChildren(el("p", { class: "notice" }, words, " ", read, " ", buttons, makeFaultLine(fault), further));
+  const buttons = [makeApply(change), makeApply(also), other ? "" : copyIt, " ", goTo];
+  findById("fault").replaceChildren(
+    el("p", { class: "notice" }, words, " ", other ? "" : read, " ", buttons, other, makeFaultLine(fault), further),
+  );
   if (hints) showFurtherFaults({ fault, hint }, hints, further, editor);
   return marked;
 }

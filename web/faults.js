@@ -513,11 +513,11 @@ const SENTENCES = {
 
 /**
  * Returns the explanation of a text's fault, a `Hint`: `words`, a sentence in which code is between backquotes, or null if the fault is not known;
- * the `document` on it and the `command` to call, if there are some; the proposed `change`, a text with the `begin` and the `end` of the part that it replaces, and a `title` if
+ * `more` words on what else can be done, the `document` on it and the `command` to call, if there are some; the proposed `change`, a text with the `begin` and the `end` of the part that it replaces, and a `title` if
  * the text says little, or null; `also` another one, if two are likely; and where the text is to be changed (`at`), if that is not the place of the fault.
  * @param {Fault} fault
  * @param {string} text
- * @returns {{words: string | null, document?: string, command?: string, change: {begin: number, end: number, text: string, title?: string} | null, also?: object, at?: object}}
+ * @returns {{words: string | null, more?: string, document?: string, command?: string, change: {begin: number, end: number, text: string, title?: string} | null, also?: object, at?: object}}
  */
 export function explainFault(fault, text) {
   const { kind, name, index } = fault;

@@ -17,8 +17,8 @@ const C =
 const OF_C = "`tools/from_c.py` compiles programs in C, C++ and Rust, and herd's tests in C";
 const OF_PROGRAM = " For that its threads are functions `P0`, `P1` and so on without parameters, and its last line asks, as `// lw: exists (0:r0=0)` does.";
 const OF_BUTTON =
-  "The button rewrites it, which is not proved: each access as gcc and clang compile it, in the order of the program. A compiler may also reorder " +
-  "or merge relaxed and plain accesses.";
+  "The button makes an x86 test of it: each access as gcc and clang compile it, in the order of the program. That is not proved, and a compiler may " +
+  "also reorder or merge relaxed and plain accesses.";
 const NOT_ASKED = " The question `true` holds always: look at the list of states.";
 const NO_BUTTON = "A button rewrites straight-line threads of 32-bit loads, stores, exchanges, additions and fences, but not";
 // How a program in Rust begins, what only C++ has, and how a thread in C begins.
@@ -33,12 +33,12 @@ const ENTRY = new RegExp(`^(?:(${TYPES}))?((?:\\d\\s*:\\s*)?\\w+)(?:\\s*=\\s*(\\
 const TYPED = new RegExp(`(?:[{;]|^)\\s*${TYPES}(?:\\d\\s*:\\s*)?\\w`);
 
 /**
- * Returns a hint on a program, that `words` say begins here: the `command` that prints its test, which a file of a likely name has. Proposes the test
- * in place of the whole text if the program is in C or C++ and simple, and otherwise says why it is not.
+ * Returns a hint on a program, that `words` say begins here: the `command` that prints its test, which a file of a likely name has. If the program is in C
+ * or C++ and simple, it proposes the test in place of the whole text, and the words on the command are `more`; otherwise it says why it is not.
  * @param {string} words
  * @param {string} text
  * @param {FaultPlace} place
- * @returns {{words: string, document: string, command: string}}
+ * @returns {{words: string, more?: string, document: string, command: string}}
  */
 function explainProgram(words, text, place) {
   const name = /^\s*(?:C|X86|SRC)\s+([\w+.-]+)/.exec(text)?.[1] ?? "mine";
@@ -52,8 +52,9 @@ function explainProgram(words, text, place) {
     place.proposeChange(made, 0, place.text.length);
     Object.assign(place.change, { title: "Rewrite it as an x86 test", done: "Rewritten." });
   }
-  const button = made ? `${OF_BUTTON}${made.endsWith("(true)\n") ? NOT_ASKED : ""} ` : "";
-  return { words: `${words} ${HERE} ${button}${how}${why ? ` ${NO_BUTTON} ${why}.` : ""}`, document: "from-c.html", command };
+  const hint = { document: "from-c.html", command };
+  if (made) return { words: `${words} ${OF_BUTTON}${made.endsWith("(true)\n") ? NOT_ASKED : ""}`, more: how, ...hint };
+  return { words: `${words} ${HERE} ${how}${why ? ` ${NO_BUTTON} ${why}.` : ""}`, ...hint };
 }
 
 /**
@@ -69,7 +70,7 @@ export function explainCall(code) {
  * Returns words on the first word of a text, if it is that of another language, the document that says what converts it, and the command that does so, if it
  * is known; or null. Of a simple program in C it proposes the test.
  * @param {FaultPlace} place
- * @returns {{words: string, document: string, command?: string} | null}
+ * @returns {{words: string, more?: string, document: string, command?: string} | null}
  */
 export function findOtherLanguage(place) {
   const { text, index, token } = place;

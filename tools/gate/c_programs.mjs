@@ -228,9 +228,11 @@ function comparePrograms(page, compare) {
     if (expected.startsWith("X86")) compare(`${what}: it is read`, true, isRead(expected));
   }
   for (const [what, text, begin, end, hasButton] of HINTS) {
-    const { words, command, document, change } = findHint(page, text);
+    const { words, more = "", command, document, change } = findHint(page, text);
+    const said = `${words} ${more}`.trim();
     const isCommand = command.startsWith("python3 tools/from_c.py --show ");
-    const found = [words.slice(0, begin.length), words.slice(words.length - end.length), change !== null, isCommand, document];
+    const found = [said.slice(0, begin.length), said.slice(said.length - end.length), change !== null, isCommand, document];
+    compare(`the hint on ${what}: the command comes after the button`, hasButton, more.includes(command));
     compare(`the hint on ${what}`, [begin, end, hasButton, true, "from-c.html"], found);
     const made = change && [change.begin, change.end, change.title, isRead(change.text)];
     compare(`the change of ${what}`, hasButton ? [0, text.length, "Rewrite it as an x86 test", true] : null, made);
@@ -364,11 +366,12 @@ exists (x=1)
     "this program: there are more than 8 locations"],
 ];
 
-const BEGIN = "This begins as a program or a test in C does. Here only `SRC` and `X86` tests are read.";
+const BEGIN = "This begins as a program or a test in C does.";
+const HERE = "Here only `SRC` and `X86` tests are read.";
 const BUTTON =
-  " The button rewrites it, which is not proved: each access as gcc and clang compile it, in the order of the program. A compiler may also reorder " +
-  "or merge relaxed and plain accesses.";
-const FIRST = "The threads are functions in C: the first word is `C` then. Here only `SRC` and `X86` tests are read.";
+  " The button makes an x86 test of it: each access as gcc and clang compile it, in the order of the program. That is not proved, and a compiler may " +
+  "also reorder or merge relaxed and plain accesses.";
+const FIRST = "The threads are functions in C: the first word is `C` then.";
 const NO_BUTTON = "A button rewrites straight-line threads of 32-bit loads, stores, exchanges, additions and fences, but not";
 const HINTS = [
   ["a program", `/* Mine. */\n${PROGRAM}`, `${BEGIN}${BUTTON} \`tools/from_c.py\` compiles`, "as `// lw: exists (0:r0=0)` does.", true],
@@ -378,9 +381,9 @@ const HINTS = [
     "`python3 tools/from_c.py --show SB+a.c` prints a test for this page. (In place of `READ_ONCE(*x)` it takes " +
     "`atomic_load_explicit(x, memory_order_relaxed)`.)", true],
   ["the first word X86", WHOLE[2][1], `${FIRST}${BUTTON}`, "`python3 tools/from_c.py --show SB.cc` prints a test for this page.", true],
-  ["a branch", PROGRAM.replace("int r0 = y;", "if (y) x = 2;"), `${BEGIN} \`tools/from_c.py\``,
+  ["a branch", PROGRAM.replace("int r0 = y;", "if (y) x = 2;"), `${BEGIN} ${HERE} \`tools/from_c.py\``,
     `${NO_BUTTON} \`if (y) x = 2\`. ${OF_BRANCHES}.`, false],
-  ["no thread", "C SB\n{}\n", `${BEGIN} \`tools/from_c.py\``, `${NO_BUTTON} \`C SB {}\`: threads are functions \`P0\`, \`P1\` and so on.`, false],
+  ["no thread", "C SB\n{}\n", `${BEGIN} ${HERE} \`tools/from_c.py\``, `${NO_BUTTON} \`C SB {}\`: threads are functions \`P0\`, \`P1\` and so on.`, false],
   ["Rust", "use std::sync::atomic::*;\n", "This begins as a program in Rust does. Here only", "does.", false],
 ];
 

@@ -55,8 +55,8 @@ NODE = shutil.which("node")
 SMALLEST = b"\0asm\1\0\0\0"
 # The most bytes of the site of one file.
 MAX_BYTES = 1_000_000
-# The most bytes that a browser loads of a site of files before its first answer: at 1.6 Mbit/s they take some 2.2 seconds.
-MAX_LOADED_BYTES = 440_000
+# The most bytes that a browser loads of a site of files before its first answer: at 1.6 Mbit/s they take some 2.1 seconds.
+MAX_LOADED_BYTES = 420_000
 LOADED = ("index.html", "style.css", "tables.js", "page.js", "workbench1.js")
 # Commands that make the text of a test, commands that ask about it, and the page's view of what they ask.
 MADE: tuple[tuple[str, str, dict[str, str]], ...] = (

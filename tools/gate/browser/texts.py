@@ -433,7 +433,7 @@ class Faults(PageCase):
         rows = " P0           | P1           ;\n MOV EBX,$1   | MOV EBX,$1   ;\n XCHG [x],EBX | XCHG [y],EBX ;\n MOV EAX,[y]  | MOV EAX,[x]  ;\n"
         made = f"X86 Mine\n(* 0:EAX is r0, 1:EAX is r0 *)\n{{ x=0; y=0; }}\n{rows}exists (0:EAX=0 /\\ 1:EAX=0)\n"
         user.run_text(program)
-        self.assertSays("The button rewrites it, which is not proved: each access as gcc and clang compile it, in the order of the program.", "#fault")
+        self.assertSays("The button makes an x86 test of it: each access as gcc and clang compile it, in the order of the program.", "#fault")
         self.assertEqual(["Rewrite it as an x86 test", "Copy the command"], user.texts("#fault .apply"))
         user.click("#fault .apply")
         self.assertSoon(made, user.value)
