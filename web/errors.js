@@ -47,7 +47,7 @@ export function showError(answer, panel, editor) {
   const notice = el("p", { class: "notice", role: "alert" });
   panel.append(notice);
   if (isInText(fault)) showFault(fault, notice, editor);
-  else notice.append(...(fault ? [describeLimit(fault), makeFaultLine(fault)] : describeError(answer)));
+  else notice.append(...(fault ? [...describeFault(fault), makeFaultLine(fault)] : describeError(answer)));
 }
 
 /**
@@ -64,7 +64,8 @@ async function showFault(fault, notice, editor) {
   }
   if (!notice.isConnected || editor.text !== text) return;
   const hint = hints?.explainFault(fault, text) ?? { words: null };
-  const words = describeFault(fault, text, hint, hints);
+  const end = hints && !hint.at ? renderSentence(hints.explainMissingRowEnd(fault, text)) : [];
+  const words = [...describeFault(fault, hint), ...end];
   if (editor.isAlone) {
     const { row } = showFaultInEditor(fault, words, hint, hints, editor);
     notice.className = "no-answer";
@@ -98,25 +99,18 @@ function makeFaultLine({ line }) {
   return el("div", { class: "fault-line small" }, "As lw prints it: ", el("code", {}, line));
 }
 
-/** Returns in words that a list is refused, since it could take too long. */
-function describeLimit({ name }) {
-  return `The list could take too long, so it is refused. ${LIMITS[name]}.`;
-}
-
 /**
- * Returns a fault of a text in words: its place, and what is wrong, by the `hint` on it or by lw's sentence.
+ * Returns a fault in words: its place, and what is wrong, by the `hint` on it or by lw's sentence.
  * @param {Fault} fault
- * @param {string} text
- * @param {Hint} hint
- * @param {Hints | null} hints
+ * @param {Hint} [hint]
  * @returns {(Node | string)[]}
  */
-function describeFault(fault, text, hint, hints) {
+function describeFault(fault, hint = { words: null }) {
+  if (fault.kind === "limit") return [`The list could take too long, so it is refused. ${LIMITS[fault.name]}.`];
   const { row, column } = hint.at ?? fault;
   const place = row ? el("b", {}, `Line ${row}, column ${column}: `) : "";
   const named = fault.name ? [fault.name, ": ", ...renderSentence(findSentence(fault.kind, fault.number)), ". "] : [];
-  const cause = hint.words ? renderSentence(`${hint.words} `) : named;
-  return [place, ...cause, ...(hints && !hint.at ? renderSentence(hints.explainMissingRowEnd(fault, text)) : [])];
+  return [place, ...(hint.words ? renderSentence(`${hint.words} `) : named)];
 }
 
 /**
@@ -169,7 +163,7 @@ async function showFurtherFaults(first, hints, place, editor) {
   const makePlace = ({ fault: it, hint }) => {
     const show = () => {
       editor.goTo(hint.at.index);
-      sentence.replaceChildren(el("span", {}, describeFault(it, text, hint, hints)));
+      sentence.replaceChildren(el("span", {}, describeFault(it, hint)));
     };
     return makeButton(`line ${hint.at.row}, column ${hint.at.column}`, show, { class: "link", title: hint.words?.replaceAll("`", "") });
   };

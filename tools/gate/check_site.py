@@ -7,7 +7,7 @@
 - tools/make_site.py: what it makes, and what it refuses.
 - If the modules are built, in each browser that is there (Debian's Chromium and Firefox): for each example the states, the schedules,
   the compiled text and three replays are the program's bytes, by each module; the sites that tools/make_site.py makes, opened as
-  files, work for a user (tools/gate/browser/); and so does one that came from a web server, when the server is gone.
+  files, work for a user (tools/gate/browser/); and so does one that came from a web server, when the server is gone, and one whose hints do not come.
 
 Lines say what is skipped, which with CI=true is a failure, except for node and Firefox, which the machine may lack. tools/check_documents.py
 calls all this.
@@ -534,6 +534,21 @@ def check_offline(folder: str) -> Iterator[Comparison]:
             user.driver.quit()
 
 
+def check_without_hints(folder: str) -> Iterator[Comparison]:
+    """Checks that lw's sentence is shown of a fault if the hints on faults do not come."""
+    with tempfile.TemporaryDirectory(prefix="lw-browser-") as temporary_folder:
+        shutil.copytree(folder, f"{temporary_folder}/site")
+        os.remove(f"{temporary_folder}/site/hints.js")
+        user = User(f"file://{temporary_folder}/site/index.html", temporary_folder)
+        try:
+            user.open("#text=" + urllib.parse.quote("X86 A\n{}\n P0 ;\n MOVE [x],$1 ;\nexists (x=1)\n"))
+            said = user.text_with("#fault", "As lw prints it")
+            yield "a fault has lw's sentence if no hints come", True, said.startswith("Line 4, column 2: Form: ") and said.endswith("cell 1 Form at 16")
+            yield "and the panel says where it is", "No answer: line 4 of the text has a fault.", user.text("#outcome .no-answer")
+        finally:
+            user.driver.quit()
+
+
 def check_by_browser() -> Iterator[Comparison]:
     """Yields all comparisons in a browser, if there is one, and of the module."""
     if not web_files.read_module():
@@ -556,7 +571,8 @@ def check_by_browser() -> Iterator[Comparison]:
                 for subject, address in opened.items():
                     yield from check_page.run_check(page_case.make_comparisons, address, choose_subjects(subject, name), f"{subject}, in {name}", start)
             if is_installed():
-                yield from check_page.run_twice_if_needed(check_offline, f"{folder}/site")
+                for check in (check_offline, check_without_hints):
+                    yield from check_page.run_twice_if_needed(check, f"{folder}/site")
 
 
 # All of them.
