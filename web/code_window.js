@@ -7,8 +7,8 @@ const SPARE = 0.35;
 const PHONE = "(max-width: 40rem)";
 const COLUMNS = 2;
 const MIN_LINES = 3;
-// More lines than a code has.
-const MAX_LINES = 1000;
+// More than a machine that is out of sight: what a line lacks can't be scrolled into sight.
+const TOO_LONG = 100000;
 // The empty space below a machine, in pixels.
 const MARGIN = 14;
 
@@ -43,7 +43,7 @@ export function measureCut(machine) {
   const codes = [...machine.querySelectorAll(".code")];
   for (const code of codes) code.style.paddingBottom = "";
   const isTooLong = codes.some((it) => it.scrollWidth > it.clientWidth + 1);
-  return Math.max(0, ...codes.map(countHiddenLines)) + (isTooLong ? MAX_LINES : 0);
+  return Math.max(0, ...codes.map(countHiddenLines)) + (isTooLong ? TOO_LONG : 0);
 }
 
 /**

@@ -254,7 +254,8 @@ export class States {
     const interleaved = report.left_out ? null : (answer.interleaved ?? null);
     const others = interleaved && report.states.filter(({ line }) => !interleaved.includes(line)).map(({ line }) => line);
     this.strip.markBuffered(others ?? []);
-    place.replaceChildren(...renderSentence(describe(report, interleaved)), " ", makePlainMark());
+    const words = describe(report, interleaved);
+    place.replaceChildren(el("span", { class: "buffer-words", title: words.replaceAll("`", "") }, renderSentence(words)), " ", makePlainMark());
     this.run.onDraw();
   }
 

@@ -170,6 +170,18 @@ class InSight(PageCase):
             user.open_listed(f"#example={name}")
             self.assertSoon(True, lambda: user.run(IN_SIGHT, "#next"))
 
+    def test_four_threads(self) -> None:
+        """Of four threads and a question on six registers the code, the buffers and memory are whole at 1280 by 720, with the condition and the note on a line each."""
+        user = self.user
+        user.resize(1280, 720)
+        user.open_listed(f"#text={quote(FOUR_THREADS)}")
+        self.assertSays("Interleaving gives 39 of the 60 states.", "#outcome .note")
+        cut = "return [...document.querySelectorAll('#watching .code, #outcome .verdict')].filter((it) => it.scrollWidth > it.clientWidth + 1).length"
+        self.assertSoon(0, lambda: user.run(cut))
+        self.assertSoon([], lambda: user.run(UNSEEN))
+        lines = "const it = document.querySelector(arguments[0]); return Math.round(it.offsetHeight / parseFloat(getComputedStyle(it).lineHeight))"
+        self.assertEqual([1, 1], [user.run(lines, css) for css in ("#outcome .asked", "#outcome .note")])
+
     def test_next_uncovered(self) -> None:
         """Memory does not lie over what to look at next, below the answer to a prediction, at 1280 by 720."""
         user = self.user
@@ -323,6 +335,11 @@ class InSight(PageCase):
         self.assertStep("Step 4 of 6: P1 reads x=0 from memory into EAX")
 
 
+FOUR_THREADS = (
+    "X86 Mine\n{}\n P0          | P1          | P2          | P3          ;\n MOV [x],$1  | MOV EAX,[x] | MOV [y],$1  | MOV EAX,[y] ;\n"
+    " MOV EAX,[y] | MOV EBX,[y] | MOV EAX,[x] | MOV EBX,[x] ;\n"
+    "exists (0:EAX=0 /\\ 1:EAX=1 /\\ 1:EBX=0 /\\ 2:EAX=0 /\\ 3:EAX=1 /\\ 3:EBX=0)\n"
+)
 OTHER_NOTATION = (
     "X86 Mine\n{}\n P0            | P1            ;\n movl $1,(x)   | movl $1,(y)   ;\n movl (y),%eax | movl (x),%eax ;\n"
     "exists (0:eax=0 && 1:eax=0)\n"
