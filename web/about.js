@@ -29,6 +29,8 @@ const WHAT =
   "lw answers a question about a small parallel program, a litmus test: in which states can it end? On x86 a store waits in its processor's " +
   "store buffer, while loads after it go ahead; so there are final states that no interleaving explains. It is for students of concurrency and " +
   "for programmers of lock-free code.";
+const OWN =
+  "To try code of your own, put it in place of the text: a test, x86 instructions, or a small program in C or C++, of which a button makes a test.";
 const PROVED = "Reports, schedules, compiled texts and each step of a run come from a program that is proved correct";
 const NOT_CLAIMED = "The machine is x86-TSO as it was published. That processors on sale behave like it is not proved.";
 // The words on the page's origin if it has a server.
@@ -67,6 +69,7 @@ export function fillAbout(place) {
   place.append(
     el("h2", { id: "about-title", tabindex: "-1", autofocus: true }, "What is this?"),
     el("p", {}, WHAT),
+    el("p", {}, OWN),
     el("p", {}, PROVED, el("span", { id: "where" }), PLAIN, makePlainMark(), ". Nothing is sent anywhere."),
     el("p", {}, NOT_CLAIMED, ...makeTheoremsLink()),
     el("h3", {}, "Words"), list(TERMS),
