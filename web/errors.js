@@ -132,7 +132,7 @@ function showFaultInEditor(fault, words, hint, hints, editor) {
   const makeApply = (it) => it && makeButton(it.title ?? `Change it to ${it.text}`, () => applyChange(it, editor), { class: "apply" });
   const copyIt = command && makeButton("Copy the command", () => copy(command, findById("said")), { class: "apply" });
   const goTo = makeButton("Go to it", () => editor.goTo(marked.index), { class: "go-to" });
-  const other = more && el("div", { class: "small" }, renderSentence(`${more} `), read, " ", copyIt);
+  const other = more && el("details", { class: "small", open: !change }, el("summary", {}, "With a compiler"), renderSentence(`${more} `), read, " ", copyIt);
   const further = el("div", { class: "further", role: "status" });
   const buttons = [makeApply(change), makeApply(also), other ? "" : copyIt, " ", goTo];
   findById("fault").replaceChildren(

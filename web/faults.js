@@ -26,11 +26,12 @@ const HEADS = ["SRC", "X86"];
 // The labels before an instruction in its cell.
 const LABELS = /^(?:\w+\s*:\s*)*$/;
 const QUESTION_OR_LIST = /(?:(?:[~!]|\bnot\b)\s*)?\b(?:exists|forall|locations|filter)\b|\b(?:forbidden|never|allowed|required|always)\s*\(/i;
-// The line before the code of a thread, as in `P0:`, and how a question begins, or the list of locations before it.
+// The line before the code of a thread, as in `P0:`, or of a function, as compilers write it; and how a question begins, or the list of locations before it.
 const HEADING = /^[ \t]*(?:#|\/\/|;)?[ \t]*(?:P|T|CPU|core|processor|thread)[ \t_]*\d[ \t]*(?::|$)/im;
+const FUNCTION = /^[ \t]*((?:[A-Za-z_~][\w$]*(?:::)?)+(?:\([^()\n]*\))?)[ \t]*:[ \t]*$/gm;
 const QUESTION = /^[ \t]*(?:locations\b|filter\b|forall\b|(?:[~!]|not\b)?[ \t]*exists\b)/m;
-// A line of assembly.
-const ASSEMBLY = /^(?:[.\w]+:\s*)*(?:(?:lock|rep)\s+)?(?:mov|x?add|sub|cmp|xchg|inc|dec|test|x?or|and|j[nmez]|[mls]fence|nop|pause)\w*(?:\s[^;|{}=]*)?$/i;
+// A line of assembly: labels, an instruction, or both.
+const ASSEMBLY = /^(?:[.\w]+:\s*)+$|^(?:[.\w]+:\s*)*(?:(?:lock|rep)\s+)?(?:mov|x?add|sub|cmp|xchg|inc|dec|test|x?or|and|j[nmez]|[mls]fence|nop|pause)\w*(?:\s[^;|{}=]*)?$/i;
 // A load, with its register, which is first, or last in AT&T's order; and a register that is an operand.
 const LOAD = /^(?:[.\w]+:\s*)*mov[lq]?\s+(?:[re]([abcd]x|[sd]i)\s*,.*\[.*|[^$%,][^,]*,\s*%[re]([abcd]x|[sd]i))$/i;
 const OPERAND = /(?<!\[|\(%|\w)%?[er]([abcd]x|[sd]i)\b/gi;
@@ -346,21 +347,39 @@ function explainSpareEnds(name, text) {
   return { words: "Only a row's end has a `;`.", change: { begin, end: text.length, text: mended, title: "Take out the others" } };
 }
 
+/** Returns the labels to which instructions jump. */
+const listTargets = (text) => [...text.matchAll(/\bj\w+\s+([.\w]+)/gi)].map(([, label]) => label);
+
+/** Returns instructions in which a compiler's labels have no dot; those to which nothing jumps are left out. */
+function rewriteLabels(text) {
+  const code = text.replace(/(\bj\w+\s+)\.(\w+)/gi, "$1$2");
+  const targets = listTargets(code);
+  return code.replace(/^([ \t]*)\.(\w+):/gm, (_, blanks, label) => (targets.includes(label) ? `${blanks}${label}:` : blanks));
+}
+
+/** Returns instructions in which each line with the name of a function is `P0:`, as before the code of a thread; labels of jumps stay. */
+function markFunctions(text) {
+  const targets = listTargets(text);
+  return text.replace(FUNCTION, (line, name) => (targets.includes(name) || HEADING.test(line) ? line : "P0:"));
+}
+
 /**
- * Returns the code of the threads in a text of instructions, each a list of lines. A line such as `P1:` or `Thread 1` begins a thread. If there is none, a
- * blank line begins the next one, unless a jump leaves its thread then, or there are more threads than a test has.
+ * Returns the code of the threads in a text of instructions, each a list of lines, and whether they are named: a line such as `P1:`, `Thread 1` or
+ * `writer():` begins a thread. If there is none, a blank line begins the next one, unless a jump leaves its thread then, or there are more threads than a
+ * test has. A name without instructions, as that of a variable, is left out.
  * @param {string} text
- * @returns {string[][]}
+ * @returns {{threads: string[][], areNamed: boolean}}
  */
 function splitThreads(text) {
-  const listLines = (part) => part.split("\n").map((it) => it.trim()).filter((it) => it && !/^(?:ret\w*|\.[^:]*)$/.test(it));
-  const split = (mark) => text.replace(/;[ \t]*$/gm, "").split(mark).map(listLines);
-  const [front, ...named] = split(HEADING);
-  if (!front.length && named.length && named.length <= MAX_THREADS) return named;
-  const threads = split(/\n\s*\n/).filter((it) => it.length);
+  const listLines = (part) => part.split("\n").map((it) => it.trim()).filter((it) => it && !/^(?:ret\w*|endbr64|\..*)$/.test(it));
+  const split = (code, mark) => code.replace(/;[ \t]*$/gm, "").split(mark).map(listLines);
+  const [front, ...named] = split(markFunctions(text), HEADING);
+  const filled = named.filter((it) => it.length);
+  if (!front.length && filled.length && filled.length <= MAX_THREADS) return { threads: filled, areNamed: true };
+  const threads = split(text, /\n\s*\n/).filter((it) => it.length);
   const listLabels = (code, pattern) => code.flatMap((it) => [...it.matchAll(pattern)].map(([, label]) => label));
   const isLeft = (code) => listLabels(code, /\bj\w+\s+([.\w]+)$/gi).some((it) => !listLabels(code, /([.\w]+)\s*:/g).includes(it));
-  return threads.length > MAX_THREADS || threads.some(isLeft) ? [threads.flat()] : threads;
+  return { threads: threads.length > MAX_THREADS || threads.some(isLeft) ? [threads.flat()] : threads, areNamed: false };
 }
 
 /**
@@ -382,8 +401,8 @@ function makeQuestion(threads) {
 /** Returns a sentence that says that a text has only instructions, with a question or without one, and proposes to make a test of them; or "". */
 function explainAssembly(place) {
   const end = place.text.search(QUESTION);
-  const code = end < 0 ? place.text : place.text.slice(0, end);
-  const threads = splitThreads(code);
+  const code = rewriteLabels(end < 0 ? place.text : place.text.slice(0, end));
+  const { threads, areNamed } = splitThreads(code);
   if (!threads.length || !threads.flat().every((it) => ASSEMBLY.test(it))) return "";
   const names = threads.map((_, thread) => `P${thread}`);
   const rows = Array.from({ length: Math.max(...threads.map((it) => it.length)) }, (_, row) => threads.map((it) => it[row] ?? ""));
@@ -392,7 +411,7 @@ function explainAssembly(place) {
   const { text, words } = rewriteWhole(`X86 Mine\n{}\n${[names, ...rows].map((it) => ` ${it.join(" | ")} ;\n`).join("")}${tail}`);
   place.proposeChange(threads.length > 1 ? alignCells(text) : text, 0, place.text.length);
   place.change.title = threads.length > 1 ? `Make ${formatNames(names)} of them` : "Make it P0 of a test";
-  const division = threads.length < 2 || code.search(HEADING) >= 0 ? "" : " A blank line begins the next thread.";
+  const division = threads.length < 2 || areNamed ? "" : " A blank line begins the next thread.";
   const guess = isAsked ? " The question is a guess: change it to yours." : " The question `true` holds always: look at the list of states.";
   return `These are instructions without a test around them.${division}${end < 0 ? guess : ""} ${words}`.trim();
 }
@@ -498,7 +517,7 @@ const SENTENCES = {
     `${place.tokenWords} does not fit here. ${explainLacked(place) || explainCode(place) || (place.isX86 ? explainX86Form(place) : explainSourceForm(place))}`,
   "cell Register": (place) =>
     explainCode(place) ||
-    (!place.isX86 && explainLacked(place)) ||
+    explainLacked(place) ||
     `${place.tokenWords} is no register, and one is needed here: ${place.isX86 ? "`EAX`, `EBX`, `ECX`, `EDX`, `ESI` or `EDI`" : "`r0` to `r5`"}.` +
     `${place.proposeRegister() || proposeBrackets(place)} ` +
     (place.isX86 ? "A location has brackets: `[x]`." : "A location is loaded into a register first: `r0 := y`."),

@@ -10,6 +10,8 @@
 
 // Of a word that readers look for the words that the examples have for it, the best first.
 const SYNONYMS = {
+  acquire: ["mp", "publication", "seqlock"], relaxed: ["sb", "mp"], release: ["mp", "publication", "seqlock"], seq_cst: ["sb"],
+  exchange: ["xchg", "swap"], fetch_add: ["xadd", "fetchadd"],
   atomic: ["locked", "xchg", "xadd", "swap"], barrier: ["mfence", "fence"], cas: ["trylock", "consensus", "xchg", "swap", "locked"],
   cmpxchg: ["trylock", "consensus", "xchg", "swap", "locked"], coherence: ["co"], dcl: ["doublechecked"], deadlock: ["peterson", "dekker", "lock"],
   deque: ["chaselev", "workstealing"], fence: ["mfence", "fences"], fifo: ["queue", "ring"], mesi: ["cache"], moesi: ["cache"],

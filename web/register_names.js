@@ -1,4 +1,5 @@
-// The registers of a compiled program have the numbers of the source's, and other names.
+// The names that registers have in the program from which a test was made. The registers of a compiled program have the numbers of the source's. A test that
+// was made of a program in C has a comment with the variable of each register.
 
 import { REGISTERS } from "./token_reader.js";
 
@@ -12,4 +13,17 @@ export function describeMapping(text) {
   if (!used.length) return "";
   const pairs = used.map(([name, source]) => `\`${name}\` is \`${source}\``);
   return `In the compiled program ${[pairs.slice(0, -1).join(", "), pairs.at(-1)].filter(Boolean).join(" and ")} of the source.`;
+}
+
+// The comment, as in `(* 0:EAX is r0, 1:EBX is ready *)`, and one of its entries.
+const COMMENT = /\(\*((?:\s*\d:E\w\w is \w+,?)+)\s*\*\)/;
+const ENTRY = /(\d:E\w\w) is (\w+)/g;
+
+/**
+ * Returns the variables of a program in C whose values registers have, by the registers with their threads, as `0:EAX`, as a comment of the test says.
+ * @param {string} text
+ * @returns {Map<string, string>}
+ */
+export function listVariables(text) {
+  return new Map([...(COMMENT.exec(text)?.[1] ?? "").matchAll(ENTRY)].map(([, register, name]) => [register, name]));
 }

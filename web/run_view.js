@@ -8,6 +8,7 @@ import { isStill } from "./motion.js";
 import { Player } from "./player.js";
 import { setRoom } from "./placing.js";
 import { caches, hasStepped } from "./preferences.js";
+import { listVariables } from "./register_names.js";
 import { parseRegister } from "./replays.js";
 import { RunMenu } from "./run_menu.js";
 import { describeStep, describeWays } from "./run_words.js";
@@ -313,8 +314,10 @@ function makeShown(run, places) {
   const known = isByHand ? [frame.state, frame.before] : frames.flatMap((it) => [it.state, it.before]);
   const used = cells.map((_, thread) => listUsedRegisters(cells, known, thread));
   const drained = cells.map((_, thread) => events.slice(0, step).filter((it) => it === `D${thread}`).length);
+  const variables = listVariables(run.asked);
+  const inVariable = variables.size ? (name, thread) => variables.get(`${thread}:${name}`) : null;
   // A compiled program's registers have the numbers of the source's.
-  const inSource = run.isSource && run.isX86 ? (name) => `r${parseRegister(name)}` : null;
+  const inSource = run.isSource && run.isX86 ? (name) => `r${parseRegister(name)}` : inVariable;
   const done = events.slice(0, step).map((event, index) => event[0] === "P" && (places[index] ?? event[1]));
   const isSkipped = (thread, at) => !done.includes(String(thread)) && !done.includes(`${thread}:${at}`);
   const isWritten = (thread, name) => !frame.written || frame.written[thread].includes(name);

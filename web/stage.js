@@ -180,8 +180,8 @@ export class Stage {
       const isPut = word !== old.get(name) || (effect?.thread === thread && effect.register === name);
       const isInitial = !isPut && !this.shown.isWritten(thread, name);
       const attributes = { class: `register${isPut ? " changed" : ""}${isInitial ? " initial" : ""}`, "data-key": `r:${thread}:${name}` };
-      const source = this.shown.inSource?.(name);
-      const inSource = source && el("span", { class: "in-source", title: "its name in the source" }, ` ${source}`);
+      const source = this.shown.inSource?.(name, thread);
+      const inSource = source && el("span", { class: "in-source", title: "its name in the program" }, ` ${source}`);
       const initial = isInitial && el("span", { class: "at-first", title: "its initial value: no instruction has written it yet" }, " initial");
       return el("li", attributes, el("span", { class: "name" }, name), inSource, " ", makeValue(word), initial, makeHiddenWords(isPut && "put"));
     });

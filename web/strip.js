@@ -4,6 +4,7 @@
 import { makeStateKey } from "./differences.js";
 import { el, makeButton } from "./dom.js";
 import { largeType } from "./preferences.js";
+import { listVariables } from "./register_names.js";
 import { parseReportLine } from "./replays.js";
 import { listNames } from "./reports.js";
 import { Rows } from "./rows.js";
@@ -180,12 +181,15 @@ export class Strip {
     if (focused) this.place.querySelector(`[data-line="${CSS.escape(focused)}"]`)?.focus({ preventScroll: true });
   }
 
-  /** Scrolls the chosen column into sight, beside the titles of the rows. */
+  /** Scrolls the chosen column into sight, between the titles of the rows and the column `never`, which stays in sight in a narrow window. */
   bringChosen(wide) {
     const column = wide.querySelector("th.chosen");
+    const [titles, never] = ["th", "th.never"].map((css) => wide.querySelector(css));
     if (!column || wide.scrollWidth <= wide.clientWidth) return;
-    const titles = wide.querySelector("th").offsetWidth;
-    const [left, right] = [column.offsetLeft - titles, column.offsetLeft + column.offsetWidth - wide.clientWidth];
+    const isSticky = never !== null && getComputedStyle(never).position === "sticky";
+    if (isSticky && column === never) return;
+    const room = wide.clientWidth - (isSticky ? never.offsetWidth : 0);
+    const [left, right] = [column.offsetLeft - titles.offsetWidth, column.offsetLeft + column.offsetWidth - room];
     wide.scrollLeft = Math.max(right, Math.min(wide.scrollLeft, left));
   }
 
@@ -255,7 +259,9 @@ export class Strip {
     const formatWord = (line) => String(parseReportLine(line)[at][1]);
     const cells = this.makeCells((state) => (this.isShown(state) ? formatWord(state.line) : "·"));
     const ofGhost = ghost ? el("td", { class: this.kindOfGhost }, formatWord(ghost)) : null;
-    return el("tr", {}, el("th", { scope: "row" }, renderSite(name, this.tints)), cells, ofGhost);
+    const variable = listVariables(this.editor.text).get(name);
+    const title = variable && `the variable ${variable} of the program in C`;
+    return el("tr", {}, el("th", { scope: "row", title }, renderSite(name, this.tints)), cells, ofGhost);
   }
 
   /** Returns the row that says in which states the condition holds. */

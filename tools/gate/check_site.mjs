@@ -846,6 +846,8 @@ const HINTS = [
   [ALL_ROWS, "*x = 1 | int r0 = READ_ONCE(y) ;\n L: smp_mb() | x = r0 ;", "This is C.", undefined, "MOV [x],$1 | MOV EAX,[y] ;\n L: MFENCE | MOV [x],EAX"],
   ["MOV EAX,[x]", "atomic_store(&x,1)", "`atomic_store(&x,1)` is a call in C", undefined, undefined],
   ["MOV EAX,[x]", "x++", "lw does this by `MOV EBX,[x]`, then `ADD EBX,$1`", undefined, `MOV EBX,[x] ;\n${OTHER} ADD EBX,$1 ;\n${OTHER} MOV [x],EBX ;`],
+  ["MOV EAX,[x]", "MOV y,x", "lw does this by `MOV EBX,[x]`, then `MOV [y],EBX`.", undefined, `MOV EBX,[x] ;\n${OTHER} MOV [y],EBX ;`],
+  ["MOV EAX,[x]", "MOV [y],[x]", "lw does this by `MOV EBX,[x]`, then `MOV [y],EBX`.", undefined, `MOV EBX,[x] ;\n${OTHER} MOV [y],EBX ;`],
   ["MOV EAX,[x]", "SUB EAX,EBX", "lw has no `SUB`, and the page knows nothing", undefined, undefined],
   ["1:EAX=0", "1:RAX=0", "Registers are `EAX` to `EDX`, `ESI` and `EDI`, of 32 bits.", undefined, "1:EAX"],
   [ALL_ROWS, "MOV [x],EBX | MOV RAX,[x] ;", "Some instructions access 32 bits and some 64", undefined, "EAX"],

@@ -384,6 +384,16 @@ class Phone(PageCase):
         self.assertEqual(4, user.run(f"{box}getComputedStyle(it).backgroundImage.split('gradient').length - 1"))
         self.assertEqual("none", user.run("return getComputedStyle(document.querySelector('#graph-place .ground')).fill"))
 
+    def test_never(self) -> None:
+        """The column of the state that no run ends in stays in sight beside a long list, whose chosen column is in sight, too."""
+        user = self.user
+        user.open_listed("#example=IRIW-x86")
+        box = "const { left, right } = document.querySelector(arguments[0]).getBoundingClientRect(); return [left, right]"
+        (left, right), (begin, end) = (user.run(box, css) for css in ("table.strip th.chosen", "table.strip th.never"))
+        self.assertTrue(right <= begin + 1 and end <= user.run("return innerWidth"), (left, right, begin, end))
+        user.run("document.querySelector('#outcome .wide').scrollLeft = 0")
+        self.assertSoon(begin, lambda: user.run(box, "table.strip th.never")[0])
+
     def test_order(self) -> None:
         """Verdict, list and machine come before the text, which is folded, and they fit the first screen."""
         user = self.user
