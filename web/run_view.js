@@ -27,8 +27,12 @@ const LISTED = [
 const SEEN = 0.9;
 const LOOKS = 20;
 // How a machine may be drawn, by its classes, the best first: as large as the window allows; if its code has no room then, with the store buffer beside
-// the code, in smaller type, with low lines and entries; and if a part of it is out of sight even so, below a condition that is cut to one line.
-const WAYS = ["", "beside", "small", "beside small", "small low", "beside small low", "small low cramped", "beside small low cramped"];
+// the code, in smaller type, with low lines and entries, with lines close to each other; and if a part of it is out of sight even so, below a condition that
+// is cut to one line.
+const WAYS = [
+  "", "beside", "small", "beside small", "small low", "beside small low", "beside small low close", "small low cramped", "beside small low cramped",
+  "beside small low close cramped",
+];
 const KINDS = WAYS.at(-1).split(" ");
 // More lines than any code has, for a machine that is out of sight in part.
 const OUT_OF_SIGHT = 10000;
