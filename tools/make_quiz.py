@@ -6,7 +6,8 @@
 For each of N tests (10) it asks whether the test can end this way by interleaving, when threads take turns on one memory, and whether it can on
 x86-TSO. At the end it shows which answers were right, and a code to hand in; tools/read_codes.py reads the codes, and so does the file itself, for
 the teacher. The seed has up to eight small letters and digits; the same seed makes the same bytes. With LINK, the address of lw's page as the quiz has it
-(`site/index.html`), each answer has a link at the end that opens its test there, with the run or with the cycle that explains the answer.
+(`site/index.html`), each answer has a link at the end that opens its test there, with the run or with the cycle that explains the answer. Code has
+the colours of the page.
 
 The answers are hidden in the file, but not well: a determined student can read them. The verdicts are those of the program's reports (./lw
 states). Without a program of these sources they are those of tools/plain.py, and a line says so. Python 3.8 is enough, on any system.
@@ -15,12 +16,12 @@ from __future__ import annotations
 
 import os
 import sys
-from collections.abc import Callable
+from collections.abc import Callable, Mapping
 
 sys.dont_write_bytecode = True
 import films
 import given
-from lab import codes, quiz
+from lab import codes, quiz, tints
 from shapes.edges import NoCycle
 from shared import command, start
 from shared.literal import format_literal
@@ -29,15 +30,24 @@ NOT_PROVED = "make_quiz: the verdicts are those of tools/plain.py: there is no p
 TEMPLATE = os.path.join(os.path.dirname(os.path.abspath(quiz.__file__)), "quiz.html")
 
 
-def make_page(count: int, seed: str, report: Callable[[str], str], page: str = "") -> str:
-    """Returns the quiz as one page, with links to lw's page at an address, if there is one."""
+def make_links(seed: str, files: Mapping[str, str]) -> str:
+    """Returns a line that names the quiz of a seed, with links to the files of the others; "" if there are no others."""
+    links = " · ".join(f'<a href="{file}">{other}</a>' for other, file in files.items() if other != seed)
+    return f'<nav aria-label="Quizzes">This is quiz {seed}. Another quiz: {links}</nav>\n' if links else ""
+
+
+def make_page(count: int, seed: str, report: Callable[[str], str], page: str = "", files: Mapping[str, str] | None = None) -> str:
+    """Returns the quiz as one page, with links to lw's page at an address, if there is one, and to other quizzes: for each seed its file."""
     with open(TEMPLATE, encoding="utf-8") as file:
         html = file.read()
+    tests, others = quiz.make_tests(count, seed, report), make_links(seed, files or {})
     parts = {
+        "@TITLE@": f"Quiz {seed}" if others else "A quiz", "@OTHERS@": others, "@TINTS@": tints.make_style(),
+        "@TINTED@": format_literal([tints.render_test(it.text) for it in tests]),
         "@SYMBOLS@": codes.SYMBOLS, "@LETTERS@": codes.LETTERS, "@MARKS@": str(codes.MARKS), "@MOST@": str(codes.MAX_TESTS),
         "@BYTES@": str(codes.BYTES),
         "@PRIME@": str(codes.PRIME), "@SUM@": str(codes.LENGTH_OF_SUM), "@PAGE@": format_literal(page),
-        "@QUIZ@": format_literal(quiz.make_data(seed, quiz.make_tests(count, seed, report))),
+        "@QUIZ@": format_literal(quiz.make_data(seed, tests)),
     }
     for name, part in parts.items():
         html = html.replace(name, part)

@@ -6,9 +6,9 @@
 
 The page is that of web/, over the proved workbench as a WebAssembly module: those that tools/build_wasm.py has made, or each FILE. Of several a
 browser uses the first that it takes. There is no server: the module runs in a worker of the page. All examples are in it. A folder also has the
-documents of tools/page/documents.py, whose links open on the page what they show, the lab's quiz, and its slides if the program is built. Nothing is
-loaded from elsewhere. With --archive a folder also has an archive of tools/pack.py, so that readers get the programs and the tools where they read of
-them. With --address the site says where the repository is published.
+documents of tools/page/documents.py, whose links open on the page what they show, the lab's quizzes, and its slides if the program is built. Nothing
+is loaded from elsewhere. With --archive a folder also has an archive of tools/pack.py, so that readers get the programs and the tools where they read
+of them. With --address the site says where the repository is published.
 
 A page that was opened as a file may load neither JSON nor modules of JavaScript. So those of web/ are joined to one classic script each for
 the page and its worker, which are packed together, since they share modules, with the style sheet that nothing needs before them; the hints on
@@ -19,6 +19,7 @@ from __future__ import annotations
 
 import base64
 import collections
+import functools
 import hashlib
 import itertools
 import json
@@ -93,8 +94,8 @@ globalThis.site.coming.catch(() => null);
 # A module of WebAssembly begins with a magic number and a version; after them are its sections, of which custom ones have this number.
 WASM_HEAD = 8
 CUSTOM_SECTION = 0
-# The quiz of a site: the number of its tests, and the seed.
-QUIZ = (10, "1")
+# The number of tests of each quiz of a site.
+QUIZ_TESTS = 10
 # The page of a site, as its documents link to it.
 PAGE = "index.html"
 # The rule for a page of files: it may send nothing by a network.
@@ -346,16 +347,23 @@ def make_one_file(modules: list[bytes], web: str, about: origin.About) -> str:
     return front + head + body + inner + end + rest
 
 
+@functools.lru_cache(maxsize=None)
+def make_quizzes() -> Files:
+    """Returns the quizzes of a site: for each file its text."""
+    make_one = lambda seed: make_quiz.make_page(QUIZ_TESTS, seed, quiz.make_report_by_plain, PAGE, documents.QUIZZES)
+    return {file: make_one(seed) for seed, file in documents.QUIZZES.items()}
+
+
 def make_documents(web: str, about: origin.About, slides: str | None) -> Files:
-    """Returns the documents of a site, with their style and their script, the quiz, and the slides if there are some: for each file its text. Raises
-    NoSite if web/style.css has another form.
+    """Returns the documents of a site, with their style and their script, the quizzes, and the slides if there are some: for each file its text.
+    Raises NoSite if web/style.css has another form.
     """
     match = COLOURS.search(read_source("style.css", web))
     if match is None:
         raise NoSite("web/style.css does not begin with the colours by light and by dark")
     style = shorten_style(match[0] + read_source(documents.STYLE, web))
-    questions = make_quiz.make_page(*QUIZ, quiz.make_report_by_plain, PAGE)
-    return {**documents.make_pages(POLICY, about, questions, slides), documents.STYLE: style, documents.SCRIPT: read_source(documents.SCRIPT, web)}
+    pages = documents.make_pages(POLICY, about, make_quizzes(), slides)
+    return {**pages, documents.STYLE: style, documents.SCRIPT: read_source(documents.SCRIPT, web)}
 
 
 def make_folder(modules: list[bytes], web: str, about: origin.About, has_documents: bool = True, slides: str | None = None) -> Files:

@@ -9,7 +9,7 @@ the address is that of the slide. Printed, each slide is a page. With LINK, the 
 that shows a test has a link that opens the test there, at the same run, in one tab for all slides.
 
 What the slides show of tests comes from the program (`./lw states` and `./lw replay`), which has to be built: so it needs Linux. The pictures are
-those of tools/picture.py and tools/graph.py. The same sources give the same bytes.
+those of tools/picture.py and tools/graph.py, and code has the colours of the page. The same sources give the same bytes.
 """
 from __future__ import annotations
 

@@ -63,6 +63,7 @@ export class Side {
     this.select = el("select", { id: listed, change: () => onChoose(this.select.value) });
     const head = el("div", { class: "head row" }, this.title, el("label", { for: listed, class: "hidden" }, label), this.select);
     this.place = el("section", { class: "side", "aria-labelledby": titled }, head, this.sheet.place);
+    // Both runs open at their start, and not at their telling steps: before these most pairs of runs have different events.
     this.states = new States(this.place, this.sheet, onReveal, { ...called, firstStep: 0 });
   }
 

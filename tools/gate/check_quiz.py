@@ -9,6 +9,7 @@
 - A code that the page's own JavaScript makes, in node if it is there, and in Chromium if it is there with its driver and
   python3-selenium, is that of tools/lab/codes.py, and the command reads it with the right score.
 - Each kind of bad code is refused, and so are all codes with one wrong symbol or two neighbours exchanged.
+- The quizzes of a site have links to each other, and each keeps its own answers; the list of documents has the first.
 
 tools/check_documents.py calls all this; the program has to be built.
 """
@@ -31,6 +32,7 @@ from gate.browser import user as users
 from gate.cases import Comparison
 from gate.examples import run
 from lab import codes, quiz, reasons
+from page import documents
 from shared import command
 from shared.home import close_check
 from shared.matches import require_match
@@ -180,7 +182,8 @@ def check_node(page: str, code: str, rights: list[int]) -> Iterator[Comparison]:
     lines = [codes.make_code(handed_in._replace(student=name)) for name in (STUDENT, "ä é", "李明", "z" * codes.MAX_LETTERS)]
     others = [
         (" -".join(lines[0].lower()), ROW), (lines[0][:-1], [SUM_IS_WRONG]), ("", ["a code is longer"]), ("a*b", ["no code has *"]),
-        (codes.make_code(handed_in._replace(seed="2")), [OTHER_QUIZ]), (codes.make_code(handed_in._replace(mark=handed_in.mark ^ 1)), [OTHER_QUIZ]),
+        (codes.make_code(handed_in._replace(seed="2")), [f"{OTHER_QUIZ}, that with the seed 2"]),
+        (codes.make_code(handed_in._replace(mark=handed_in.mark ^ 1)), [OTHER_QUIZ]),
         (codes.make_code(handed_in._replace(answers=answers[1:])), [OTHER_QUIZ]), ("0" + lines[0], [NO_CODE]),
     ]
     script = f"console.log(JSON.stringify({json.dumps([*lines, *(line for line, _ in others)])}.map(rowOf)));"
@@ -239,6 +242,13 @@ def check_browser(page: str, folder: str) -> Iterator[Comparison]:
         user.driver.execute_cdp_cmd("Emulation.setDeviceMetricsOverride", {"width": 360, "height": 740, "deviceScaleFactor": 2, "mobile": True})
         user.open()
         yield "the page fits a phone", [360, 360], user.run("return [innerWidth, document.documentElement.scrollWidth]")
+        yield "the tests are shown", parse_data(page)["tests"], user.run("return [...document.querySelectorAll('pre')].map((it) => it.textContent)")
+        colours = "return [...document.querySelectorAll('pre .thr-0')].map((it) => getComputedStyle(it).color)"
+        for scheme, ground, colour in (("dark", "rgb(22, 24, 28)", "rgb(130, 179, 255)"), ("light", "rgb(255, 255, 255)", "rgb(29, 91, 184)")):
+            emulated = {"media": "", "features": [{"name": "prefers-color-scheme", "value": scheme}]}
+            user.driver.execute_cdp_cmd("Emulation.setEmulatedMedia", emulated)
+            shown = user.run("return getComputedStyle(document.body).backgroundColor"), set(user.run(colours))
+            yield f"the ground of the page and the colour of a thread, {scheme}", (ground, {colour}), shown
         user.click("#done")
         # What is missing, answer by answer.
         printed = user.text("#fault"), user.focused().get_attribute("name")
@@ -304,6 +314,40 @@ def check_links(page: str, folder: str) -> Iterator[Comparison]:
         user.driver.quit()
 
 
+def check_others(folder: str) -> Iterator[Comparison]:
+    """Checks that the quizzes of a site lead to each other, that each keeps its own answers, and that the list of documents has the first."""
+    files = documents.QUIZZES
+    listed = [file for file, _ in documents.list_documents(True) if file in files.values()]
+    yield "the list of documents has one quiz", [documents.QUIZ], listed
+    folder = f"{folder}/site"
+    os.mkdir(folder)
+    for seed, name in files.items():
+        page = make_quiz.make_page(TESTS, seed, quiz.make_report_by_plain, files=files)
+        with open(f"{folder}/{name}", "w", encoding="utf-8") as file:
+            file.write(page)
+        others = [(file, other) for other, file in files.items() if other != seed]
+        yield f"quiz {seed} links to the others", others, re.findall(r'<a href="([^"]*)">(\d)</a>', page)
+        yield f"quiz {seed} has its number", True, f"This is quiz {seed}. " in page and f"<title>Quiz {seed}: " in page
+    if not users.is_installed():
+        return
+    user = users.User(f"file://{folder}/{documents.QUIZ}", f"{folder}/profile")
+    kept = "return [[...document.querySelectorAll('input:checked')].map((it) => `${it.name} ${it.value}`), document.getElementById('student').value]"
+    try:
+        user.open()
+        user.click("input[name=x861][value=yes]")
+        user.find("#student").send_keys("Ana 17")
+        visits = (("2", [[], ""], "no"), ("3", [[], ""], "yes"), ("1", [["x861 yes"], "Ana 17"], "yes"), ("2", [["x861 no"], ""], "no"))
+        before = "1"
+        for seed, chosen, added in visits:
+            user.click(f"nav a[href='{files[seed]}']")
+            user.find(f"body[data-ready] nav a[href='{files[before]}']")
+            yield f"what quiz {seed} has kept", chosen, user.run(kept)
+            user.click(f"input[name=x861][value={added}]")
+            before = seed
+    finally:
+        user.driver.quit()
+
+
 def check_commands(folder: str) -> Iterator[Comparison]:
     """Runs the commands, and looks at their statuses."""
     for words, expected in (
@@ -333,6 +377,7 @@ def make_comparisons() -> Iterator[Comparison]:
         yield from check_commands(folder)
         yield from check_browser(page, folder)
         yield from check_links(page, folder)
+        yield from check_others(folder)
 
 
 def main() -> int:

@@ -177,7 +177,7 @@ def check_files() -> Iterator[Comparison]:
         names = sorted(os.listdir(f"{folder}/site"))
         page = ["hints.js", "icon.svg", "index.html", "offline.js", "page.js", "style.css", "tables.js", "workbench1.js"]
         slides = [documents.SLIDES] if make_slides.make_page_if_built() else []
-        expected = sorted([*page, *documents.DOCUMENTS, documents.SHEET, documents.QUIZ, *slides, documents.STYLE, documents.SCRIPT])
+        expected = sorted([*page, *documents.DOCUMENTS, documents.SHEET, *documents.QUIZZES.values(), *slides, documents.STYLE, documents.SCRIPT])
         yield "the files of a site", expected, names
         for found in ([], [documents.SLIDES]):
             listed = [file for file, _ in documents.list_documents(bool(found)) if file == documents.SLIDES]

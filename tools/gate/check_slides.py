@@ -6,6 +6,7 @@
   With the address of lw's page each slide that shows a test has a link that opens that test there.
 - What is shown of a test is what the program says of it: each list is that of its report, with the verdict, and each picture of the
   machine has the registers, the store buffers and the words of its replay. An execution's loads have the words that the replay ends with.
+- Code has the colours that the page's own JavaScript gives it, in node if it is there, and each has a contrast of 4.5 at least.
 - The slides are in the order of the timetable. Before the tasks none shows a test of tasks 2 to 4, except the text of A1 and A2 and the
   list of A1 by interleaving, and no picture shows cache lines. Slide and sheet ask the same.
 - In Chromium, if it is there with its driver and python3-selenium: keys, clicks and two buttons lead from slide to slide, the buttons cover
@@ -16,7 +17,10 @@ tools/check_documents.py calls all this; the program has to be built.
 from __future__ import annotations
 
 import base64
+import itertools
+import json
 import re
+import shutil
 import subprocess
 import sys
 import tempfile
@@ -29,16 +33,17 @@ import make_slides
 from gate.browser import user as users
 from gate.cases import Comparison
 from gate.examples import run
-from lab import slides
+from lab import quiz, slides, tints
 from lab.tests import read_file
+from page import web_files
 from replay_state import State, parse_replay_state
 from shared import command
-from shared.home import PROGRAM, close_check
+from shared.home import HOME, PROGRAM, close_check
 
 COUNT = 12
 FIGURE = re.compile(r'<figure data-kind="(\w+)" data-test="([\w-]+)" data-schedule="([^"]*)">(.*?)</figure>', re.S)
 LIST = re.compile(r'<pre data-kind="(\w+)" data-test="([\w-]+)">(.*?)</pre>', re.S)
-TEXT = re.compile(r'<text [^>]*?(?: class="([\w ]+)")?>([^<]*)</text>')
+TEXT = re.compile(r'<text [^>]*?(?: class="([\w -]+)")?>([^<]*)</text>')
 OUTWARD = re.compile(r"https?:|\bsrc=|\bhref=|@import|url\((?!#)|(?<!:)//\w")
 # The parts of tests that slides show before the tasks about them: the kind and the test of a text, a list or a picture.
 BEFORE = {("code", "A1"), ("code", "A2"), ("states", "A1-turns"), ("state", "A1-turns"), ("state", "Slip")}
@@ -61,6 +66,25 @@ return [...document.querySelectorAll(".slide")].flatMap((slide, index) => {
   return [...slide.querySelectorAll("p, pre, figure")].some(isCovered) ? [index + 1] : [];
 });
 """
+NODE = shutil.which("node")
+# Prints for each text the words that web/tint.js gives a colour of a thread or a location, with their class, and the whole text.
+TINTED = """
+import { readFileSync } from "node:fs";
+
+const make = (tag) => ({ tag, kind: "", words: "", setAttribute(name, value) { if (name === "class") this.kind = value; },
+  append(...children) { this.words += children.join(""); } });
+globalThis.document = { createElement: make, documentElement: { dataset: {} } };
+const { findTints, renderText } = await import(`file://${process.argv[2]}/tint.js`);
+const kindOf = (it) => it.kind?.match(/\\b(?:thr|loc)-\\d/)?.[0];
+const show = (nodes) => [nodes.filter(kindOf).map((it) => [kindOf(it), it.words]), nodes.map((it) => it.words ?? it).join("")];
+console.log(JSON.stringify(JSON.parse(readFileSync(0, "utf8")).map((text) => show(renderText(text, findTints(text))))));
+"""
+# A word in a colour, and the elements that colours are made of.
+TINT = re.compile(r'<span class="([\w-]+)">(.*?)</span>')
+TINT_TAG = re.compile(r"</?(?:span|tspan)\b[^>]*>")
+# The grounds on which code is shown in light and in dark: the fills of pictures, by their classes.
+FILL = re.compile(r"\.(?:ground|box|entry|word) \{ fill: (#\w+)")
+MIN_CONTRAST = 4.5
 # A page of a printed document.
 PAGE = re.compile(rb"/Type\s*/Page\b")
 
@@ -110,12 +134,14 @@ def check_lists(page: str, tests: dict[str, bytes]) -> Iterator[Comparison]:
     lists = LIST.findall(page)
     yield "how many lists there are", True, sum(kind == "states" for kind, _, _ in lists) >= 2
     for kind, name, text in lists:
+        yield f"colours in the {kind} of {name}", True, bool(TINT.search(text))
+        text = unescape(TINT_TAG.sub("", text))
         if kind == "code":
-            yield f"the code of {name}", tests[name].decode(), unescape(text)
+            yield f"the code of {name}", tests[name].decode(), text
             continue
         lines = ask_program(["states"], tests[name]).splitlines()
         count = int(lines[1].split()[1])
-        yield f"the list of {name}", [*lines[1 : count + 2], lines[-1]], unescape(text).splitlines()
+        yield f"the list of {name}", [*lines[1 : count + 2], lines[-1]], text.splitlines()
         _, _, verdict, positive, negative = lines[-1].split()
         yield f"the verdict on {name} is glossed", True, f"<p>{verdict} {positive} {negative}: the end that we ask about is " in page
 
@@ -124,8 +150,8 @@ def parse_picture(svg: str) -> tuple[list[list[str]], list[str] | None]:
     """Returns the contents of a picture of one state: the texts and the entries of each thread, and the words of memory."""
     threads: list[list[str]] = []
     content: list[str] | None = None
-    for kind, text in TEXT.findall(svg):
-        if kind == "title" and re.fullmatch(r"P\d", text):
+    for kind, text in TEXT.findall(TINT_TAG.sub("", svg)):
+        if kind.startswith("title") and re.fullmatch(r"P\d", text):
             threads.append([])
         elif kind == "title" and text == "memory":
             content = []
@@ -172,8 +198,51 @@ def check_figures(page: str, tests: dict[str, bytes]) -> Iterator[Comparison]:
         if kind == "state":
             yield from compare_state(subject, svg, state)
         else:
-            loaded = re.findall(r": R \w+=(\d+)<", svg)
+            loaded = re.findall(r": R \w+=(\d+)<", TINT_TAG.sub("", svg))
             yield f"{subject}, an execution: what is loaded", [str(dict(it["registers"])["EAX"]) for it in state["threads"]], loaded
+
+
+def measure_luminance(colour: str) -> float:
+    """Returns the relative luminance of a colour, of three or six hexadecimal digits."""
+    digits = "".join(it * 2 for it in colour[1:]) if len(colour) == 4 else colour[1:]
+    parts = [int(digits[at : at + 2], 16) / 255 for at in (0, 2, 4)]
+    red, green, blue = (it / 12.92 if it <= 0.04045 else ((it + 0.055) / 1.055) ** 2.4 for it in parts)
+    return 0.2126 * red + 0.7152 * green + 0.0722 * blue
+
+
+def measure_contrast(one: str, other: str) -> float:
+    """Returns the contrast of two colours."""
+    dark, light = sorted(map(measure_luminance, (one, other)))
+    return (light + 0.05) / (dark + 0.05)
+
+
+def check_tints(tests: dict[str, bytes]) -> Iterator[Comparison]:
+    """Checks that code has the page's colours: those of all examples, of the slides and of quizzes; and their contrasts."""
+    colours = tints.list_colours()
+    expected = [f"thr-{number}" for number in range(4)] + [f"loc-{number}" for number in range(tints.COLOURS)]
+    yield "the page's colours are found", expected, [name for name, _, _ in colours]
+    light, _, dark = slides.STYLE_OF_PICTURES.partition(slides.DARK.replace("(", "screen and (", 1))
+    for index, style in ((1, light), (2, dark)):
+        grounds = FILL.findall(style)
+        yield f"grounds of pictures, {index}", 4, len(grounds)
+        pairs = itertools.product(((it[0], it[index]) for it in colours), grounds)
+        low = [(name, ground) for (name, colour), ground in pairs if measure_contrast(colour, ground) < MIN_CONTRAST]
+        yield "colours with too little contrast", [], low
+    if not NODE:
+        return
+    texts = [*(it["text"] for family in web_files.list_families() for it in family["tests"]), *(it.decode() for it in tests.values())]
+    texts += [it.text for seed in "123" for it in quiz.make_tests(10, seed, quiz.make_report_by_program)]
+    with tempfile.TemporaryDirectory(prefix="lw-web-") as folder:
+        shutil.copytree(f"{HOME}/web", f"{folder}/web")
+        for name, text in (("web/package.json", '{ "type": "module" }\n'), ("tinted.mjs", TINTED)):
+            with open(f"{folder}/{name}", "w", encoding="utf-8") as file:
+                file.write(text)
+        ran = subprocess.run([NODE, f"{folder}/tinted.mjs", f"{folder}/web"], input=json.dumps(texts), capture_output=True, text=True, check=False)
+    yield "the page colours all texts", "", ran.stderr
+    for text, by_page in zip(texts, json.loads(ran.stdout or "[]")):
+        html = tints.render_test(text)
+        found = [[[kind, unescape(words)] for kind, words in TINT.findall(html)], unescape(TINT_TAG.sub("", html))]
+        yield f"the colours of {text.split()[1]}", by_page, found
 
 
 def check_command() -> Iterator[Comparison]:
@@ -257,6 +326,7 @@ def make_comparisons() -> Iterator[Comparison]:
     yield from check_links(tests)
     yield from check_lists(page, tests)
     yield from check_figures(page, tests)
+    yield from check_tints(tests)
     yield from check_command()
 
 

@@ -1,12 +1,13 @@
 """Makes the slides of the introduction: the words on each, and the pictures from the program's answers.
 
 A test has its name from the sheet of docs/LAB.md; one more test has its name here. Each picture and each list names in the page its
-test and its schedule, so that a check can ask the program again.
+test and its schedule, so that a check can ask the program again. Code has the page's colours, also in pictures: what the last event has
+changed there is underlined, and what it has read is slanted.
 """
 from __future__ import annotations
 
 import re
-from html import escape
+from html import escape, unescape
 from typing import List, NamedTuple, Tuple, Union
 from urllib.parse import urlencode
 
@@ -15,12 +16,16 @@ import films
 import graph
 import picture
 import plain
+from lab import tints
 from lab.tests import list_examples, neutralize, read_file
 
 MORE_TESTS = {"A1-turns": "SB"}
 # Tests that are no examples. The machine is shown on one that no task is about.
 TYPED = {"Slip": "X86 Slip\n{}\n P0         | P1          ;\n MOV [x],$1 | MOV EAX,[x] ;\nexists (1:EAX=0)\n"}
 DARK = "@media (prefers-color-scheme: dark)"
+# A text of a picture, its kind and its words; and the kinds that have no colours: code that is done, and the names of relations.
+TEXT = re.compile(r'<text ([^>]*?)(?: class="([\w ]+)")?>([^<]*)</text>')
+UNTINTED = ("faint", "relation")
 
 
 class Words(NamedTuple):
@@ -141,19 +146,39 @@ def read_texts() -> dict[str, bytes]:
     return {name: text.encode() for name, text in {**{name: neutralize(name, it) for name, it in examples.items()}, **TYPED}.items()}
 
 
-# The styles of pictures: paper is light, and a screen is as the system has it.
-STYLE_OF_PICTURES = (picture.STYLE + graph.STYLE).replace(DARK, DARK.replace("(", "screen and (", 1))
+# The styles of pictures: paper is light, and a screen is as the system has it. What has changed and what was read has no colour of its own.
+STYLE_OF_PICTURES = re.sub(r"(\.(?:changed|read) \{[^}]*?);? fill: #\w+ \}", r"\1 }", picture.STYLE + graph.STYLE)
+STYLE_OF_PICTURES = re.sub(r" \.\w+ \{ \}", "", STYLE_OF_PICTURES).replace(DARK, DARK.replace("(", "screen and (", 1)) + tints.make_style()
 
 
-def embed_picture(svg: str) -> str:
-    """Returns a picture as a page has it: by the styles of the page, as large as fits."""
+def tint_picture(svg: str, text: str) -> str:
+    """Returns a picture of a run of a test with the names of threads, registers and locations in colours, except in code that is done."""
+    locations, thread = tints.find_tints(text), None
+    parts, end = [], 0
+    for match in TEXT.finditer(svg):
+        attributes, kind, words = match.groups()
+        if kind == "title":
+            head = tints.THREAD.fullmatch(words)
+            thread = int(head[1]) if head else None
+            kind = kind if thread is None else f"{kind} thr-{thread}"
+        elif kind not in UNTINTED:
+            words = tints.render_code(unescape(words), locations, thread, "tspan")
+        of_kind = f' class="{kind}"' if kind else ""
+        parts += [svg[end : match.start()], f"<text {attributes}{of_kind}>{words}</text>"]
+        end = match.end()
+    return "".join(parts) + svg[end:]
+
+
+def embed_picture(svg: str, text: str) -> str:
+    """Returns a picture of a run of a test as a page has it: by the styles and in the colours of the page, as large as fits."""
     bare = re.sub(r"<style>.*?</style>", "", svg, flags=re.S)
-    return re.sub(r'<svg xmlns="[^"]*" width="[^"]*" height="[^"]*"', "<svg", bare, count=1)
+    return tint_picture(re.sub(r'<svg xmlns="[^"]*" width="[^"]*" height="[^"]*"', "<svg", bare, count=1), text)
 
 
-def make_figure(part: Film | Graph, kind: str, svg: str) -> str:
-    """Returns a picture as a figure, with attributes that name its kind, its test and its schedule for checks."""
-    return f'<figure data-kind="{kind}" data-test="{part.test}" data-schedule="{part.schedule}">{embed_picture(svg)}</figure>\n'
+def make_figure(part: Film | Graph, kind: str, svg: str, text: bytes) -> str:
+    """Returns a picture of a run of a test as a figure, with attributes that name its kind, its test and its schedule for checks."""
+    attributes = f'data-kind="{kind}" data-test="{part.test}" data-schedule="{part.schedule}"'
+    return f"<figure {attributes}>{embed_picture(svg, text.decode())}</figure>\n"
 
 
 def draw_film(part: Film, text: bytes) -> str:
@@ -164,15 +189,14 @@ def draw_film(part: Film, text: bytes) -> str:
         for thread in state["threads"]:
             if "lines" in thread:
                 thread["lines"] = []
-    return make_figure(part, "state", picture.draw_film_state(film, len(film["events"])).replace(">content<", ">memory<"))
+    return make_figure(part, "state", picture.draw_film_state(film, len(film["events"])).replace(">content<", ">memory<"), text)
 
 
 def draw_graph(part: Graph, text: bytes) -> str:
     """Returns a picture of an execution."""
     test = plain.compile_test(plain.read_test(text.decode()))
-    return make_figure(
-        part, "graph", graph.draw_execution(executions.make_execution(test, part.schedule), f"{part.test}, the execution of {part.schedule}")
-    )
+    drawn = graph.draw_execution(executions.make_execution(test, part.schedule), f"{part.test}, the execution of {part.schedule}")
+    return make_figure(part, "graph", drawn, text)
 
 
 def shorten_report(report: str) -> str:
@@ -190,10 +214,10 @@ def render_part(part: Part, tests: dict[str, bytes]) -> str:
         return f'<aside>{escape(part.text, quote=False)}</aside>\n'
     text = tests[part.test]
     if isinstance(part, Code):
-        return f'<pre data-kind="code" data-test="{part.test}">{escape(text.decode(), quote=False)}</pre>\n'
+        return f'<pre data-kind="code" data-test="{part.test}">{tints.render_test(text.decode())}</pre>\n'
     if isinstance(part, States):
         report = shorten_report(films.ask_program(["states"], text))
-        return f'<pre data-kind="states" data-test="{part.test}">{escape(report, quote=False)}</pre>\n'
+        return f'<pre data-kind="states" data-test="{part.test}">{tints.render_states(report, text.decode())}</pre>\n'
     return draw_film(part, text) if isinstance(part, Film) else draw_graph(part, text)
 
 

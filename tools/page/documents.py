@@ -54,6 +54,8 @@ SHAPES = "families.html"
 # The documents that are printed on few pages, in small type.
 CARDS = ("card.html", "terms.html", SHAPES)
 SHEET, SLIDES, QUIZ = "sheet.html", "slides.html", "quiz.html"
+# The quizzes of a site, by their seeds. Each has links to the others.
+QUIZZES = {"1": QUIZ, "2": "quiz-2.html", "3": "quiz-3.html"}
 # The heading of the lab below which a site says how to prepare the lab with what is on it, and the Markdown's own words there.
 PREPARATION = re.compile(r'(<h3 id="prepare-it-in-ten-minutes">.*?</h3>\n)<p>.*?</p>\n', re.S)
 # The documents in which commands are folded, and how a paragraph begins that is only for those who run them.
@@ -268,7 +270,7 @@ def make_preparation(has_slides: bool) -> str:
         f"student does is sent anywhere. {link('card.html', 'A card')} has the syntax.",
         f"<strong>Show.</strong> {slides} At the end, show {compared}: the state that only the first has is marked.",
         f"<strong>Afterwards.</strong> {link(QUIZ, 'A quiz')} of ten tests is for the end or for home: it says what was right, and why, and reads the "
-        "codes that students hand in. "
+        "codes that students hand in. It has links to two more quizzes. "
         f"{link('terms.html', 'The terms')} and {link(SHAPES, 'the classic shapes')} are pages to hand out, and {link('tutorial.html', 'the tutorial')} is "
         "for those who want to read on.",
     ]
@@ -298,19 +300,20 @@ def make_page(file: str, tests: dict[str, str], policy: str, about: About, has_s
 
 
 def list_documents(has_slides: bool) -> list[list[str]]:
-    """Returns each document with what it is, as the page lists them, and after the lab its sheet, its slides if the site has them, and its quiz."""
+    """Returns each document with what it is, as the page lists them, and after the lab its sheet, its slides if the site has them, and a quiz."""
     documents = [[file, f"{it.title}: {it.about}"] for file, it in DOCUMENTS.items()]
     after_lab = list(DOCUMENTS).index("lab.html") + 1
     slides = [[SLIDES, "Slides: for the lab's introduction"]] if has_slides else []
-    documents[after_lab:after_lab] = [[SHEET, "Sheet for students: the lab's items, to print"], *slides, [QUIZ, "Quiz: ten tests, with reasons"]]
+    quizzes = [[QUIZ, "Quiz: ten tests, with reasons; three quizzes"]]
+    documents[after_lab:after_lab] = [[SHEET, "Sheet for students: the lab's items, to print"], *slides, *quizzes]
     return documents
 
 
-def make_pages(policy: str, about: About, quiz: str, slides: str | None = None) -> dict[str, str]:
-    """Returns the documents of a site, the sheet of the lab, its quiz, and its slides if there are some: for each file its text."""
+def make_pages(policy: str, about: About, quizzes: dict[str, str], slides: str | None = None) -> dict[str, str]:
+    """Returns the documents of a site, the sheet of the lab, its quizzes, and its slides if there are some: for each file its text."""
     lab = read_file("docs/LAB.md")
     tests = make_tests(lab)
     pages = {file: make_page(file, tests, policy, about, slides is not None) for file in DOCUMENTS}
     pages[SHEET] = sheets.make_sheet(lab, tests, "index.html", is_of_site=True)
-    pages[QUIZ] = quiz
+    pages.update(quizzes)
     return pages if slides is None else {**pages, SLIDES: slides}
