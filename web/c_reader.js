@@ -1,7 +1,9 @@
 // Reads a program in C or C++, or a test of herd in C: its shared variables, its threads, which are functions, and its question. Not proved.
 //
-// A `Program` has a `name`, the initial `words` of its shared variables by their names, its `threads`, and its `question`, or "".
-// A `CThread` has a `name`, its `code`, and the declarations of the shared `variables` that it may use, by their names.
+// A `Program` has a `name`, the initial `words` of its shared variables by their names, its `threads`, and its `question`. It `isHerd`, or not.
+// A `Part` has its `code`, as the program has it, or "", and its `index` in the text. A question is one.
+// A `CThread` has a `name`, its `code`, which is a `Part`, the index of its `head`, and the declarations of the shared `variables` that it may use,
+// by their names. It `returnsWord`, or not.
 // A `Declaration` has the `name` of a variable, and the code of its initial `value`, if it has one. It `isPointer`, or not; if it `isBool`, it holds
 // 0 and 1 only. The `order` is that of the operators on it: seq_cst if it is atomic, relaxed if it is volatile, and otherwise plain.
 
@@ -19,10 +21,13 @@ const HEADERS = /^\s*#\s*include\b.*/gm;
 const NAMESPACE = /\busing namespace std;/;
 // An entry of a block of initial values: the groups are the name of a variable, and its value.
 const ENTRY = /^(?:\w[\w ]*[ *])?\[?([A-Za-z_]\w*)\]?(?:=(.+))?$/;
-// A function up to its first brace within, or to its end: the groups are its name, its parameters, its code, and this brace.
-const FUNCTION = /^(?:\w+[\s*]+)*?(\w+)\s*\(([^(){};]*)\)\s*\{([^{}]*)([{}])/;
+// A function up to its code: the groups are its type, its name, and its parameters.
+const FUNCTION = /^((?:\w+[\s*]+)*?)(\w+)\s*\(([^(){};]*)\)\s*\{/;
+// The types of a result of 32 bits.
+const WORD_TYPE = /^(?:(?:static|extern|inline|const|(?:un)?signed|int|u?int32_t)\s+)*(?:(?:un)?signed|int|u?int32_t)\s+$/;
 const NO_PARAMETERS = /^\s*(?:void\s*)?$/;
 const MACRO = /^#\s*define\b.*/;
+const CLOSING = { "(": ")", "{": "}" };
 // What is outside of functions, to its end.
 const STATEMENT = /^[^;]*;/;
 const QUESTION = /^(?:~|exists|forall|locations)/;
@@ -44,31 +49,64 @@ const OF_GLOBALS = ": outside of threads are only declarations of 32-bit integer
 const OF_PARAMETERS = ": a parameter is a pointer to 32 bits, as `atomic_int *x`";
 const OF_VALUES = ": an initial value is one constant, as in `x = 1` or `x{1}`, and of a `bool` 0 or 1";
 const OF_THREADS = ": a thread is a function without parameters";
+const OF_END = ": after the threads is the question, as `exists (0:r0=0)`";
 const OF_MAIN = ": in place of `main`, each thread is a function without parameters";
 
 /**
- * Throws NoTest for a part of a program, which is cut if it is long, with the rest of a sentence.
- * @param {string} part
+ * Throws NoTest for a part of a program, which is cut if it is long, with the rest of a sentence. The fault has the `index` of the part.
+ * @param {Part} part
  * @param {string} [why]
  */
-export function refusePart(part, why = "") {
-  throw new NoTest(`\`${part.trim().replace(/\s+/g, " ").replace(LONG, "$1..")}\`${why}`);
+export function refusePart({ code, index }, why = "") {
+  const fault = new NoTest(`\`${code.trim().replace(/\s+/g, " ").replace(LONG, "$1..")}\`${why}`);
+  throw Object.assign(fault, { index: index + Math.max(code.search(/\S/), 0) });
+}
+
+/**
+ * Returns the index of the parenthesis or brace that closes the one at an index; -1 if there is none.
+ * @param {string} code
+ * @param {number} open
+ * @returns {number}
+ */
+export function findClosing(code, open) {
+  const [opens, closes] = [code[open], CLOSING[code[open]]];
+  let depth = 0;
+  for (let at = open; at < code.length; at += 1) {
+    depth += Number(code[at] === opens) - Number(code[at] === closes);
+    if (!depth) return at;
+  }
+  return -1;
+}
+
+/** Returns the parts of a code between marks of one letter. */
+function splitCode({ code, index }, mark) {
+  let begin = index;
+  return code.split(mark).map((it) => {
+    begin += it.length + 1;
+    return { code: it, index: begin - it.length - 1 };
+  });
+}
+
+/** Returns blanks in place of a text, whose ends of lines stay. */
+function blank(text) {
+  return text.replace(/[^\n]/g, " ");
 }
 
 /**
  * Returns code with few blanks and no `std::`, in which methods and macros that access a variable are calls of functions of C. The order of a macro
- * is in the name of its function.
+ * is in the name of its function. Between two signs of which blanks make no operator is a `@`.
  * @param {string} code
  * @returns {string}
  */
 export function squeezeCode(code) {
-  const short = code.replace(/\s+/g, " ").replace(/ ?([^\w ]) ?/g, "$1").trim();
+  const short = code.replace(/([+-])\s+(?=[+-]|=(?!=))|([=!])\s+(?==)/g, "$&@").replace(/\s+/g, " ").replace(/ ?([^\w ]) ?/g, "$1").trim();
   return short
     .replace(/\bstd::/g, "")
     .replace(/\bmemory_order::/g, "memory_order_")
     .replace(/(\w+)(\.|->)(load|store|exchange|fetch_\w+)\(/g, (_, name, sign, method) => `atomic_${method}(${sign === "." ? "&" : ""}${name},`)
     .replace(/\b(READ|WRITE)_ONCE\((\*?)/g, (_, macro, star) => `atomic_${macro === "READ" ? "load" : "store"}_relaxed(${star ? "" : "&"}`)
-    .replace(/\bsmp_(load_acquire|store_release)\(/g, "atomic_$1(");
+    .replace(/\bsmp_(load_acquire|store_release)\(/g, "atomic_$1(")
+    .replace(/\bxchg\(/g, "atomic_exchange(");
 }
 
 /**
@@ -96,7 +134,7 @@ export function parseDeclaration(code) {
   return declarators.map(([, name, value, inner]) => ({ name, value: value ?? inner, isPointer: star !== "", isBool, order }));
 }
 
-/** Reads a program from its begin to its end. `rest` is what is not read yet. */
+/** Reads a program from its begin to its end. `rest` is what is not read yet, in which comments are blank. */
 class ProgramReader {
   /** @param {string} text */
   constructor(text) {
@@ -109,37 +147,53 @@ class ProgramReader {
     this.threads = [];
   }
 
+  /** Returns the index of the rest in the text. */
+  get index() {
+    return this.text.length - this.rest.length;
+  }
+
+  /** Returns a part at the begin of the rest, of some length. */
+  cutPart(length) {
+    return { code: this.rest.slice(0, length), index: this.index };
+  }
+
+  /** Removes a part of some length from the rest, and the blanks after it. */
+  skipPart(length) {
+    this.rest = this.rest.slice(length).trimStart();
+  }
+
   /** Returns the program. Throws NoTest at what is no declaration of a variable, no function of a thread and no question. */
   readProgram() {
     const asked = this.takeComments();
     if (this.isHerd) this.readHeading();
-    this.rest = this.rest.replace(HEADERS, "").replace(NAMESPACE, "").trim();
+    this.rest = this.rest.replace(HEADERS, blank).replace(NAMESPACE, blank).trimStart();
     while (this.rest && !QUESTION.test(this.rest)) this.readDefinition();
     this.checkThreads();
-    return { name: this.name, words: this.words, threads: this.threads, question: (this.rest || asked).trim() };
+    const question = this.rest ? this.cutPart(this.rest.length) : asked;
+    return { name: this.name, isHerd: this.isHerd, words: this.words, threads: this.threads, question };
   }
 
-  /** Takes the comments out of the text. Returns the question in them, or "". Throws NoTest if a program asks twice. */
+  /** Takes the comments out of the text. Returns the question in them. Throws NoTest if a program asks twice. */
   takeComments() {
     const questions = [];
-    this.rest = (this.isHerd ? blankComments(this.text) : this.text).replace(COMMENT, (comment, line, block) => {
-      const question = line ?? block;
-      if (question !== undefined) questions.push(question);
-      if (questions.length > 1 && !this.isHerd) refusePart(comment, ": a second comment says what is asked");
-      return " ";
+    this.rest = (this.isHerd ? blankComments(this.text) : this.text).replace(COMMENT, (comment, line, block, index) => {
+      const code = line ?? block;
+      if (code !== undefined) questions.push({ code, index: index + comment.lastIndexOf(code) });
+      if (questions.length > 1 && !this.isHerd) refusePart({ code: comment, index }, ": a second comment says what is asked");
+      return blank(comment);
     });
-    return questions.find(Boolean) ?? "";
+    return questions.find((it) => it.code) ?? { code: "", index: 0 };
   }
 
   /** Reads the name and the initial values of a test of herd. */
   readHeading() {
-    const [heading, name, block] = HEADING.exec(this.rest) ?? refusePart(this.rest, OF_HEADING);
+    const [heading, name, block] = HEADING.exec(this.rest) ?? refusePart(this.cutPart(this.rest.length), OF_HEADING);
     this.name = name;
-    for (const entry of block.split(";").filter((it) => it.trim())) {
-      const [, variable, value = "0"] = ENTRY.exec(squeezeCode(entry)) ?? refusePart(entry, OF_ENTRIES);
+    for (const entry of splitCode({ code: block, index: this.index + heading.indexOf("{") + 1 }, ";").filter((it) => it.code.trim())) {
+      const [, variable, value = "0"] = ENTRY.exec(squeezeCode(entry.code)) ?? refusePart(entry, OF_ENTRIES);
       this.words.set(variable, parseConstant(value) ?? refusePart(entry, OF_ENTRIES));
     }
-    this.rest = this.rest.slice(heading.length);
+    this.skipPart(heading.length);
   }
 
   /** Reads a function, or a declaration outside of them. */
@@ -150,29 +204,34 @@ class ProgramReader {
       return;
     }
     const [macro] = MACRO.exec(this.rest) ?? [];
-    if (macro) refusePart(macro, ": write its text where it is used");
+    if (macro) refusePart(this.cutPart(macro.length), ": write its text where it is used");
     const [whole] = STATEMENT.exec(this.rest) ?? [this.rest];
-    if (whole.includes("{") && !this.rest.includes("}")) refusePart(whole, ": its `}` is missing");
-    if (this.isHerd || !whole.endsWith(";")) refusePart(whole);
-    this.declareVariables(this.globals, whole.slice(0, -1), whole, OF_GLOBALS);
-    this.rest = this.rest.slice(whole.length).trim();
+    const part = this.cutPart(whole.length);
+    if (this.isHerd) refusePart(part, OF_END);
+    if (!whole.endsWith(";")) refusePart(part, OF_GLOBALS);
+    this.declareVariables(this.globals, whole.slice(0, -1), part, OF_GLOBALS);
+    this.skipPart(whole.length);
   }
 
   /**
-   * Reads a function, which is a thread. In herd's form its parameters are its variables, and otherwise it has none. A block in it is refused later,
-   * with the statement before it.
+   * Reads a function, which is a thread. In herd's form its parameters are its variables, and otherwise it has none.
    * @param {string[]} found the match of FUNCTION
    */
-  readFunction([whole, name, parameters, code, brace]) {
+  readFunction([{ length }, type, name, parameters]) {
+    const end = findClosing(this.rest, length - 1);
+    if (end < 0) refusePart(this.cutPart(length), ": its `}` is missing");
+    const whole = this.cutPart(end + 1);
     if (name === "main") refusePart(whole, OF_MAIN);
     if (!this.isHerd && !NO_PARAMETERS.test(parameters)) refusePart(whole, OF_THREADS);
     const variables = this.isHerd ? new Map() : this.globals;
-    for (const parameter of this.isHerd ? parameters.split(",") : []) {
-      this.declareVariables(variables, parameter, parameter.trim() ? parameter : whole, OF_PARAMETERS);
+    const begin = this.index + this.rest.indexOf("(") + 1;
+    for (const parameter of this.isHerd ? splitCode({ code: parameters, index: begin }, ",") : []) {
+      this.declareVariables(variables, parameter.code, parameter.code.trim() ? parameter : whole, OF_PARAMETERS);
     }
-    const isWhole = brace === "}";
-    this.threads.push({ name, code: isWhole ? code : `${code}{`, variables });
-    this.rest = isWhole ? this.rest.slice(whole.length).trim() : "";
+    const code = { code: this.rest.slice(length, end), index: this.index + length };
+    const returnsWord = !this.isHerd && WORD_TYPE.test(type);
+    this.threads.push({ name, head: this.index + this.rest.indexOf(name, type.length), code, variables, returnsWord });
+    this.skipPart(end + 1);
   }
 
   /**
@@ -180,7 +239,7 @@ class ProgramReader {
    * if it is no declaration of shared variables, which are pointers in herd's form only.
    * @param {Map<string, Declaration>} variables
    * @param {string} code
-   * @param {string} shown
+   * @param {Part} shown
    * @param {string} why
    */
   declareVariables(variables, code, shown, why) {
@@ -197,10 +256,10 @@ class ProgramReader {
 
   /** Throws NoTest if there is no thread, or if some are functions `P0`, `P1` and so on, and one is not in its place. */
   checkThreads() {
-    if (!this.threads.length) refusePart(this.text, ": threads are functions `P0`, `P1` and so on");
+    if (!this.threads.length) refusePart({ code: this.text, index: 0 }, ": threads are functions `P0`, `P1` and so on");
     const isNumbered = this.threads.some((it) => /^P\d+$/.test(it.name));
     const other = this.threads.find((it, number) => isNumbered && it.name !== `P${number}`);
-    if (other) refusePart(other.name, ": all functions are threads, `P0`, `P1` and so on, in this order");
+    if (other) refusePart({ code: other.name, index: other.head }, ": all functions are threads, `P0`, `P1` and so on, in this order");
   }
 }
 

@@ -16,11 +16,12 @@ const C =
   /^(?:C\s|#\s*(?:include|define)\b|(?:(?:extern|static|volatile|_Atomic)\s+)*(?:(?:atomic_\w+|int|void|unsigned|u?int\d+_t)\s|std::|_Atomic\())/;
 const OF_C = "`tools/from_c.py` compiles programs in C, C++ and Rust, and herd's tests in C";
 const OF_PROGRAM = " For that its threads are functions `P0`, `P1` and so on without parameters, and its last line asks, as `// lw: exists (0:r0=0)` does.";
+const OF_FIRST_WORD = " Its first word is `C` then.";
+const OF_GUESS = " The question is a guess: change it to yours.";
 const OF_BUTTON =
   "The button makes an x86 test of it: each access as gcc and clang compile it, in the order of the program. That is not proved, and a compiler may " +
   "also reorder or merge relaxed and plain accesses.";
 const NOT_ASKED = " The question `true` holds always: look at the list of states.";
-const NO_BUTTON = "A button rewrites straight-line threads of 32-bit loads, stores, exchanges, additions and fences, but not";
 // How a program in Rust begins, what only C++ has, and how a thread in C begins.
 const RUST = /^\s*(?:use|fn|pub|static\s+\w+\s*:|#!?\[)/;
 const CPP = /\bstd::|<atomic>/;
@@ -33,28 +34,43 @@ const ENTRY = new RegExp(`^(?:(${TYPES}))?((?:\\d\\s*:\\s*)?\\w+)(?:\\s*=\\s*(\\
 const TYPED = new RegExp(`(?:[{;]|^)\\s*${TYPES}(?:\\d\\s*:\\s*)?\\w`);
 
 /**
- * Returns a hint on a program, that `words` say begins here: the `command` that prints its test, which a file of a likely name has. If the program is in C
- * or C++ and simple, it proposes the test in place of the whole text, and the words on the command are `more`; otherwise it says why it is not.
+ * Returns a hint on a program, that `words` say begins here: the `command` that prints its test, which a file of a likely name has, with words on it in
+ * `more`. If the program is in C or C++ and simple, the hint proposes the test in place of the whole text; otherwise it says why it is not, and where.
  * @param {string} words
  * @param {string} text
  * @param {FaultPlace} place
- * @returns {{words: string, more?: string, document: string, command: string}}
+ * @returns {{words: string, more: string, document: string, command: string, at?: object}}
  */
 function explainProgram(words, text, place) {
   const name = /^\s*(?:C|X86|SRC)\s+([\w+.-]+)/.exec(text)?.[1] ?? "mine";
   const file = `${name}.${RUST.test(text) ? "rs" : CPP.test(text) ? "cc" : "c"}`;
   const command = `python3 tools/from_c.py --show ${file}`;
   const once = /_ONCE\b/.test(text) ? " (In place of `READ_ONCE(*x)` it takes `atomic_load_explicit(x, memory_order_relaxed)`.)" : "";
-  const form = /^\s*(?:C|X86|SRC)\s/.test(text) ? "" : OF_PROGRAM;
+  const [, first] = /^\s*(C|X86|SRC)\s/.exec(text) ?? [];
+  const form = first === "C" ? "" : first ? OF_FIRST_WORD : OF_PROGRAM;
   const how = `${OF_C}: save this as \`${file}\`, then \`${command}\` prints a test for this page.${form}${once}`;
-  const { made, why } = RUST.test(text) ? {} : rewriteProgram(text);
-  if (made) {
-    place.proposeChange(made, 0, place.text.length);
-    Object.assign(place.change, { title: "Rewrite it as an x86 test", done: "Rewritten." });
-  }
-  const hint = { document: "from-c.html", command };
-  if (made) return { words: `${words} ${OF_BUTTON}${made.endsWith("(true)\n") ? NOT_ASKED : ""}`, more: how, ...hint };
-  return { words: `${words} ${HERE} ${how}${why ? ` ${NO_BUTTON} ${why}.` : ""}`, ...hint };
+  const hint = { more: how, document: "from-c.html", command };
+  if (RUST.test(text)) return { words: `${words} ${HERE}`, ...hint };
+  const { made, isGuess, why, index } = rewriteProgram(text);
+  if (!made) return { words: explainRefusedProgram(text, why, index), ...hint, at: findPart(place.text, text, index) };
+  place.proposeChange(made, 0, place.text.length);
+  Object.assign(place.change, { title: "Rewrite it as an x86 test", done: "Rewritten." });
+  const question = made.endsWith("(true)\n") ? NOT_ASKED : isGuess ? OF_GUESS : "";
+  return { words: `${words} ${OF_BUTTON}${question}`, ...hint };
+}
+
+/** Returns a sentence that says why a program is not rewritten: for its part at an index, or, without an index, for what lw refuses in its test. */
+function explainRefusedProgram(text, why, index) {
+  const program = `this program in ${CPP.test(text) ? "C++" : "C"}`;
+  return `The page would rewrite ${program} as an x86 test, ${index === undefined ? "which lw refuses:" : "but not"} ${why}.`;
+}
+
+/** Returns where an index is of a program that ends a text, as a row, a column and an index of the text; undefined if the index is. */
+function findPart(text, program, index) {
+  if (index === undefined) return undefined;
+  const at = text.length - program.length + index;
+  const lines = text.slice(0, at).split("\n");
+  return { row: lines.length, column: [...lines.at(-1)].length + 1, index: at };
 }
 
 /**
@@ -131,6 +147,8 @@ export function explainComment(place) {
  */
 export function explainMissingFront(place) {
   const { text, index, token } = place;
+  // Without rows it is no test that lacks its front.
+  if (!/[|;][ \t]*$/m.test(text.slice(index))) return "";
   const front = blankComments(text.slice(0, index));
   // Before a block a thread's name is read as that of a note, and the fault is after it.
   const hasThreads = token === "P0" || (/\bP0\s*$/.test(front) && /^[|;]$/.test(token));

@@ -73,6 +73,56 @@ const STATEMENTS = [
   ["int r0 = x++;", "MOV EAX,$1; LOCK XADD [x],EAX", "int r0 = (*x)++;"],
   ["int r0 = 3; x.fetch_add(r0);", "MOV EAX,$3; MOV EBX,EAX; LOCK XADD [x],EBX", "int r0 = 3; x->fetch_add(r0);"],
   ["x.fetch_add(0);", "MOV EAX,$0; LOCK XADD [x],EAX", "x->fetch_add(0);"],
+  ["xchg(&x, 2);", "MOV EAX,$2; XCHG [x],EAX", "xchg(x, 2);"],
+  ["int r0 = xchg(&v, 2);", "MOV EAX,$2; XCHG [v],EAX", "int r0 = xchg(v, 2);"],
+  ["int r0 = ++x;", "MOV EAX,$1; LOCK XADD [x],EAX; ADD EAX,$1", "int r0 = ++*x;"],
+  ["v = --x;", "MOV EAX,$4294967295; LOCK XADD [x],EAX; ADD EAX,$4294967295; MOV [v],EAX", "*v = --(*x);"],
+  ["int r0 = x--;", "MOV EAX,$4294967295; LOCK XADD [x],EAX", "int r0 = (*x)--;"],
+  // Sums.
+  ["int r0 = x; int r1 = y; int r2 = r0 + r1;", "MOV EAX,[x]; MOV EBX,[y]; MOV ECX,EAX; ADD ECX,EBX", "int r0 = *x; int r1 = *y; int r2 = r0 + r1;"],
+  ["int r0 = 1 + x;", "MOV EAX,[x]; ADD EAX,$1", "int r0 = 1 + *x;"],
+  ["int r0 = 2; int r1 = r0 + x - 1;", "MOV EAX,$2; MOV EBX,[x]; ADD EBX,EAX; ADD EBX,$4294967295", "int r0 = 2; int r1 = r0 + *x - 1;"],
+  ["int r0 = 2; r0 = x + r0;", "MOV EAX,$2; MOV EBX,[x]; ADD EBX,EAX; MOV EAX,EBX", "int r0 = 2; r0 = *x + r0;"],
+  ["int r0 = x; int r1 = 1; r0 = r1 + r0; r0 += r1; r0 += r0; r0 += y;",
+    "MOV EAX,[x]; MOV EBX,$1; ADD EAX,EBX; ADD EAX,EBX; ADD EAX,EAX; MOV ECX,[y]; ADD ECX,EAX; MOV EAX,ECX",
+    "int r0 = *x; int r1 = 1; r0 = r1 + r0; r0 += r1; r0 += r0; r0 += *y;"],
+  ["int r0 = x; r0 = r0 + 1 + r0 + r0 - 3;", "MOV EAX,[x]; MOV EBX,EAX; ADD EBX,EAX; ADD EBX,EAX; ADD EBX,$4294967294; MOV EAX,EBX",
+    "int r0 = *x; r0 = r0 + 1 + r0 + r0 - 3;"],
+  ["int r0 = 1; int r1 = 2; v = r0 + r1; x = (r0 + 1);",
+    "MOV EAX,$1; MOV EBX,$2; MOV ECX,EAX; ADD ECX,EBX; MOV [v],ECX; MOV ECX,EAX; ADD ECX,$1; XCHG [x],ECX",
+    "int r0 = 1; int r1 = 2; *v = r0 + r1; *x = (r0 + 1);"],
+  ["int r0 = 5 - 2 + 1; int r1 = r0 - -1;", "MOV EAX,$4; MOV EBX,EAX; ADD EBX,$1", "int r0 = 5 - 2 + 1; int r1 = r0 - -1;"],
+  ["int r0 = x++ + 1; int r1 = r0 + ++x;",
+    "MOV EAX,$1; LOCK XADD [x],EAX; ADD EAX,$1; MOV EBX,$1; LOCK XADD [x],EBX; ADD EBX,$1; ADD EBX,EAX",
+    "int r0 = (*x)++ + 1; int r1 = r0 + ++*x;"],
+  ["int r0 = 7; int r1 = r0++; r1 = --r0; v = r0--; r0++;",
+    "MOV EAX,$7; MOV EBX,EAX; ADD EAX,$1; ADD EAX,$4294967295; MOV EBX,EAX; MOV ECX,EAX; ADD EAX,$4294967295; MOV [v],ECX; ADD EAX,$1",
+    "int r0 = 7; int r1 = r0++; r1 = --r0; *v = r0--; r0++;"],
+  // Branches.
+  ["int r0 = x; if (r0) y.store(1, std::memory_order_relaxed);", "MOV EAX,[x]; CMP EAX,$0; JE END; MOV [y],$1; END:",
+    "int r0 = *x; if (r0) y->store(1, memory_order_relaxed);"],
+  ["if (x == 1) { v = 1; v = 2; } v = 3;", "MOV EAX,[x]; CMP EAX,$1; JNE L1; MOV [v],$1; MOV [v],$2; L1: MOV [v],$3",
+    "if (*x == 1) { *v = 1; *v = 2; } *v = 3;"],
+  ["int r0 = 4; if (atomic_load_explicit(&x, memory_order_acquire)) r0 = v; else { r0 = y; }",
+    "MOV EAX,$4; MOV EBX,[x]; CMP EBX,$0; JE L1; MOV EAX,[v]; JMP END; L1: MOV EAX,[y]; END:",
+    "int r0 = 4; if (atomic_load_explicit(x, memory_order_acquire)) r0 = *v; else { r0 = *y; }"],
+  ["int r0 = x; if (!r0) v = 1; else if (2 != r0) v = 2; else v = 3; smp_mb();",
+    "MOV EAX,[x]; CMP EAX,$0; JNE L1; MOV [v],$1; JMP L2; L1: CMP EAX,$2; JE L3; MOV [v],$2; JMP L4; L3: MOV [v],$3; L4: L2: MFENCE",
+    "int r0 = *x; if (!r0) *v = 1; else if (2 != r0) *v = 2; else *v = 3; smp_mb();"],
+  ["int r0 = x; int r1 = y; if (r0 == r1 && !(r1 == 0) && x.exchange(1) != 2) if (v) v = 1;",
+    "MOV EAX,[x]; MOV EBX,[y]; CMP EAX,EBX; JNE END; CMP EBX,$0; JE END; MOV ECX,$1; XCHG [x],ECX; CMP ECX,$2; JE END; MOV ECX,[v]; CMP ECX,$0; " +
+    "JE END; MOV [v],$1; END:", "int r0 = *x; int r1 = *y; if (r0 == r1 && !(r1 == 0) && x->exchange(1) != 2) if (*v) *v = 1;"],
+  ["if (!x.load()) return; v = 1; if (y) { v = 2; return; } else v = 3;",
+    "MOV EAX,[x]; CMP EAX,$0; JNE L1; JMP END; L1: MOV [v],$1; MOV EAX,[y]; CMP EAX,$0; JE L2; MOV [v],$2; JMP END; L2: MOV [v],$3; END:",
+    "if (!x->load()) return; *v = 1; if (*y) { *v = 2; return; } else *v = 3;"],
+  ["if (x++ == 1) v = 1; if (2 != --y) v = 2;",
+    "MOV EAX,$1; LOCK XADD [x],EAX; CMP EAX,$1; JNE L1; MOV [v],$1; L1: MOV EAX,$4294967295; LOCK XADD [y],EAX; ADD EAX,$4294967295; CMP EAX,$2; " +
+    "JE END; MOV [v],$2; END:", "if ((*x)++ == 1) *v = 1; if (2 != --*y) *v = 2;"],
+  ["if (x) ; { int r0 = y; v = r0; } if (x + 1 == 2) { } else v = 2; { int r0 = 1; }",
+    "MOV EBX,[x]; CMP EBX,$0; JE L1; L1: MOV EAX,[y]; MOV [v],EAX; MOV EBX,[x]; ADD EBX,$1; CMP EBX,$2; JNE L2; JMP L3; L2: MOV [v],$2; " +
+    "L3: MOV EAX,$1", "if (*x) ; { int r0 = *y; *v = r0; } if (*x + 1 == 2) { } else *v = 2; { int r0 = 1; }"],
+  ["if (x) p = 1; else p = y; if (p == 1) v = p;",
+    "MOV EBX,[x]; CMP EBX,$0; JE L1; MOV EAX,$1; JMP L2; L1: MOV EAX,[y]; L2: CMP EAX,$1; JNE END; MOV [v],EAX; END:", null],
   // Fences.
   ["atomic_thread_fence(memory_order_seq_cst);", "MFENCE", "atomic_thread_fence(memory_order_seq_cst);"],
   ["std::atomic_thread_fence(std::memory_order::seq_cst); smp_mb(); __sync_synchronize();", "MFENCE; MFENCE; MFENCE",
@@ -97,84 +147,141 @@ void P0(void) { x = 1; int r0 = y; }
 void P1(void) { y = 1; int r0 = x; }
 // lw: exists (0:r0=0 /\\ 1:r0=0)
 `;
-const RACE = "on which threads race: make it atomic or volatile";
-const OF_GLOBALS = "outside of threads are only declarations of 32-bit integers and `bool`, as `atomic_int x = 1;`";
-const OF_VALUES = "an initial value is one constant, as in `x = 1` or `x{1}`, and of a `bool` 0 or 1";
-const OF_ENTRIES = "initial values are entries as `x=1;`";
-const OF_BRANCHES = "`tools/from_c.py` follows branches and loops";
-const OF_WAITING = "in place of a loop that waits, load once, and ask for the value that ends it";
+const RACE = ", on which threads may race: make it atomic or volatile";
+const OF_GLOBALS = ": outside of threads are only declarations of 32-bit integers and `bool`, as `atomic_int x = 1;`";
+const OF_VALUES = ": an initial value is one constant, as in `x = 1` or `x{1}`, and of a `bool` 0 or 1";
+const OF_LOOPS = ": write out each pass of a loop. `tools/from_c.py` follows loops";
+const OF_WAITING = ": in place of a loop that waits, load once, and ask for the value that ends it";
+const OF_OTHERS = ": a statement is one load, store, exchange, addition or fence, or an `if`";
+const OF_ORDER = ", of which compilers make different code";
+const OF_BOOLS = ": a `bool` is set to `true`, `false`, or another `bool` that is loaded";
+const OF_SUBTRACTION = ": the x86 format subtracts constants only";
+const OF_COMPARISONS = ": compare in the condition of an `if`";
+const OF_NAMES = ": all functions are threads, `P0`, `P1` and so on, in this order";
+const UNSET = ", of which the question asks: nothing sets it";
+const OF_CONDITIONS = ": a condition compares by `==` or `!=`, and has `&&` at most";
+const OF_STEPS = ": write `++` and `--` of a thread's own variable in a statement of its own";
+const OF_LOADS = ": load each shared variable into one of the thread first, since compilers choose which is first";
+const OF_PATHS = ", of which the question asks: declare it outside of blocks, with a value, as `int r0 = 0`";
+const OF_CAS = ": the x86 format has no compare-and-swap. `tools/from_c.py` follows it";
+const OF_ENDS = ": its `;` is missing";
+const OF_SIDES = ": compare with a constant or a variable of the thread";
+const OF_VALUE = " has no value on some path to here";
+const OF_LONE = ": give it a name that no other variable has";
+const OF_FENCES = ": a fence is `atomic_thread_fence(memory_order_seq_cst)`";
+const OF_CONSTANTS = ": a constant is decimal, or `0x` and hexadecimal, of 32 bits";
+const OF_ASSIGNMENTS = ": write each assignment as a statement of its own";
+const OF_REGISTERS = ", which needs more than six registers";
+const OF_ENTRIES = ": initial values are entries as `x=1;`";
 const REFUSED = [
-  ["int r0 = y;", "if (y == 1) { int r0 = 1; }", `\`if (y == 1) {\`. ${OF_BRANCHES}`],
-  ["int r0 = y;", "while (y != 1) ;", `\`while (y != 1)\`: ${OF_WAITING}`],
-  ["int r0 = y;", "for (int i = 0; i < 3; i++) x = i;", `\`for (int i = 0\`. ${OF_BRANCHES}`],
-  ["int r0 = y;", "while (x.exchange(1)) ;", `\`while (x.exchange(1))\`. ${OF_BRANCHES}`],
-  ["int r0 = y;", "int r0 = y; return r0;", "`return r0`: a thread returns nothing, and its results are in variables, as `int r0`"],
-  ["x = 1;", "x = 1; return;", "`return`"],
-  ["int r0 = y;", "int r0 = *x++;", "`int r0 = *x++`"],
-  ["x = 1;", "x = 1, memory_order_relaxed;", "`x = 1, memory_order_relaxed`"],
-  ["int r0 = y;", "int a = y, b = y, c = y, e = y, f = y, g = y, h = y; x = h;", "`P0`, which needs more than six registers"],
-  ["int r0 = y;", "L: int r0 = y;", "`L: int r0 = y`"],
-  ["int r0 = y;", "int r0 = y * 2;", "`int r0 = y * 2`"],
-  ["int r0 = y;", "int r0 = y + x;", "`int r0 = y + x`"],
-  ["int r0 = y;", "int r0 = 1 + y;", "`int r0 = 1 + y`"],
-  ["int r0 = y;", "int r0 = y; r0 -= 2 - 1;", "`r0 -= 2 - 1`"],
-  ["int r0 = y;", "int r0 = y; r0 += r0;", "`r0 += r0`"],
-  ["int r0 = y;", "y -= 2 - 1;", "`y -= 2 - 1`"],
-  ["int r0 = y;", "int r0 = atomic_fetch_sub(&y, 1 + 1);", "`int r0 = atomic_fetch_sub(&y, 1 + 1)`"],
-  ["int r0 = y;", "int r0 = y, r1 = r0++;", "`int r0 = y, r1 = r0++`"],
-  ["int r0 = y;", "int d = y;", "`int d = y`"],
-  ["int r0 = y;", "x = 1, y = 2;", "`x = 1, y = 2`"],
-  ["int r0 = y;", "(void) y;", "`(void) y`"],
-  ["int r0 = y;", "int r0 = ++y;", "`int r0 = ++y`"],
-  ["int r0 = y;", "int r0 = y += 1;", "`int r0 = y += 1`"],
-  ["int r0 = y;", "int r0 = x = 1;", "`int r0 = x = 1`"],
-  ["int r0 = y;", "int r0 = y == 1;", "`int r0 = y == 1`"],
-  ["int r0 = y;", "int r0 = !y;", "`int r0 = !y`"],
-  ["int r0 = y;", "int r0; int r1 = r0;", "`int r1 = r0`"],
-  ["int r0 = y;", "int *r0 = &y;", "`int *r0 = &y`"],
-  ["int r0 = y;", "long r0 = y;", "`long r0 = y`"],
-  ["int r0 = y;", "int r0 = 010;", "`int r0 = 010`"],
-  ["int r0 = y;", "int r0 = 4294967296;", "`int r0 = 4294967296`"],
-  ["int r0 = y;", "int r0 = f(y);", "`int r0 = f(y)`"],
-  ["int r0 = y;", "int r0 = *y;", "`int r0 = *y`"],
-  ["int r0 = y;", "int r0 = atomic_load(y);", "`int r0 = atomic_load(y)`"],
-  ["int r0 = y;", "int r0 = z;", "`int r0 = z`"],
-  ["int r0 = y;", "int r0 = atomic_fetch_or(&y, 1);", "`int r0 = atomic_fetch_or(&y, 1)`"],
-  ["int r0 = y;", "int e = 0, r0 = atomic_compare_exchange_strong(&y, &e, 1);", "`int e = 0, r0 = atomic_compare_exchange_..`"],
-  ["int r0 = y;", "int r0 = y.load(std::memory_order_release);",
-    "`int r0 = y.load(std::memory_order_releas..`, of which compilers make different code"],
-  ["x = 1;", "x.store(1, std::memory_order_acquire);", "`x.store(1, std::memory_order_acquire)`, of which compilers make different code"],
-  ["x = 1;", "x.exchange(1, std::memory_order_relaxed);", "`x.exchange(1, std::memory_order_relaxed)`, of which compilers make different code"],
-  ["x = 1;", "x.fetch_add(0, std::memory_order_acquire);", "`x.fetch_add(0, std::memory_order_acquire..`, of which compilers make different code"],
-  ["x = 1;", "atomic_thread_fence(seq_cst);", "`atomic_thread_fence(seq_cst)`"],
-  ["x = 1;", "asm volatile(\"mfence\" ::: \"memory\");",
-    "`asm volatile(\"mfence\" ::: \"memory\")`: a fence is `atomic_thread_fence(memory_order_seq_cst)`"],
-  ["x = 1;", "d = 1;", `\`d\`, ${RACE}`, "y = 1;", "d = 2;"],
-  ["x = 1;", "d = 1;", `\`d\`, ${RACE}`, "y = 1;", "int r1 = READ_ONCE(d);"],
-  ["x = 1;", "d++;", "`d++`", "y = 1;", "d = 2;"],
-  ["int d;", "volatile int d;", "`d++`", "x = 1;", "d++;"],
-  ["int d;", "volatile int d;", "`int r0 = d++`", "int r0 = y;", "int r0 = d++;"],
-  ["void P0(void) { x = 1; int r0 = y; }", "void P0(void) { x = 1; int a = y, b = y, c = y, e = y, f = y, g = y, h = y; }",
-    "`P0`, which needs more than six registers"],
-  ["void P0(void) { x = 1; int r0 = y; }", "void P0(void) { int a = y, b = y, c = y, e = y, f = y, g = y; x = 1; }",
-    "`P0`, which needs more than six registers"],
-  ["// lw", "void other(void) { x = 2; }\n// lw", "`other`: all functions are threads, `P0`, `P1` and so on, in this order"],
-  ["void P0", "void P2", "`P2`: all functions are threads, `P0`, `P1` and so on, in this order"],
+  ["int r0 = y;", "if (y == 1) { int r0 = 1; }", `\`0:r0\`${OF_PATHS}`],
+  ["int r0 = y;", "while (y != 1) ;", `\`while (y != 1)\`${OF_WAITING}`],
+  ["int r0 = y;", "for (int i = 0; i < 3; i++) x = i;", `\`for (int i = 0; i < 3; i++)\`${OF_LOOPS}`],
+  ["int r0 = y;", "while (x.exchange(1)) ;", `\`while (x.exchange(1))\`${OF_LOOPS}`],
+  ["int r0 = y;", "int r0 = y; return r0;", "`return r0`: a thread that returns a value is `int P0(void)`"],
+  ["x = 1;", "x = 1; return;", "`int r0 = y`: no run comes here after a `return`"],
+  ["int r0 = y;", "int r0 = *x++;", `\`int r0 = *x++\`${OF_OTHERS}`],
+  ["x = 1;", "x = 1, memory_order_relaxed;", `\`x = 1, memory_order_relaxed\`${OF_OTHERS}`],
+  ["int r0 = y;", "int a = y, b = y, c = y, e = y, f = y, g = y, h = y; x = h;", `\`P0\`${OF_REGISTERS}`],
+  ["int r0 = y;", "L: int r0 = y;", "`L: int r0 = y`: `goto` and labels are not rewritten"],
+  ["int r0 = y;", "int r0 = y * 2;", "`int r0 = y * 2`: the x86 format has sums only"],
+  ["int r0 = y;", "int r0 = y + x;", `\`int r0 = y + x\`${OF_LOADS}`],
+  ["int r0 = y;", "int r0 = y; r0 -= 2 - 1;", `\`r0 -= 2 - 1\`${OF_SUBTRACTION}`],
+  ["int r0 = y;", "y -= 2 - 1;", `\`y -= 2 - 1\`${OF_SUBTRACTION}`],
+  ["int r0 = y;", "int r0 = atomic_fetch_sub(&y, 1 + 1);", `\`int r0 = atomic_fetch_sub(&y, 1 + 1)\`${OF_SUBTRACTION}`],
+  ["int r0 = y;", "int d = y;", `\`int d = y\`${OF_LONE}`],
+  ["int r0 = y;", "x = 1, y = 2;", `\`x = 1, y = 2\`${OF_ASSIGNMENTS}`],
+  ["int r0 = y;", "(void) y;", `\`(void) y\`${OF_OTHERS}`],
+  ["int r0 = y;", "int r0 = y += 1;", `\`int r0 = y += 1\`${OF_ASSIGNMENTS}`],
+  ["int r0 = y;", "int r0 = x = 1;", `\`int r0 = x = 1\`${OF_ASSIGNMENTS}`],
+  ["int r0 = y;", "int r0 = y == 1;", `\`int r0 = y == 1\`${OF_COMPARISONS}`],
+  ["int r0 = y;", "int r0 = !y;", `\`int r0 = !y\`${OF_COMPARISONS}`],
+  ["int r0 = y;", "int r0; int r1 = r0;", `\`int r1 = r0\`: \`r0\`${OF_VALUE}`],
+  ["int r0 = y;", "int *r0 = &y;", "`int *r0 = &y`: threads have no pointers and arrays of their own"],
+  ["int r0 = y;", "long r0 = y;", "`long r0 = y`: a variable has 32 bits, as `int r0`"],
+  ["int r0 = y;", "int r0 = 010;", `\`int r0 = 010\`${OF_CONSTANTS}`],
+  ["int r0 = y;", "int r0 = 4294967296;", `\`int r0 = 4294967296\`${OF_CONSTANTS}`],
+  ["int r0 = y;", "int r0 = f(y);", "`int r0 = f(y)`: write what the function does in its place"],
+  ["int r0 = y;", "int r0 = *y;", "`int r0 = *y`: `y` is no pointer, as `&y` is"],
+  ["int r0 = y;", "int r0 = atomic_load(y);", "`int r0 = atomic_load(y)`: `y` is no pointer, as `&y` is"],
+  ["int r0 = y;", "int r0 = z;", "`int r0 = z`: `z` is not declared"],
+  ["int r0 = y;", "int r0 = atomic_fetch_or(&y, 1);",
+    "`int r0 = atomic_fetch_or(&y, 1)`: of locked instructions the x86 format has only exchange and addition"],
+  ["int r0 = y;", "int e = 0, r0 = atomic_compare_exchange_strong(&y, &e, 1);", `\`int e = 0, r0 = atomic_compare_exchange_..\`${OF_CAS}`],
+  ["int r0 = y;", "int r0 = y.load(std::memory_order_release);", `\`int r0 = y.load(std::memory_order_releas..\`${OF_ORDER}`],
+  ["x = 1;", "x.store(1, std::memory_order_acquire);", `\`x.store(1, std::memory_order_acquire)\`${OF_ORDER}`],
+  ["x = 1;", "x.exchange(1, std::memory_order_relaxed);", `\`x.exchange(1, std::memory_order_relaxed)\`${OF_ORDER}`],
+  ["x = 1;", "x.fetch_add(0, std::memory_order_acquire);", `\`x.fetch_add(0, std::memory_order_acquire..\`${OF_ORDER}`],
+  ["x = 1;", "atomic_thread_fence(seq_cst);", `\`atomic_thread_fence(seq_cst)\`${OF_FENCES}`],
+  ["x = 1;", "asm volatile(\"mfence\" ::: \"memory\");", `\`asm volatile("mfence" ::: "memory")\`${OF_FENCES}`],
+  ["x = 1;", "d = 1;", `\`d\`${RACE}`, "y = 1;", "d = 2;"],
+  ["x = 1;", "d = 1;", `\`d\`${RACE}`, "y = 1;", "int r1 = READ_ONCE(d);"],
+  ["x = 1;", "d++;", `\`d++\`${OF_ORDER}`, "y = 1;", "d = 2;"],
+  ["int d;", "volatile int d;", `\`d++\`${OF_ORDER}`, "x = 1;", "d++;"],
+  ["int d;", "volatile int d;", `\`int r0 = d++\`${OF_ORDER}`, "int r0 = y;", "int r0 = d++;"],
+  ["void P0(void) { x = 1; int r0 = y; }", "void P0(void) { x = 1; int a = y, b = y, c = y, e = y, f = y, g = y, h = y; }", `\`P0\`${OF_REGISTERS}`],
+  ["void P0(void) { x = 1; int r0 = y; }", "void P0(void) { int a = y, b = y, c = y, e = y, f = y, g = y; x = 1; }", `\`P0\`${OF_REGISTERS}`],
+  ["// lw", "void other(void) { x = 2; }\n// lw", `\`other\`${OF_NAMES}`],
+  ["void P0", "void P2", `\`P2\`${OF_NAMES}`],
   ["P1(void)", "P1(void *argument)", "`void P1(void *argument) { y = 1; int r0 ..`: a thread is a function without parameters"],
   ["void P1(void)", "int main(void) { return 0; }\nvoid P1(void)",
     "`int main(void) { return 0; }`: in place of `main`, each thread is a function without parameters"],
-  ["int d;", "long d;", `\`long d;\`: ${OF_GLOBALS}`], ["int d;", "int d[2];", `\`int d[2];\`: ${OF_GLOBALS}`],
-  ["int d;", "int *d;", `\`int *d;\`: ${OF_GLOBALS}`], ["int d;", "#define N 1\nint d;", "`#define N 1`: write its text where it is used"],
-  ["int d;", "struct s { int a; };", `\`struct s { int a;\`: ${OF_GLOBALS}`], ["int d;", "int d = x;", `\`int d = x;\`: ${OF_VALUES}`],
-  ["int d;", "atomic_short d;", `\`atomic_short d;\`: ${OF_GLOBALS}`], ["int d;", "atomic_bool d = 2;", `\`atomic_bool d = 2;\`: ${OF_VALUES}`],
-  ["int d;", "atomic_bool d;", "`d = 2`", "x = 1;", "d = 2;"], ["int d;", "atomic_bool d;", "`d++`", "x = 1;", "d++;"],
-  ["int d;", "atomic_bool d;", "`d = x`", "x = 1;", "d = x;"], ["int r0 = y;", "bool r0 = y;", "`bool r0 = y`"],
-  ["int d;", "atomic_bool d;", "`bool r0 = d + 1`", "int r0 = y;", "bool r0 = d + 1;"], ["int r0 = y;", "_Bool r0 = 2;", "`_Bool r0 = 2`"],
-  ["0:r0", "0:r5", "`0:r5`, of which the question asks: nothing sets it"],
-  ["0:r0", "2:r0", "`2:r0`, of which the question asks: nothing sets it"],
-  ["0:r0=0", "z=0", "`z`, of which the question asks: nothing sets it"],
-  ["0:r0=0", "0:r0=0 0", "this program: found 0, expected )"],
-  ["int d;", "atomic_int eax;", "this program: eax is reserved", "x = 1", "eax = 1"],
+  ["x = 1;", "if (y < 1) x = 1;", `\`if (y < 1)\`${OF_CONDITIONS}`],
+  ["x = 1;", "if (y == 1 || y == 2) x = 1;", `\`if (y == 1 || y == 2)\`${OF_CONDITIONS}`],
+  ["x = 1;", "if (y == x) x = 1;", `\`if (y == x)\`${OF_SIDES}`],
+  ["x = 1;", "if (y = 1) x = 1;", `\`if (y = 1)\`${OF_ASSIGNMENTS}`],
+  ["x = 1;", "if (f(y) == 1) x = 1;", "`if (f(y) == 1)`: write what the function does in its place"],
+  ["x = 1;", "if (y) x = 1; int r5; else x = 2;", "`else x = 2`: an `else` follows the one statement or block of its `if`"],
+  ["x = 1;", "if (!y == 1) x = 1;", `\`if (!y == 1)\`${OF_CONDITIONS}`],
+  ["x = 1;", "if (atomic_compare_exchange_strong(&y, &x, 1)) x = 1;", `\`if (atomic_compare_exchange_strong(&y, &..\`${OF_CAS}`],
+  ["x = 1;", "if (y)", `\`0:r0\`${OF_PATHS}`],
+  ["x = 1;", "if (y { x = 1; }", "`if (y { x = 1; } int r0 = y;`: its `)` is missing"],
+  ["int r0 = y;", "if (y) x = 2", `\`x = 2\`${OF_ENDS}`],
+  ["int r0 = y;", "int r0 = y", `\`int r0 = y\`${OF_ENDS}`],
+  ["int r0 = y;", "int r0; if (y) r0 = 1;", `\`0:r0\`${OF_PATHS}`],
+  ["int r0 = y;", "switch (y) { case 1: x = 2; }", "`switch (y)`: write an `if` for each case"],
+  ["int r0 = y;", "int r0; if (y) return; r0 = 1;", `\`0:r0\`${OF_PATHS}`],
+  ["int r0 = y;", "int r0; if (y) r0 = 1; x = r0;", `\`x = r0\`: \`r0\`${OF_VALUE}`],
+  ["int r0 = y;", "{ int r1 = y; } int r0 = r1;", "`int r0 = r1`: `r1` is not declared"],
+  ["int r0 = y;", "int r0 = y; { int r0 = 1; }", `\`int r0 = 1\`${OF_LONE}`],
+  ["int r0 = y;", "int r0 = y; if (r0++ == r0) x = 1;", `\`if (r0++ == r0)\`${OF_STEPS}`],
+  ["int r0 = y;", "int r0 = y; r0 = r0++;", `\`r0 = r0++\`${OF_STEPS}`],
+  ["int r0 = y;", "int r0 = y; int r1 = r0++ + r0;", `\`int r1 = r0++ + r0\`${OF_STEPS}`],
+  ["int r0 = y;", "int r0 = y; int r1 = r0 - r0;", `\`int r1 = r0 - r0\`${OF_SUBTRACTION}`],
+  ["int r0 = y;", "int r0 = 1 - y;", `\`int r0 = 1 - y\`${OF_SUBTRACTION}`],
+  ["int r0 = y;", "x + = 1;", `\`x + = 1\`${OF_OTHERS}`],
+  ["int r0 = y;", "int r0 = y; int r1 = (r0 - 1) + 1;", `\`int r1 = (r0 - 1) + 1\`${OF_OTHERS}`],
+  ["int r0 = y;", "int r0 = x++ + x;", `\`int r0 = x++ + x\`${OF_LOADS}`],
+  ["int r0 = y;", "int r0 = y; y.fetch_add(r0, std::memory_order_relaxed);", `\`y.fetch_add(r0, std::memory_order_relaxe..\`${OF_ORDER}`],
+  ["int r0 = y;", "int r0 = y; y.fetch_sub(0, std::memory_order_release);", `\`y.fetch_sub(0, std::memory_order_release..\`${OF_ORDER}`],
+  ["int r0 = y;", "atomic_int r0 = y;", "`atomic_int r0 = y`: a thread's own variable is not atomic, as `int r0`"],
+  ["int r0 = y;", "int r0 = y ? 1 : 2;", "`int r0 = y ? 1 : 2`: write an `if`"],
+  ["int r0 = y;", "lw_see(r0, y);", "`lw_see(r0, y)`: the question names the variable itself, as `0:r0`"],
+  ["int r0 = y;", "int r0 = xchg(y, 2);", "`int r0 = xchg(y, 2)`: `y` is no pointer, as `&y` is"],
+  ["int r0 = y;", "do x = 1; while (y != 1);", `\`do x = 1\`${OF_LOOPS}`],
+  ["int r0 = y;", "while (y != 1) x = 2;", `\`while (y != 1)\`${OF_LOOPS}`],
+  ["int r0 = y;", "while (y.load() != 1) { cpu_relax(); }", `\`while (y.load() != 1)\`${OF_WAITING}`],
+  ["int r0 = y;", "goto L;", "`goto L`: `goto` and labels are not rewritten"],
+  ["// lw", "x = 1;\n// lw", `\`x = 1;\`${OF_GLOBALS}`],
+  ["int d;", "long d;", `\`long d;\`${OF_GLOBALS}`],
+  ["int d;", "int d[2];", `\`int d[2];\`${OF_GLOBALS}`],
+  ["int d;", "int *d;", `\`int *d;\`${OF_GLOBALS}`],
+  ["int d;", "#define N 1\nint d;", "`#define N 1`: write its text where it is used"],
+  ["int d;", "struct s { int a; };", `\`struct s { int a;\`${OF_GLOBALS}`],
+  ["int d;", "int d = x;", `\`int d = x;\`${OF_VALUES}`],
+  ["int d;", "atomic_short d;", `\`atomic_short d;\`${OF_GLOBALS}`],
+  ["int d;", "atomic_bool d = 2;", `\`atomic_bool d = 2;\`${OF_VALUES}`],
+  ["int d;", "atomic_bool d;", `\`d = 2\`${OF_BOOLS}`, "x = 1;", "d = 2;"],
+  ["int d;", "atomic_bool d;", `\`d++\`${OF_BOOLS}`, "x = 1;", "d++;"],
+  ["int d;", "atomic_bool d;", `\`d = x\`${OF_BOOLS}`, "x = 1;", "d = x;"],
+  ["int r0 = y;", "bool r0 = y;", `\`bool r0 = y\`${OF_BOOLS}`],
+  ["int d;", "atomic_bool d;", `\`bool r0 = d + 1\`${OF_BOOLS}`, "int r0 = y;", "bool r0 = d + 1;"],
+  ["int r0 = y;", "_Bool r0 = 2;", `\`_Bool r0 = 2\`${OF_BOOLS}`],
+  ["0:r0", "0:r5", `\`0:r5\`${UNSET}`],
+  ["0:r0", "2:r0", `\`2:r0\`${UNSET}`],
+  ["0:r0=0", "z=0", `\`z\`${UNSET}`],
+  ["0:r0=0", "0:r0=0 0", "found 0, expected )"],
+  ["int d;", "atomic_int eax;", "eax is reserved", "x = 1", "eax = 1"],
 ];
 
 /** Returns the instructions of a thread of a test, joined by `; `. */
@@ -203,6 +310,12 @@ function findHint(page, text) {
   return { ...page.other_tools.findOtherLanguage(place), change: place.change };
 }
 
+/** Returns whether the part of a program that is refused is at its index. There is no index if lw refuses the test. */
+function isAt(program, { why, index }) {
+  const [, part] = /^`(.*?)(?:\.\.)?`/.exec(why) ?? [];
+  return part === undefined ? index === undefined : program.slice(index).replace(/\s+/g, " ").startsWith(part);
+}
+
 /** Compares statements in both forms, refusals, whole programs, and hints. `compare` takes what is compared, and the expected and the found value. */
 function comparePrograms(page, compare) {
   const { rewriteProgram } = page.c_program;
@@ -221,21 +334,24 @@ function comparePrograms(page, compare) {
   }
   for (const [part, wrong, why, second, third] of REFUSED) {
     const program = PROGRAM.replace(part, () => wrong).replace(second ?? "", () => third ?? "");
-    compare(`what is refused in ${wrong}`, { why }, rewriteProgram(program));
+    const found = rewriteProgram(program);
+    compare(`what is refused in ${wrong}`, [why, true], [found.why ?? found.made, isAt(program, found)]);
   }
   for (const [what, program, expected] of WHOLE) {
-    compare(what, expected, rewriteProgram(program).made ?? rewriteProgram(program).why);
+    const found = rewriteProgram(program);
+    compare(what, expected, found.made ?? found.why);
+    if (found.why) compare(`${what}: its place`, true, isAt(program, found));
+    else compare(`${what}: its question is a guess, or not`, what.startsWith("no question"), found.isGuess);
     if (expected.startsWith("X86")) compare(`${what}: it is read`, true, isRead(expected));
   }
-  for (const [what, text, begin, end, hasButton] of HINTS) {
-    const { words, more = "", command, document, change } = findHint(page, text);
-    const said = `${words} ${more}`.trim();
-    const isCommand = command.startsWith("python3 tools/from_c.py --show ");
-    const found = [said.slice(0, begin.length), said.slice(said.length - end.length), change !== null, isCommand, document];
-    compare(`the hint on ${what}: the command comes after the button`, hasButton, more.includes(command));
-    compare(`the hint on ${what}`, [begin, end, hasButton, true, "from-c.html"], found);
+  for (const [what, text, expected, end, place] of HINTS) {
+    const { words, more, command, document, change, at } = findHint(page, text);
+    const isCommand = command.startsWith("python3 tools/from_c.py --show ") && more.includes(command);
+    compare(`the hint on ${what}`, [expected, end, true, "from-c.html"], [words, more.slice(-end.length), isCommand, document]);
+    compare(`the place of ${what}`, place ?? undefined, at && [at.row, at.column]);
+    if (at) compare(`the index of ${what}`, at.index, text.split("\n", at.row - 1).join("\n").length + at.column - Number(at.row === 1));
     const made = change && [change.begin, change.end, change.title, isRead(change.text)];
-    compare(`the change of ${what}`, hasButton ? [0, text.length, "Rewrite it as an x86 test", true] : null, made);
+    compare(`the change of ${what}`, place === undefined ? [0, text.length, "Rewrite it as an x86 test", true] : null, made);
   }
   compare("a text that is no program has another hint", null, page.other_tools.findOtherLanguage({ text: "X86 A", index: 0, token: "X86" }));
 }
@@ -303,8 +419,47 @@ ${SB}`],
  P0           | P1          ;
  MOV EAX,$1   | MOV EAX,[x] ;
  XCHG [x],EAX | MOV EBX,[x] ;
-locations [1:EAX; 1:EBX]
+locations [1:EAX]
+exists (1:EBX=0)
+`],
+  ["no question, in herd's form", `C SB
+{}
+P0 (int *x, int *y) { WRITE_ONCE(*x, 1); int r0 = READ_ONCE(*y); }
+P1 (int *x, int *y) { WRITE_ONCE(*y, 1); int r0 = READ_ONCE(*x); int r1 = 2; }
+`, `X86 SB
+(* 0:EAX is r0, 1:EAX is r0, 1:EBX is r1 *)
+${BLOCK} P0          | P1          ;
+ MOV [x],$1  | MOV [y],$1  ;
+ MOV EAX,[y] | MOV EAX,[x] ;
+             | MOV EBX,$2  ;
+locations [1:EBX]
+${SB}`],
+  ["no question, and a result that is not loaded", "atomic_int x;\nvoid P0() { int r0 = x.exchange(1); }\nvoid P1() { x++; }\n", `X86 Mine
+(* 0:EAX is r0 *)
+{ x=0; }
+ P0           | P1                ;
+ MOV EAX,$1   | MOV EAX,$1        ;
+ XCHG [x],EAX | LOCK XADD [x],EAX ;
+locations [0:EAX; x]
 exists (true)
+`],
+  ["results that threads return", `atomic_int x, y;
+int P0(void) { x = 1; return y; }
+static unsigned int P1(void) { if (x == 0) return 3; int r0 = y + 1; return r0; }
+// lw: exists (0:return=0 && 1:return==3)
+`, `X86 Mine
+(* 0:EAX is return, 1:EAX is return, 1:EBX is r0 *)
+${BLOCK} P0           | P1              ;
+ MOV EBX,$1   | MOV ECX,[x]     ;
+ XCHG [x],EBX | CMP ECX,$0      ;
+ MOV EAX,[y]  | JNE L1          ;
+              | MOV EAX,$3      ;
+              | JMP END         ;
+              | L1: MOV EBX,[y] ;
+              | ADD EBX,$1      ;
+              | MOV EAX,EBX     ;
+              | END:            ;
+exists (0:EAX=0 /\\ 1:EAX=3)
 `],
   ["variables that are true or false", `#include <atomic>
 std::atomic<int> data;
@@ -346,45 +501,62 @@ exists (true)
 exists (x=1)
 `],
   ["two questions", `${PROGRAM}/* lw: exists (x=1) */\n`, "`/* lw: exists (x=1) */`: a second comment says what is asked"],
-  ["a function without an end", PROGRAM.split("}")[0], "`void P0(void) { x = 1;`: its `}` is missing"],
-  ["a pointer that is increased", "C SB\n{}\nP0 (atomic_int *x) { *x++; }\nexists (x=1)\n", "`*x++`"],
+  ["a function without an end", PROGRAM.split("}")[0], "`void P0(void) {`: its `}` is missing"],
+  ["a pointer that is increased", "C SB\n{}\nP0 (atomic_int *x) { *x++; }\nexists (x=1)\n", `\`*x++\`${OF_OTHERS}`],
+  ["a question that is misspelt, in herd's form", "C SB\n{}\nP0 (int *x) { }\nexist (x=1)\n",
+    "`exist (x=1)`: after the threads is the question, as `exists (0:r0=0)`"],
+  ["a value that a thread returns on one path only", "atomic_int x;\nint P0() { if (x) return 1; x = 2; }\n// lw: exists (0:return=1)\n",
+    "`0:return`, of which the question asks: the thread returns a value on some paths only"],
+  ["a value that a thread of herd returns", "C SB\n{}\nP0 (atomic_int *x) { return *x; }\nexists (x=1)\n",
+    "`return *x`: a thread of herd returns nothing, so set a variable, as `int r0`"],
   ["a function without parameters in herd's form", "C SB\n{}\nP0 () { }\nexists (x=1)\n",
     "`P0 () { }`: a parameter is a pointer to 32 bits, as `atomic_int *x`"],
   ["no thread", "C SB\n{}\n", "`C SB {}`: threads are functions `P0`, `P1` and so on"],
   ["no initial values", "C SB\nP0 (atomic_int *x) { *x = 1; }\nexists (x=1)\n", 
     "`C SB P0 (atomic_int *x) { *x = 1; } exis..`: a test begins with `C`, its name, and its initial values in braces"],
   ["a parameter that is no pointer", "C SB\n{}\nP0 (int x) { }\nexists (x=1)\n", "`int x`: a parameter is a pointer to 32 bits, as `atomic_int *x`"],
-  ["two initial values without a mark between", "C SB\n{ x=1 y=2; }\nP0 (int *x) { }\nexists (x=1)\n", `\`x=1 y=2\`: ${OF_ENTRIES}`],
-  ["an initial value that is an address", "C SB\n{ x=y; }\nP0 (int *x) { }\nexists (x=1)\n", `\`x=y\`: ${OF_ENTRIES}`],
-  ["a register in the initial values", "C SB\n{ 0:r0=1; }\nP0 (int *x) { }\nexists (x=1)\n", `\`0:r0=1\`: ${OF_ENTRIES}`],
+  ["two initial values without a mark between", "C SB\n{ x=1 y=2; }\nP0 (int *x) { }\nexists (x=1)\n", `\`x=1 y=2\`${OF_ENTRIES}`],
+  ["an initial value that is an address", "C SB\n{ x=y; }\nP0 (int *x) { }\nexists (x=1)\n", `\`x=y\`${OF_ENTRIES}`],
+  ["a register in the initial values", "C SB\n{ 0:r0=1; }\nP0 (int *x) { }\nexists (x=1)\n", `\`0:r0=1\`${OF_ENTRIES}`],
   ["a race with a store that is atomic", "C SB\n{}\nP0 (int *x) { *x = 1; }\nP1 (int *x) { int r0 = READ_ONCE(*x); }\nexists (1:r0=1)\n",
-    `\`x\`, ${RACE}`],
+    `\`x\`${RACE}`],
   ["five threads", `atomic_int x;\n${[0, 1, 2, 3, 4].map((it) => `void P${it}() { x = 1; }\n`).join("")}// lw: exists (x=1)\n`,
-    "this program: there are more than 4 threads"],
-  ["33 instructions", `atomic_int x;\nvoid P0() { ${"x++; ".repeat(17)}}\n// lw: exists (x=1)\n`, "this program: a thread has too many statements"],
+    "there are more than 4 threads"],
+  ["33 instructions", `atomic_int x;\nvoid P0() { ${"x++; ".repeat(17)}}\n// lw: exists (x=1)\n`, "a thread has too many statements"],
   ["nine locations", `atomic_int ${NINE.join(", ")};\nvoid P0() { ${NINE.map((it) => `${it} = 1;`).join(" ")} }\n// lw: exists (a=1)\n`,
-    "this program: there are more than 8 locations"],
+    "there are more than 8 locations"],
 ];
 
 const BEGIN = "This begins as a program or a test in C does.";
-const HERE = "Here only `SRC` and `X86` tests are read.";
 const BUTTON =
   " The button makes an x86 test of it: each access as gcc and clang compile it, in the order of the program. That is not proved, and a compiler may " +
   "also reorder or merge relaxed and plain accesses.";
 const FIRST = "The threads are functions in C: the first word is `C` then.";
-const NO_BUTTON = "A button rewrites straight-line threads of 32-bit loads, stores, exchanges, additions and fences, but not";
+const WOULD = "The page would rewrite this program in C as an x86 test,";
+const WOULD_IN_CPP = WOULD.replace("in C", "in C++");
+const IN_RUST = "This begins as a program in Rust does. Here only `SRC` and `X86` tests are read.";
+const LOOP = PROGRAM.replace("int r0 = y;", "while (y) ;");
+// A text, its words, how the words on the command end, and the place if the text is not rewritten, as its row and its column.
 const HINTS = [
-  ["a program", `/* Mine. */\n${PROGRAM}`, `${BEGIN}${BUTTON} \`tools/from_c.py\` compiles`, "as `// lw: exists (0:r0=0)` does.", true],
-  ["C++", `std::atomic<int> x;\n${PROGRAM.split("\n").slice(1).join("\n").replace(/y/g, "x")}`, `${BEGIN}${BUTTON}`, "does.", true],
-  ["no question", PROGRAM.split("//")[0], `${BEGIN}${BUTTON} The question \`true\` holds always: look at the list of states.`, "does.", true],
+  ["a program", `/* Mine. */\n${PROGRAM}`, `${BEGIN}${BUTTON}`, "as `// lw: exists (0:r0=0)` does."],
+  ["C++", `std::atomic<int> x;\n${PROGRAM.split("\n").slice(1).join("\n").replace(/y/g, "x")}`, `${BEGIN}${BUTTON}`, "does."],
+  ["no question", PROGRAM.split("//")[0], `${BEGIN}${BUTTON} The question is a guess: change it to yours.`, "does."],
+  ["no question and no load", "atomic_int x;\nvoid P0() { x++; }\n",
+    `${BEGIN}${BUTTON} The question \`true\` holds always: look at the list of states.`, "does."],
   ["a test of herd", WHOLE[0][1], `${BEGIN}${BUTTON}`,
     "`python3 tools/from_c.py --show SB+a.c` prints a test for this page. (In place of `READ_ONCE(*x)` it takes " +
-    "`atomic_load_explicit(x, memory_order_relaxed)`.)", true],
-  ["the first word X86", WHOLE[2][1], `${FIRST}${BUTTON}`, "`python3 tools/from_c.py --show SB.cc` prints a test for this page.", true],
-  ["a branch", PROGRAM.replace("int r0 = y;", "if (y) x = 2;"), `${BEGIN} ${HERE} \`tools/from_c.py\``,
-    `${NO_BUTTON} \`if (y) x = 2\`. ${OF_BRANCHES}.`, false],
-  ["no thread", "C SB\n{}\n", `${BEGIN} ${HERE} \`tools/from_c.py\``, `${NO_BUTTON} \`C SB {}\`: threads are functions \`P0\`, \`P1\` and so on.`, false],
-  ["Rust", "use std::sync::atomic::*;\n", "This begins as a program in Rust does. Here only", "does.", false],
+    "`atomic_load_explicit(x, memory_order_relaxed)`.)"],
+  ["the first word X86", WHOLE[2][1], `${FIRST}${BUTTON}`,
+    "`python3 tools/from_c.py --show SB.cc` prints a test for this page. Its first word is `C` then."],
+  ["a loop", LOOP, `${WOULD} but not \`while (y)\`${OF_WAITING}.`, "does.", [2, 24]],
+  ["a loop after blank lines and a comment", `\n\n/* One. */ // Two.\n${LOOP}`, `${WOULD} but not \`while (y)\`${OF_WAITING}.`, "does.", [5, 24]],
+  ["a loop in C++", LOOP.replace("atomic_int x", "std::atomic<int> x"), `${WOULD_IN_CPP} but not \`while (y)\`${OF_WAITING}.`, "does.", [2, 24]],
+  ["a loop in a test that begins with X86", WHOLE[2][1].replace("int r0 = *x;", "while (*x) ;"),
+    `${WOULD_IN_CPP} but not \`while (*x)\`${OF_WAITING}.`, "Its first word is `C` then.", [4, 61]],
+  ["a question of a register that nothing sets", PROGRAM.replace("1:r0", "1:r1"), `${WOULD} but not \`1:r1\`${UNSET}.`, "does.", [4, 26]],
+  ["no thread", "C SB\n{}\n", `${WOULD} but not \`C SB {}\`: threads are functions \`P0\`, \`P1\` and so on.`, "page.", [1, 1]],
+  ["nine locations", WHOLE.at(-1)[1], `${WOULD} which lw refuses: there are more than 8 locations.`, "does.", null],
+  ["Rust", "use std::sync::atomic::*;\n", IN_RUST, "does.", null],
 ];
 
 /**

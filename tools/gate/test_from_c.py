@@ -109,6 +109,18 @@ SHAPES = {
     "R+fence": ("W x 1, F, W y 1", "W y 2, R x r0"), "SB+exchange": ("X x 1 r1, R y r0", "W y 1, R x r0"),
     "SB+additions": ("A x 1 r1, R y r0", "A y 2, A x 3 r1, R x r0"), "MP+copy": ("W x 1, W y 1", "R y r0, W z r0 + 2, R x r1", "R z r0, R x r1"),
 }
+# Programs that the page rewrites with branches, results that threads return, sums, and values of steps. Each has two threads and its question.
+BRANCHING = (
+    ("if (atomic_load_explicit(&x, memory_order_acquire)) y = 1;", "int r0 = y; if (r0 == 1) x = 1; else x = 2;", "1:r0=0"),
+    ("int r0 = 7; if (x == 1) r0 = y; else { y = 2; r0 = 3; }", "y = 1; if (!atomic_load_explicit(&x, memory_order_relaxed)) x = 1;", "0:r0=0"),
+    ("if (!(y == 0) && x != 2) { x++; if (y == 1) return; } x = 5;", "atomic_store_explicit(&y, 1, memory_order_release); int r0 = ++x;", "1:r0=0"),
+    ("x = 1; return y;", "if (atomic_exchange(&y, 1) == 0) return 4; return x + 1;", "0:return=0 /\\ 1:return=0"),
+    ("int r0 = x; int r1 = y; int r2 = r0 + r1; r2 += r2; if (r0 == r1) y = r2;", "y = 1; int r0 = x--; x = r0 + 3;", "0:r2=0 /\\ 1:r0=0"),
+    ("int r0 = atomic_fetch_add_explicit(&x, 2, memory_order_relaxed) - 1; int r1 = r0++; y = r0 + r1 + 1;", "int r0 = 1 + y; x = --r0;",
+     "0:r1=0 /\\ 1:r0=0"),
+    ("if (x) { int t = y; if (t == 1) y = 2; else if (t == 2) y = 3; }", "y = 1; atomic_thread_fence(memory_order_seq_cst); x = 1; int r0 = y;",
+     "1:r0=0"),
+)
 # The orders of stores, loads and all others, for each variant of a shape.
 ORDERS = (("relaxed", "relaxed", "relaxed"), ("release", "acquire", "acq_rel"), ("seq_cst", "seq_cst", "seq_cst"))
 
@@ -137,6 +149,13 @@ def make_shape(threads: Iterable[str], orders: tuple[str, str, str]) -> str:
     names = sorted({it for code in threads for it in re.findall(r"\b[xyz]\b", code)})
     question = " /\\ ".join([*registers, *(f"{it}=0" for it in names)])
     return "\n".join(["#include <stdatomic.h>", f"atomic_int {', '.join(names)};", *lines, f"// lw: exists ({question})", ""])
+
+
+def make_branching(first: str, second: str, question: str) -> str:
+    """Returns a program of two threads in C, by their code and its question, which names `x` and `y` besides."""
+    codes = enumerate((first, second))
+    threads = [f"{'int' if re.search('return [^;]', code) else 'void'} P{number}(void) {{ {code} }}" for number, code in codes]
+    return "\n".join(["#include <stdatomic.h>", "atomic_int x, y;", *threads, f"// lw: exists ({question} /\\ x=0 /\\ y=0)", ""])
 
 
 def convert_to_herd_form(text: str) -> str:
@@ -848,10 +867,11 @@ class Compiled(cases.Case):
 
     @unittest.skipUnless(shutil.which("node"), "node is not here")
     def test_rewritten(self) -> None:
-        """Simple programs have the same states as the page rewrites them, and as a compiler makes them, in C and in herd's form."""
+        """Programs have the same states as the page rewrites them, and as a compiler makes them, in C and in herd's form, and with branches."""
         compiler = list_compilers(".c")[0].split()[0] + " -O2"
         programs = [make_shape(threads, orders) for threads in SHAPES.values() for orders in ORDERS]
         programs += [convert_to_herd_form(it) for it in programs[:: len(ORDERS)]]
+        programs += [make_branching(*it) for it in BRANCHING]
         for text, made in zip(programs, rewrite_by_page(programs)):
             answer = from_c.convert_source(read_source("a.c", text), compiler, 1)[0]
             with self.subTest(text, made=made):

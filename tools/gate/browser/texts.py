@@ -401,6 +401,16 @@ class Faults(PageCase):
         rows = " P0           | P1           ;\n mov [x], 1   | mov [y], 1   ;\n mov eax, [y] | mov eax, [x] ;\n"
         self.assertSoon(f"X86 Mine\n{{}}\n{rows}exists (0:eax=0 /\\ 1:eax=0)\n", user.value)
         self.assertSays("Allowed.", "#outcome .verdict")
+        code = lambda name, one, other: f"{name}:\n.L{name[0]}:\n\tmovl\t$1, {one}(%rip)\n\tmovl\t{other}(%rip), %eax\n\tret\n\t.size {name[:2]}, .-P\n"
+        rows = " P0          | P1          ;\n MOV [x],$1  | MOV [y],$1  ;\n MOV EAX,[y] | MOV EAX,[x] ;\n"
+        for first, other in (("first", "second()"), ("P0():", "P1():"), ("put(int)", "A::take(std::atomic<int>&)")):
+            user.run_text("\t.text\n" + code(first.rstrip(":"), "x", "y") + code(other.rstrip(":"), "y", "x") + "y:\n\t.zero\t4\n")
+            self.assertEqual("Make P0 and P1 of them", user.text("#fault .apply"))
+            user.click("#fault .apply")
+            self.assertSoon(f"X86 Mine\n{{}}\n{rows}exists (0:EAX=0 /\\ 1:EAX=0)\n", user.value)
+            self.assertSays("Allowed.", "#outcome .verdict")
+        user.run_text("P0():\n push rbp\n")
+        self.assertSays("P0 is not expected here.", "#fault")
 
     def test_c_rows(self) -> None:
         """Rows in C become instructions by a button; of calls and of threads in C the page says what compiles them, with the command to copy."""
@@ -415,15 +425,16 @@ class Faults(PageCase):
         self.assertSoon(text, user.value)
         user.run_text(text.replace("MOV [x],$1", "atomic_store(&x,1)"))
         self.assertSays("atomic_store(&x,1) is a call in C, and no instruction. tools/from_c.py compiles programs in C", "#fault")
-        user.run_text("X86 t\n{}\nP0 (atomic_int *x) {\n if (*x) *x = 1;\n}\nexists (x=1)\n")
-        self.assertSays("The threads are functions in C: the first word is C then.", "#fault")
+        user.run_text("X86 t\n{}\nP0 (atomic_int *x) {\n while (*x) ;\n}\nexists (x=1)\n")
+        self.assertSays("The page would rewrite this program in C as an x86 test, but not while (*x): in place of a loop that waits", "#fault")
+        self.assertSays("Its first word is C then.", "#fault")
         self.assertSays("save this as t.c, then python3 tools/from_c.py --show t.c prints a test for this page.", "#fault")
         user.run("document.execCommand = () => false; Object.defineProperty(navigator, 'clipboard', { value: undefined })")
         user.click("#fault .apply")
         self.assertSoon("python3 tools/from_c.py --show t.c", lambda: user.value("#said input"))
 
     def test_c_program(self) -> None:
-        """Of a simple program in C a button makes an x86 test, beside that which copies the command; of another one the page says what is not simple."""
+        """Of a simple program in C a button makes an x86 test, beside that which copies the command; of another one the page marks what is not simple."""
         user = self.user
         user.open_listed()
         program = (
@@ -446,9 +457,22 @@ class Faults(PageCase):
         user.click("#fault .apply")
         self.assertSoon("X86 SB", lambda: user.value()[:6])
         self.assertSays("Allowed.", "#outcome .verdict")
-        user.run_text(program.replace("int r0 = x", "if (x) y = 2"))
-        self.assertSays("A button rewrites straight-line threads of 32-bit loads, stores, exchanges, additions and fences, but not if (x) y = 2.", "#fault")
+        user.run_text(program.replace("int r0 = x", "int r0 = 1; if (x) r0 = y").split("//", maxsplit=1)[0])
+        self.assertSays("The question is a guess: change it to yours.", "#fault")
+        user.click("#fault .apply")
+        self.assertSoon("exists (0:EAX=0 /\\ 1:EAX=0)", lambda: user.value().splitlines()[-1])
+        user.run_text(program.replace("int r0 = x", "while (x) ;int r0 = x"))
+        why = "in place of a loop that waits, load once, and ask for the value that ends it."
+        self.assertSays(f"Line 4, column 24: The page would rewrite this program in C as an x86 test, but not while (x): {why}", "#fault")
         self.assertEqual(["Copy the command"], user.texts("#fault .apply"))
+
+    def test_variables(self) -> None:
+        """The machine and the list of a test that was made of a program in C name the variable of each register, as a comment says."""
+        user = self.user
+        rows = " P0          | P1          ;\n MOV [x],$1  | MOV [y],$1  ;\n MOV EAX,[y] | MOV EAX,[x] ;\n"
+        user.open_listed(f"#text={quote('X86 SB' + chr(10) + '(* 0:EAX is r0, 1:EAX is ready *)' + chr(10) + '{}' + chr(10) + rows + 'exists (0:EAX=0)' + chr(10))}")
+        self.assertSoon(["r0", "ready"], lambda: user.texts("#watching .in-source"))
+        self.assertEqual("the variable r0 of the program in C", user.find("table.strip th[title]").get_attribute("title"))
 
     def test_sums(self) -> None:
         """In place of a statement with a sum that the format lacks a button puts those that it has; of a register past r5 it puts one that is free."""
@@ -497,7 +521,7 @@ class Faults(PageCase):
         self.assertSays("There is a run in which P1 reads x=0.", "#outcome .verdict")
         user.paste("C SB\n{}\n")
         self.assertEqual("Changed: Ctrl+Enter lists its states.", user.run("return document.getElementById('said').textContent"))
-        self.assertSays("This begins as a program or a test in C does. Here only SRC and X86 tests are read. tools/from_c.py", "#fault")
+        self.assertSays("The page would rewrite this program in C as an x86 test, but not C SB {}: threads are functions P0, P1 and so on.", "#fault")
         self.assertSoon("", lambda: user.run("return document.getElementById('said').textContent"))
 
     def test_other_tools(self) -> None:

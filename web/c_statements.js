@@ -1,0 +1,226 @@
+// Reads the code of a thread of a program in C: its statements, with the branches and blocks, the sums and conditions in them, and why a statement is
+// refused. Not proved.
+//
+// A `Statement` is a `Part` of a program. That of an `if` has its `condition`, and the statements of its branches, `then` and `otherwise`; one in
+// braces has the statements of its `block`.
+
+import { findClosing, parseConstant, refusePart } from "./c_reader.js";
+
+const IF = /^if\s*\(/;
+const ELSE = /^else\b/;
+// How statements begin that are refused.
+const LOOP = /^(?:else|while|for|do|switch)\b/;
+const SWITCH = /^switch\b/;
+const HEAD = /^\w+\s*(?=\()/;
+// A loop that only waits: one load is enough in its place. (A loop that exchanges does not only wait.)
+const WAITING = /^while\s*\((?![^;]*(?:exchange|xchg|test_and_set|\+\+|--))[^;{]*\)\s*(?:;|\{\s*(?:;|\w*(?:pause|relax|yield)\w*\(\);)?\s*\})/;
+const OF_WAITING = ": in place of a loop that waits, load once, and ask for the value that ends it";
+const OF_LOOPS = ": write out each pass of a loop. `tools/from_c.py` follows loops";
+const OF_SWITCH = ": write an `if` for each case";
+const OF_ELSE = ": an `else` follows the one statement or block of its `if`";
+const COMPARISON = /[=!]=|[^=!]=!|<(?!<)|(?<!>)>(?!>)|&&|\|\|/;
+// Why a statement is refused, by a part of it in squeezed code, unless a rule says so.
+const REASONS = [
+  [/^(?:__)?asm\b|thread_fence/, ": a fence is `atomic_thread_fence(memory_order_seq_cst)`"],
+  [/compare_exchange|cmpxchg/, ": the x86 format has no compare-and-swap. `tools/from_c.py` follows it"],
+  [/fetch_(?:or|and|xor)|test_and_set/, ": of locked instructions the x86 format has only exchange and addition"],
+  [/\blw_see\b/, ": the question names the variable itself, as `0:r0`"],
+  [/\?/, ": write an `if`"],
+  [COMPARISON, ": compare in the condition of an `if`"],
+  [/^(?:const )?(?:char|short|long|float|double|s?size_t|u?int(?:8|16|64)_t)\b/, ": a variable has 32 bits, as `int r0`"],
+  [/^\w+ ?\*|&(?=\w+$)|\w\[/, ": threads have no pointers and arrays of their own"],
+  [/^\w+:|^goto\b/, ": `goto` and labels are not rewritten"],
+  [/[\w)][*\/%&|^]|~|<<|>>/, ": the x86 format has sums only"],
+  [/^\w+\([^]*\)$|[=(,]\w+\(/, ": write what the function does in its place"],
+];
+// What is in no side of a comparison.
+const OPERATOR = /\|\||&&|[<>]|[=!]=|^!/;
+/** Why a condition is refused, as the end of a sentence. */
+export const OF_CONDITIONS = ": a condition compares by `==` or `!=`, and has `&&` at most";
+const OF_OTHERS = ": a statement is one load, store, exchange, addition or fence, or an `if`";
+
+/**
+ * Returns why a statement is refused that no rule refuses, as the end of a sentence.
+ * @param {string} code squeezed
+ * @returns {string}
+ */
+export function explainStatement(code) {
+  return REASONS.find(([pattern]) => pattern.test(code))?.[1] ?? OF_OTHERS;
+}
+
+/**
+ * Returns why a condition is refused that no rule refuses, as the end of a sentence.
+ * @param {string} code squeezed
+ * @returns {string}
+ */
+export function explainCondition(code) {
+  return REASONS.find(([pattern]) => pattern !== COMPARISON && pattern.test(code.replace(/[=!]=.*/, "")))?.[1] ?? OF_CONDITIONS;
+}
+
+/** Reads the statements of a code, from its begin to its end. `at` is how far it is read. */
+class StatementReader {
+  /** @param {Part} code */
+  constructor({ code, index }) {
+    Object.assign(this, { code, index, at: 0 });
+    this.skipBlanks();
+  }
+
+  /** Returns what is not read yet. */
+  get rest() {
+    return this.code.slice(this.at);
+  }
+
+  /** Skips the blanks at the begin of the rest. */
+  skipBlanks() {
+    this.at += this.rest.search(/\S|$/);
+  }
+
+  /** Returns the part of some length at the begin of the rest, and skips it with the blanks after it. */
+  takePart(length) {
+    const part = { code: this.rest.slice(0, length), index: this.index + this.at };
+    this.at += length;
+    this.skipBlanks();
+    return part;
+  }
+
+  /** Returns all statements, without empty ones. */
+  readAll() {
+    const all = [];
+    while (this.rest) all.push(this.readStatement());
+    return all.filter((it) => it.code.trim());
+  }
+
+  /** Returns the next statement. Throws NoTest if it is none that is rewritten, or has no end. */
+  readStatement() {
+    const { rest } = this;
+    if (rest.startsWith("{")) return this.readBlock();
+    if (IF.test(rest)) return this.readBranch();
+    if (LOOP.test(rest)) this.refuseLoop();
+    const length = rest.indexOf(";");
+    if (length < 0) refusePart(this.takePart(rest.length), ": its `;` is missing");
+    const statement = this.takePart(length);
+    this.takePart(1);
+    return statement;
+  }
+
+  /** Returns a block, whose braces are not in its statements. */
+  readBlock() {
+    const { code, index } = this.takePart(findClosing(this.rest, 0) + 1);
+    return { code, index, block: readStatements({ code: code.slice(1, -1), index: index + 1 }) };
+  }
+
+  /** Returns an `if`, with its `else`. Its code is up to its condition. */
+  readBranch() {
+    const open = this.rest.indexOf("(");
+    const close = findClosing(this.rest, open);
+    if (close < 0) refusePart(this.takePart(this.rest.length), ": its `)` is missing");
+    const head = this.takePart(close + 1);
+    const then = this.readBranchBody(head);
+    const hasElse = ELSE.test(this.rest);
+    if (hasElse) this.takePart("else".length);
+    return { ...head, condition: head.code.slice(open + 1, -1), then, otherwise: hasElse ? this.readBranchBody(head) : [] };
+  }
+
+  /** Returns the statements of a branch of an `if` that begins with a part. Throws NoTest for this part if there is none. */
+  readBranchBody(head) {
+    if (!this.rest) refusePart(head, ": a branch has a statement");
+    const statement = this.readStatement();
+    return statement.block ?? [statement].filter((it) => it.code.trim());
+  }
+
+  /** Throws NoTest for the loop, the `switch` or the `else` that begins here. */
+  refuseLoop() {
+    const { rest } = this;
+    const head = HEAD.exec(rest)?.[0].length;
+    const length = head ? findClosing(rest, head) + 1 : rest.search(/[;{]|$/);
+    const [, why] = [[ELSE, OF_ELSE], [SWITCH, OF_SWITCH], [WAITING, OF_WAITING]].find(([pattern]) => pattern.test(rest)) ?? [LOOP, OF_LOOPS];
+    refusePart(this.takePart(length), why);
+  }
+}
+
+/**
+ * Returns the statements of a code. Throws NoTest at a loop, and at a statement that has no end.
+ * @param {Part} code
+ * @returns {Statement[]}
+ */
+export function readStatements(code) {
+  return new StatementReader(code).readAll();
+}
+
+// Values. Their code is squeezed.
+
+/**
+ * Returns code without the parentheses around all of it.
+ * @param {string} code
+ * @returns {string}
+ */
+export function removeOuterParentheses(code) {
+  return code.startsWith("(") && findClosing(code, 0) === code.length - 1 ? removeOuterParentheses(code.slice(1, -1)) : code;
+}
+
+/**
+ * Returns the parts of code between marks that are in no parentheses.
+ * @param {string} code
+ * @param {string} mark
+ * @returns {string[]}
+ */
+export function splitOutside(code, mark) {
+  const parts = [""];
+  let depth = 0;
+  for (let at = 0; at < code.length; at += 1) {
+    depth += Number(code[at] === "(") - Number(code[at] === ")");
+    if (!depth && code.startsWith(mark, at)) {
+      parts.push("");
+      at += mark.length - 1;
+    } else parts[parts.length - 1] += code[at];
+  }
+  return parts;
+}
+
+/**
+ * Returns the terms of a sum, each with its sign. A step as `x++` is one term, and so is a negative constant.
+ * @param {string} code
+ * @returns {{sign: string, term: string}[]}
+ */
+export function splitTerms(code) {
+  const terms = [{ sign: "+", term: "" }];
+  let depth = 0;
+  for (let at = 0; at < code.length; at += 1) {
+    const [letter, last] = [code[at], terms.at(-1)];
+    depth += Number(letter === "(") - Number(letter === ")");
+    const isSign = !depth && /[+-]/.test(letter);
+    if (isSign && code[at + 1] === letter) {
+      last.term += letter + letter;
+      at += 1;
+    } else if (isSign && last.term) terms.push({ sign: letter, term: "" });
+    else if (depth || letter !== "@") last.term += letter;
+  }
+  return terms;
+}
+
+/**
+ * Returns the comparisons of which a condition is true if all are: their two sides, and whether they are to be equal. Null if it is none of these.
+ * @param {string} code
+ * @returns {{sides: string[], isEqual: boolean}[] | null}
+ */
+export function parseCondition(code) {
+  const parts = splitOutside(removeOuterParentheses(code), "&&").map((it) => parseComparison(removeOuterParentheses(it)));
+  return parts.includes(null) ? null : parts;
+}
+
+/** Returns the two sides of a comparison, and whether they are to be equal: a bare value is not 0, and one after `!` is 0. Null if it is none. */
+function parseComparison(code) {
+  if (/^!(?!=)/.test(code)) return negateComparison(code.slice(1));
+  const isEqual = splitOutside(code, "==").length === 2;
+  const sides = splitOutside(code, isEqual ? "==" : "!=").map(removeOuterParentheses);
+  if (sides.length > 2 || sides.some((it) => !it || OPERATOR.test(it))) return null;
+  if (sides.length === 1) return { sides: [...sides, "0"], isEqual: false };
+  return { sides: parseConstant(sides[0]) === null ? sides : sides.reverse(), isEqual };
+}
+
+/** Returns the comparison that holds if a value or a comparison in parentheses does not. Null if code is neither. */
+function negateComparison(code) {
+  const isWhole = /^\*?\w+$/.test(code) || (/^\w*\(/.test(code) && findClosing(code, code.indexOf("(")) === code.length - 1);
+  const comparison = isWhole ? parseComparison(removeOuterParentheses(code)) : null;
+  return comparison && { ...comparison, isEqual: !comparison.isEqual };
+}

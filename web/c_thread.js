@@ -1,0 +1,188 @@
+// Writes the instructions of a thread of a program in C, whose branches become jumps forward. Not proved.
+//
+// The records `Program` and `CThread` are those of c_reader.js, and `Statement` is that of c_statements.js.
+
+import { parseConstant, parseDeclaration, refusePart, squeezeCode } from "./c_reader.js";
+import { OF_CONDITIONS, parseCondition, readStatements } from "./c_statements.js";
+import { isTruth, OF_BOOLS, OF_STEPS, OF_SUBTRACTION, parseStep, SPARE, ValueWriter } from "./c_values.js";
+import { REGISTERS } from "./token_reader.js";
+
+// The patterns are of squeezed code. First fences, and those of which x86 code has none.
+const FENCE = /^(?:atomic_thread_fence\(memory_order_seq_cst|(?:smp_mb|__sync_synchronize)\()\)$/;
+const NO_FENCE = /^(?:atomic_thread_fence\(memory_order_(?:relaxed|consume|acquire|release|acq_rel)|smp_[rw]mb\()\)$/;
+const RETURN = /^return\b ?(.*)$/;
+// An assignment: the groups are its place, the sign of `+=` or `-=`, and its value.
+const ASSIGNMENT = /^(\*?\w+)([+-]?)=([^=].*)$/;
+// Why a statement is refused.
+const OF_UNREACHED = ": no run comes here after a `return`";
+const OF_RETURN = ": a thread that returns a value is `int P0(void)`";
+const OF_RETURN_IN_HERD = ": a thread of herd returns nothing, so set a variable, as `int r0`";
+const OF_SIDES = ": compare with a constant or a variable of the thread";
+const OF_ATOMICS = ": a thread's own variable is not atomic, as `int r0`";
+const OF_NAMES = ": give it a name that no other variable has";
+// The label at the end of a thread.
+const END = "END";
+/** The variable of what a thread returns, by its name in a question. */
+export const RESULT = "return";
+
+/** Returns a statement in which a step of a place is an assignment: `x+=1` for `x++` and `++x`, and `*x+=1` for `(*x)++`. */
+function convertStep(statement) {
+  const step = parseStep(statement);
+  return step ? `${step.place}${step.sign}=1` : statement;
+}
+
+/** Returns the variables that are known after two paths; each is null if no run comes to its end. */
+function joinPaths(one, other) {
+  return one && other ? new Set([...one].filter((it) => other.has(it))) : one ?? other;
+}
+
+/** Writes the instructions of a thread, and records what they access. */
+export class ThreadWriter extends ValueWriter {
+  /**
+   * Makes a writer of a thread, given its number. Nothing is written yet.
+   * @param {Program} program
+   * @param {number} number
+   */
+  constructor({ words, threads, isHerd }, number) {
+    const { name, head, code, variables, returnsWord } = threads[number];
+    super(number, variables);
+    Object.assign(this, { name, head, code, words, returnsWord, isHerd });
+    // The shared variables that only this thread uses, and that are neither atomic nor volatile. They have registers.
+    const isUsed = (variable, thread) => new RegExp(`\\b${variable}\\b`).test(thread.code.code);
+    const isOwn = (variable) => isUsed(variable, threads[number]) && threads.filter((it) => isUsed(variable, it)).length === 1;
+    this.own = [...variables.values()].filter((it) => it.order === "plain" && !it.isPointer && isOwn(it.name));
+    if (returnsWord) this.locals.add(RESULT);
+    // The variables that have a value at each `return`; how many labels there are; and the variable that was loaded last.
+    this.exits = [];
+    this.labelCount = 0;
+    this.loaded = null;
+  }
+
+  /** Writes all instructions. Returns this writer. Throws NoTest at a statement that is not rewritten, and if there are too few registers. */
+  writeThread() {
+    for (const variable of this.own) {
+      const word = this.words.get(variable.name);
+      this.declareLocal(variable, word ? String(word) : "");
+      this.known.add(variable.name);
+    }
+    this.writeStatements(readStatements(this.code), true);
+    const known = [...this.exits, this.known].reduce(joinPaths, null);
+    this.known = new Set([...known].filter((it) => this.locals.has(it)));
+    if (this.instructions.some((it) => it.endsWith(` ${END}`))) this.labels.push(END);
+    if (this.labels.length) this.instructions.push(`${this.labels.join(": ")}:`);
+    const needed = this.registers.length + Number(this.instructions.some((it) => it.includes(SPARE)));
+    if (needed > REGISTERS.X86.length) refusePart({ code: this.name, index: this.head }, ", which needs more than six registers");
+    this.instructions = this.instructions.map((it) => it.replaceAll(SPARE, REGISTERS.X86[this.registers.length]));
+    return this;
+  }
+
+  /** Returns a new label. */
+  makeLabel() {
+    this.labelCount += 1;
+    return `L${this.labelCount}`;
+  }
+
+  /** Writes statements. `isLast` says that none follows them in the thread. */
+  writeStatements(statements, isLast) {
+    for (const [at, statement] of statements.entries()) {
+      this.statement = statement;
+      if (!this.known) this.refuseStatement(OF_UNREACHED);
+      const isEnd = isLast && at === statements.length - 1;
+      if (statement.block) this.writeBlock(statement.block, isEnd);
+      else if (statement.then) this.writeBranch(statement, isEnd);
+      else this.writeSimple(squeezeCode(statement.code), isEnd);
+    }
+  }
+
+  /** Writes statements, after which the variables that they declare can't be used. */
+  writeBlock(statements, isLast) {
+    const outer = new Set(this.locals);
+    this.writeStatements(statements, isLast);
+    for (const name of this.locals) {
+      if (outer.has(name)) continue;
+      [this.locals, this.bools, this.known].forEach((it) => it?.delete(name));
+    }
+  }
+
+  /** Writes an `if`: its comparisons jump over its first branch, which jumps over the second one if there is one. */
+  writeBranch({ condition, then, otherwise }, isLast) {
+    const other = isLast && !otherwise.length ? END : this.makeLabel();
+    const end = isLast ? END : otherwise.length ? this.makeLabel() : other;
+    this.writeCondition(squeezeCode(condition), other);
+    const before = new Set(this.known);
+    this.writeBlock(then, isLast && !otherwise.length);
+    const after = this.known;
+    this.known = before;
+    if (otherwise.length) {
+      if (after) this.writeInstruction(`JMP ${end}`);
+      this.labels.push(other);
+      this.writeBlock(otherwise, isLast);
+    }
+    this.known = joinPaths(after, this.known);
+    const isTarget = this.instructions.some((it) => it.endsWith(` ${end}`));
+    if (!isLast && isTarget) this.labels.push(end);
+  }
+
+  /** Writes the instructions that jump to a label if a condition is false. */
+  writeCondition(condition, label) {
+    for (const { sides: [value, other], isEqual } of parseCondition(condition) ?? this.refuseStatement(OF_CONDITIONS)) {
+      if (this.locals.has(other) && parseStep(value)?.place === other) this.refuseStatement(OF_STEPS);
+      const register = this.known.has(value) ? this.findRegister(value) : SPARE;
+      if (register === SPARE) this.writeValue(value, SPARE);
+      this.writeInstruction(`CMP ${register},${this.findOperand(other) ?? this.refuseStatement(OF_SIDES)}`);
+      this.writeInstruction(`${isEqual ? "JNE" : "JE"} ${label}`);
+    }
+  }
+
+  /** Writes a statement that has no statements in it: a declaration, a fence, a `return`, or an operation. */
+  writeSimple(statement, isLast) {
+    const declared = parseDeclaration(statement);
+    for (const variable of declared) {
+      if (variable.isPointer) this.refuseStatement();
+      // A compiler may make an exchange, which waits, of an assignment to a variable that is atomic.
+      if (variable.order === "seq_cst") this.refuseStatement(OF_ATOMICS);
+      if (this.variables.has(variable.name) || this.locals.has(variable.name)) this.refuseStatement(OF_NAMES);
+      this.declareLocal(variable, variable.value);
+    }
+    const [, result] = RETURN.exec(statement) ?? [];
+    if (FENCE.test(statement)) this.writeInstruction("MFENCE");
+    else if (result !== undefined) this.writeReturn(result, isLast);
+    else if (!declared.length && !NO_FENCE.test(statement)) this.writeAssignment(statement);
+  }
+
+  /** Declares a variable that has a register, and assigns the code of its initial value, unless that is empty. */
+  declareLocal({ name, isBool }, value) {
+    this.locals.add(name);
+    if (isBool) this.bools.add(name);
+    if (value) this.assignLocal(name, value);
+  }
+
+  /** Writes a `return`, with the code of its value or "". */
+  writeReturn(value, isLast) {
+    if (value && !this.returnsWord) this.refuseStatement(this.isHerd ? OF_RETURN_IN_HERD : OF_RETURN);
+    if (value) this.assignLocal(RESULT, value);
+    this.exits.push(this.known);
+    this.known = null;
+    if (!isLast) this.writeInstruction(`JMP ${END}`);
+  }
+
+  /** Writes an assignment, a step, or a call whose result is not used. */
+  writeAssignment(statement) {
+    const [, place, sign, value] = ASSIGNMENT.exec(convertStep(statement)) ?? [];
+    if (!place) this.writeOperation(this.parseCall(statement));
+    else if (!this.locals.has(place)) this.writeOperation(this.makeOperation(place, sign, value));
+    else if (sign === "-" && parseConstant(value) === null) this.refuseStatement(OF_SUBTRACTION);
+    else this.assignLocal(place, sign ? `${place}${sign}@${value}` : value);
+  }
+
+  /** Writes the instructions that set a variable with a register. Throws NoTest if it holds 0 and 1 only, and the value may be another one. */
+  assignLocal(name, value) {
+    const count = this.accesses.length;
+    this.writeValue(value, this.findRegister(name));
+    this.known.add(name);
+    const [access, another] = this.accesses.slice(count);
+    const isLoaded = access?.isBool && !another && !/^(?:\w+: )*ADD\b/.test(this.instructions.at(-1));
+    if (this.bools.has(name) && !isLoaded && !isTruth(value)) this.refuseStatement(OF_BOOLS);
+    if (access && !access.isWrite) this.loaded = name;
+  }
+}

@@ -1,0 +1,246 @@
+// Writes the instructions of values in C: constants, variables of a thread, sums, and operations on shared variables. Not proved.
+//
+// The records `Part` and `Declaration` are those of c_reader.js, and `Statement` is that of c_statements.js.
+// An `Operation` has its `kind` (load, store, exchange, fetch_add or fetch_sub), its `order`, the `name` of a shared variable, which `isPointer` if
+// the code uses it as one, and the code of the `value` that it stores or adds, or "".
+// An `Access` has the number of its `thread`, its `statement`, and the `name` of its location. It `isPlain` and `isWrite`, or not, and the location
+// `isBool`, or not.
+
+import { parseConstant, refusePart, squeezeCode } from "./c_reader.js";
+import { explainCondition, explainStatement, removeOuterParentheses, splitTerms } from "./c_statements.js";
+import { REGISTERS, WORD } from "./token_reader.js";
+
+// The patterns are of squeezed code. A call: the groups are its kind, an order in its name, a `&`, the variable, a value, and an order.
+const CALL = /^atomic_(load|store|exchange|fetch_(?:add|sub))(?:_explicit|_(relaxed|acquire|release))?\((&?)(\w+),?(.*?)(?:,?memory_order_(\w+))?\)$/;
+// A variable, or what a pointer points to.
+const PLACE = /^\*?\w+$/;
+// `x++`, and `++x`: the groups are the place and the sign, and again the sign and the place.
+const STEP = /^(?:(\w+|\(\*\w+\))([+-])\2|([+-])\3(\*?\w+|\(\*\w+\)))$/;
+const ASSIGNMENT_IN_VALUE = /(?<![=!<>])=(?!=)/;
+const STEP_KINDS = { "+": "fetch_add", "-": "fetch_sub" };
+// The kinds and orders of which gcc and clang make the same code.
+const SAME_CODE =
+  /^(?:load (?:plain|relaxed|consume|acquire)|store (?:plain|relaxed|release)|exchange (?:consume|acquire|acq_rel)|fetch_\w+ \w+|\w+ seq_cst)$/;
+// Why a statement is refused.
+const OF_ORDER = ", of which compilers make different code";
+const OF_ASSIGNMENTS = ": write each assignment as a statement of its own";
+const OF_LOADS = ": load each shared variable into one of the thread first, since compilers choose which is first";
+const OF_CONSTANTS = ": a constant is decimal, or `0x` and hexadecimal, of 32 bits";
+/** Why a step of a thread's own variable is refused in a value, as the end of a sentence. */
+export const OF_STEPS = ": write `++` and `--` of a thread's own variable in a statement of its own";
+/** Why a difference is refused, as the end of a sentence. */
+export const OF_SUBTRACTION = ": the x86 format subtracts constants only";
+/** Why a value of a `bool` is refused, as the end of a sentence. */
+export const OF_BOOLS = ": a `bool` is set to `true`, `false`, or another `bool` that is loaded";
+/** What is in place of a register that no variable of its thread has, until all variables have theirs. */
+export const SPARE = "?";
+
+/**
+ * Returns whether code is the constant 0 or 1.
+ * @param {string} code
+ * @returns {boolean}
+ */
+export function isTruth(code) {
+  return parseConstant(code) === 0 || parseConstant(code) === 1;
+}
+
+/** Returns the word of a sum or a difference of words. */
+function toWord(number) {
+  return ((number % WORD) + WORD) % WORD;
+}
+
+/** Returns whether an operation of a kind adds to a variable. */
+function isStep(kind) {
+  return kind.startsWith("fetch");
+}
+
+/**
+ * Returns the place of a step, its sign, and whether it is before the place; null if code is no step. The place of `(*x)++` is `*x`.
+ * @param {string} code
+ * @returns {{place: string, sign: string, isBefore: boolean} | null}
+ */
+export function parseStep(code) {
+  const [, lastPlace, lastSign, firstSign, firstPlace] = STEP.exec(code) ?? [];
+  const place = lastPlace ?? firstPlace;
+  return place ? { place: place.replace(/[()]/g, ""), sign: lastSign ?? firstSign, isBefore: lastPlace === undefined } : null;
+}
+
+/** Writes the instructions of values and operations of a thread. Which variables can be used is set from outside. */
+export class ValueWriter {
+  /**
+   * Makes a writer for a thread, given its number and the shared variables. Nothing is written yet.
+   * @param {number} number
+   * @param {Map<string, Declaration>} variables
+   */
+  constructor(number, variables) {
+    Object.assign(this, { number, variables });
+    this.instructions = [];
+    this.accesses = [];
+    // The labels of the next instruction.
+    this.labels = [];
+    // The variables that have registers, in the order of these.
+    this.registers = [];
+    // The variables with registers that can be used here: those of them that hold 0 and 1 only, and those that have a value on all paths to here. No
+    // path comes here if these are null.
+    this.locals = new Set();
+    this.bools = new Set();
+    this.known = new Set();
+    // What is refused.
+    this.statement = null;
+  }
+
+  /** Throws NoTest for the statement, with the end of a sentence. */
+  refuseStatement(why) {
+    const { code, condition } = this.statement;
+    refusePart(this.statement, why ?? (condition === undefined ? explainStatement(squeezeCode(code)) : explainCondition(squeezeCode(condition))));
+  }
+
+  /** Writes an instruction, with the labels before it. */
+  writeInstruction(instruction) {
+    this.instructions.push([...this.labels, instruction].join(": "));
+    this.labels = [];
+  }
+
+  /** Returns the register of a variable, which has one from here on. */
+  findRegister(variable) {
+    if (!this.registers.includes(variable)) this.registers.push(variable);
+    return REGISTERS.X86[this.registers.indexOf(variable)] ?? SPARE;
+  }
+
+  /** Returns the site of a variable in a question. */
+  makeSite(variable) {
+    return `${this.number}:${this.findRegister(variable)}`;
+  }
+
+  /** Returns the constant or the register that an instruction has for a value; null if it is neither. */
+  findOperand(value) {
+    const word = parseConstant(value);
+    if (word !== null) return `$${word}`;
+    return this.known.has(value) ? this.findRegister(value) : null;
+  }
+
+  // Values.
+
+  /** Writes the instructions that set a register to a value: a sum, or one term. */
+  writeValue(code, register) {
+    if (ASSIGNMENT_IN_VALUE.test(code)) this.refuseStatement(OF_ASSIGNMENTS);
+    const value = removeOuterParentheses(code);
+    const terms = splitTerms(value);
+    if (terms.length > 1) this.writeSum(terms, register);
+    else this.writeTerm(value, register);
+  }
+
+  /** Writes a sum of constants, variables of the thread, and one operation at most, which comes first. */
+  writeSum(terms, register) {
+    const others = terms.filter(({ term }) => parseConstant(term) === null);
+    const operations = others.filter(({ term }) => !this.known.has(term));
+    if (others.some(({ sign }) => sign === "-")) this.refuseStatement(OF_SUBTRACTION);
+    if (operations.length > 1) this.refuseStatement(OF_LOADS);
+    if (operations.some(({ term }) => this.locals.has(parseStep(term)?.place))) this.refuseStatement(OF_STEPS);
+    // A register that is itself a term is the first one, and may be added to itself then. Otherwise the sum is made in another register.
+    const isSelf = ({ term }) => this.findOperand(term) === register;
+    const selves = others.filter(isSelf);
+    const target = selves.length > 2 || (selves.length && operations.length) ? SPARE : register;
+    const ordered = [...operations, ...selves, ...others.filter((it) => !operations.includes(it) && !isSelf(it))];
+    const constants = terms.filter((it) => !others.includes(it));
+    const sum = toWord(constants.reduce((all, { sign, term }) => all + Number(`${sign}1`) * parseConstant(term), 0));
+    this.writeTerm(ordered[0]?.term ?? String(sum), target);
+    for (const { term } of ordered.slice(1)) this.writeInstruction(`ADD ${target},${this.findOperand(term)}`);
+    if (constants.length && ordered.length) this.writeInstruction(`ADD ${target},$${sum}`);
+    if (target !== register) this.writeInstruction(`MOV ${register},${target}`);
+  }
+
+  /** Writes the instructions that set a register to a term: a constant, a variable, or the result of an operation. */
+  writeTerm(value, register) {
+    const operand = this.findOperand(value);
+    const step = parseStep(value);
+    if (operand === register) return;
+    if (operand) this.writeInstruction(`MOV ${register},${operand}`);
+    else if (step && this.locals.has(step.place)) this.writeOwnStep(step, register);
+    else {
+      this.writeOperation(this.parseOperation(value), register);
+      if (step?.isBefore) this.writeInstruction(`ADD ${register},$${toWord(Number(`${step.sign}1`))}`);
+    }
+  }
+
+  /** Writes a step of a variable with a register, whose value before or after it another register gets. */
+  writeOwnStep({ place, sign, isBefore }, register) {
+    const own = this.findRegister(place);
+    if (own === register || !this.known.has(place) || this.bools.has(place)) this.refuseStatement(OF_STEPS);
+    const step = `ADD ${own},$${toWord(Number(`${sign}1`))}`;
+    const copy = `MOV ${register},${own}`;
+    for (const instruction of isBefore ? [step, copy] : [copy, step]) this.writeInstruction(instruction);
+  }
+
+  /** Returns the operation of a value: a load by the name of a variable, a step, or a call. */
+  parseOperation(value) {
+    const step = parseStep(value);
+    if (step) return this.makeOperation(step.place, step.sign, "1");
+    return PLACE.test(value) ? this.makeOperation(value) : this.parseCall(value);
+  }
+
+  // Operations.
+
+  /**
+   * Returns the operation of an operator: an addition if there is a sign, a store if there is only a value, and otherwise a load. Throws NoTest if
+   * the variable is not shared, and at an addition to one that is not atomic, of which compilers make different code.
+   */
+  makeOperation(place, sign = "", value = "") {
+    const name = place.replace("*", "");
+    const { order } = this.findShared(name, place !== name);
+    if (sign && order !== "seq_cst") this.refuseStatement(OF_ORDER);
+    return { kind: STEP_KINDS[sign] ?? (value ? "store" : "load"), order, name, isPointer: place !== name, value };
+  }
+
+  /** Returns the declaration of a shared variable, which code uses as a pointer or not. Throws NoTest if it is none of these. */
+  findShared(name, isPointer) {
+    if (/^\d/.test(name)) this.refuseStatement(OF_CONSTANTS);
+    if (this.locals.has(name)) this.refuseStatement(`: \`${name}\` ${this.known.has(name) ? "is not shared" : "has no value on some path to here"}`);
+    const variable = this.variables.get(name) ?? this.refuseStatement(`: \`${name}\` is not declared`);
+    if (isPointer && !variable.isPointer) this.refuseStatement(`: \`${name}\` is no pointer, as \`&${name}\` is`);
+    if (!isPointer && variable.isPointer) this.refuseStatement(`: \`${name}\` is a pointer to \`*${name}\``);
+    return variable;
+  }
+
+  /** Returns the operation of a call. Throws NoTest if it is none. */
+  parseCall(code) {
+    const [, kind, namedOrder = "seq_cst", ampersand, name, value, order = namedOrder] = CALL.exec(code) ?? [];
+    if (!kind) this.refuseStatement();
+    return { kind, order, name, isPointer: !ampersand, value };
+  }
+
+  /** Throws NoTest if its variable has no such operation, or compilers make different code of it. `hasResult` says that its result is used. */
+  checkOperation({ kind, order, name, isPointer, value }, hasResult) {
+    const variable = this.findShared(name, isPointer);
+    const isLoad = kind === "load";
+    if (isLoad !== !value || (kind === "store" && hasResult)) this.refuseStatement();
+    if (variable.isBool && !isLoad && (isStep(kind) || !isTruth(value))) this.refuseStatement(OF_BOOLS);
+    if (kind === "fetch_sub" && parseConstant(value) === null) this.refuseStatement(OF_SUBTRACTION);
+    // A compiler may make a load of an addition that is not seq_cst if it finds that it adds 0.
+    const isIdle = isStep(kind) && order !== "seq_cst" && !parseConstant(value);
+    if (isIdle || !SAME_CODE.test(`${kind} ${order}`)) this.refuseStatement(OF_ORDER);
+  }
+
+  /** Writes the instructions of an operation. Its result is in a register, if one is given. */
+  writeOperation(operation, register) {
+    this.checkOperation(operation, register !== undefined);
+    const { kind, order, name, value } = operation;
+    const { isBool } = this.variables.get(name);
+    const isPlain = order === "plain";
+    this.accesses.push({ thread: this.number, statement: this.statement, name, isPlain, isWrite: kind !== "load", isBool });
+    const target = register ?? SPARE;
+    if (kind === "load") this.writeInstruction(`MOV ${target},[${name}]`);
+    else if (kind === "store" && order !== "seq_cst") this.writeStore(operation);
+    else {
+      this.writeValue(kind === "fetch_sub" ? `-${value}` : value, target);
+      this.writeInstruction(`${isStep(kind) ? "LOCK XADD" : "XCHG"} [${name}],${target}`);
+    }
+  }
+
+  /** Writes the instructions of a store that is not seq_cst. */
+  writeStore({ name, value }) {
+    const operand = this.findOperand(value);
+    if (!operand) this.writeValue(value, SPARE);
+    this.writeInstruction(`MOV [${name}],${operand ?? SPARE}`);
+  }
+}
