@@ -445,6 +445,8 @@ class Faults(PageCase):
         made = f"X86 Mine\n(* 0:EAX is r0, 1:EAX is r0 *)\n{{ x=0; y=0; }}\n{rows}exists (0:EAX=0 /\\ 1:EAX=0)\n"
         user.run_text(program)
         self.assertSays("The button makes an x86 test of it: each access as gcc and clang compile it, in the order of the program.", "#fault")
+        self.assertEqual(["Rewrite it as an x86 test"], user.texts("#fault .apply"))
+        user.click("#fault details > summary")
         self.assertEqual(["Rewrite it as an x86 test", "Copy the command"], user.texts("#fault .apply"))
         user.click("#fault .apply")
         self.assertSoon(made, user.value)
