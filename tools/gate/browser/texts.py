@@ -99,7 +99,8 @@ class Faults(PageCase):
         for text, token, sentence in (
             (rows("INC EAX"), "INC", "INC does not fit here. lw does this by ADD EAX,$1."),
             (rows("PAUSES"), "PAUSES", "lw has no instruction of this name."),
-            (rows("MOV [x],[y]"), "[", "An instruction has one location at most: load it into a register first."),
+            (rows("MOV [x],[y]"), "[", "[ does not fit here. lw does this by MOV EBX,[y], then MOV [x],EBX."),
+            (rows("XCHG [x],[y]"), "[", "An instruction has one location at most: load it into a register first."),
             (rows("MOV EAX,flag"), "flag", "flag is no register, and one is needed here: EAX, EBX, ECX, EDX, ESI or EDI."),
             (rows("MOV [x],$1").replace("exists (0:EAX=1)", "exists (x=1 x)"), "x", "does not fit into the question."),
             (rows("MOV [x],$1 | MFENCE"), ";", "This row has too few or too many cells"),
