@@ -23,7 +23,7 @@ function checkRaces(accesses) {
   if (!race) return;
   const { name, statement } = race;
   const index = statement.index + statement.code.search(new RegExp(`\\b${name}\\b`));
-  refusePart({ code: name, index }, ", on which threads may race: make it atomic or volatile");
+  refusePart({ code: name, index }, ": that threads do not race on it is not checked, so make it atomic or volatile");
 }
 
 /**

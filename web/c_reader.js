@@ -50,7 +50,7 @@ const OF_PARAMETERS = ": a parameter is a pointer to 32 bits, as `atomic_int *x`
 const OF_VALUES = ": an initial value is one constant, as in `x = 1` or `x{1}`, and of a `bool` 0 or 1";
 const OF_THREADS = ": a thread is a function without parameters";
 const OF_END = ": after the threads is the question, as `exists (0:r0=0)`";
-const OF_MAIN = ": in place of `main`, each thread is a function without parameters";
+const OF_MAIN = ": leave `main` out, and each thread is a function without parameters";
 
 /**
  * Throws NoTest for a part of a program, which is cut if it is long, with the rest of a sentence. The fault has the `index` of the part.

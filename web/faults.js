@@ -29,6 +29,9 @@ const QUESTION_OR_LIST = /(?:(?:[~!]|\bnot\b)\s*)?\b(?:exists|forall|locations|f
 // The line before the code of a thread, as in `P0:`, or of a function, as compilers write it; and how a question begins, or the list of locations before it.
 const HEADING = /^[ \t]*(?:#|\/\/|;)?[ \t]*(?:P|T|CPU|core|processor|thread)[ \t_]*\d[ \t]*(?::|$)/im;
 const FUNCTION = /^[ \t]*((?:[A-Za-z_~][\w$]*(?:::)?)+(?:\([^()\n]*\))?)[ \t]*:[ \t]*$/gm;
+// A comment of a compiler, and an instruction on a function's frame on the stack.
+const COMPILER_COMMENT = /[ \t]+#(?![0-9]).*$/gm;
+const FRAME = /^(?:push|pop|leave)\w*\b|^(?:mov|sub|add)\w*\s.*\b[er][sb]p\b/i;
 const QUESTION = /^[ \t]*(?:locations\b|filter\b|forall\b|(?:[~!]|not\b)?[ \t]*exists\b)/m;
 // A line of assembly: labels, an instruction, or both.
 const ASSEMBLY = /^(?:[.\w]+:\s*)+$|^(?:[.\w]+:\s*)*(?:(?:lock|rep)\s+)?(?:mov|x?add|sub|cmp|xchg|inc|dec|test|x?or|and|j[nmez]|[mls]fence|nop|pause)\w*(?:\s[^;|{}=]*)?$/i;
@@ -347,6 +350,9 @@ function explainSpareEnds(name, text) {
   return { words: "Only a row's end has a `;`.", change: { begin, end: text.length, text: mended, title: "Take out the others" } };
 }
 
+/** The sentence on code that is not optimized. */
+const UNOPTIMIZED = "These are instructions of a compiler without optimization, which keep variables on the stack: compile with `-O2`.";
+
 /** Returns the labels to which instructions jump. */
 const listTargets = (text) => [...text.matchAll(/\bj\w+\s+([.\w]+)/gi)].map(([, label]) => label);
 
@@ -401,9 +407,11 @@ function makeQuestion(threads) {
 /** Returns a sentence that says that a text has only instructions, with a question or without one, and proposes to make a test of them; or "". */
 function explainAssembly(place) {
   const end = place.text.search(QUESTION);
-  const code = rewriteLabels(end < 0 ? place.text : place.text.slice(0, end));
+  const code = rewriteLabels((end < 0 ? place.text : place.text.slice(0, end)).replace(COMPILER_COMMENT, ""));
   const { threads, areNamed } = splitThreads(code);
-  if (!threads.length || !threads.flat().every((it) => ASSEMBLY.test(it))) return "";
+  const lines = threads.flat();
+  if (lines.some((it) => FRAME.test(it)) && lines.every((it) => FRAME.test(it) || ASSEMBLY.test(it))) return UNOPTIMIZED;
+  if (!threads.length || !lines.every((it) => ASSEMBLY.test(it))) return "";
   const names = threads.map((_, thread) => `P${thread}`);
   const rows = Array.from({ length: Math.max(...threads.map((it) => it.length)) }, (_, row) => threads.map((it) => it[row] ?? ""));
   const { list, question, isAsked } = makeQuestion(threads);

@@ -108,7 +108,7 @@ export class Fences {
       return el("tr", {}, el("th", { scope: "row" }, name), el("td", {}, effect), el("td", {}, makeStateLines(added ?? [], watch)));
     });
     return [
-      el("p", {}, "Which exchanges need their lock, ", by, "? One after another is tried without it."),
+      el("p", {}, "Which exchanges need their lock, ", by, "? Each is tried alone without it: two that change nothing alone may matter together."),
       el("div", { class: "wide" }, el("table", {}, el("thead", {}, head), el("tbody", {}, rows))),
       table.positive === (condition.startsWith("forall") ? table.states : 0) ? "" : el("p", { class: "notice" }, REACHABLE),
       el("p", { class: "small" }, renderSentence("The page's own code writes the texts without a lock, as `tools/fences.py --exchanges` does "), makePlainMark(),

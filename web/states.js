@@ -29,6 +29,8 @@ const BY = {
   enumerated: ["complete (proved)", "lw went through all orders of accesses that conflict. That lists all final states and no others, which is proved."],
   searched: ["complete (proved), by a search", "lw searched the states of the machine. That lists all final states and no others, which is proved."],
 };
+// The kind, the word and the sentence of a test that asks nothing.
+const NO_QUESTION = ["can", "No question.", "The list has all states in which a run ends."];
 const SIGNS_IN_WORDS = "/\\ and, \\/ or, ~ not";
 const SIGNS = { can: "○", yes: "✓", no: "⊘", wrong: "!" };
 const VEILED = "The answer comes when a run of yours decides it, when you have found all states, or in Watch.";
@@ -224,7 +226,8 @@ export class States {
     const tints = findTints(text);
     const guessed = guess.findGuess(text);
     if (guessed !== null) countPrediction(text, guessed === words.is_so);
-    const [kind, word, sentence] = describeVerdict(this.language, report, describeCondition(text));
+    const asksNothing = report.condition === "exists (true)";
+    const [kind, word, sentence] = asksNothing ? NO_QUESTION : describeVerdict(this.language, report, describeCondition(text));
     const [by, way] = BY[this.isSearched ? "searched" : "enumerated"];
     const note = this.noteOf(text, kind === "can" || kind === "wrong");
     // Of an example the count is in the note, or beside the condition's if there is none; of another test the note says it.

@@ -147,7 +147,7 @@ void P0(void) { x = 1; int r0 = y; }
 void P1(void) { y = 1; int r0 = x; }
 // lw: exists (0:r0=0 /\\ 1:r0=0)
 `;
-const RACE = ", on which threads may race: make it atomic or volatile";
+const RACE = ": that threads do not race on it is not checked, so make it atomic or volatile";
 const OF_GLOBALS = ": outside of threads are only declarations of 32-bit integers and `bool`, as `atomic_int x = 1;`";
 const OF_VALUES = ": an initial value is one constant, as in `x = 1` or `x{1}`, and of a `bool` 0 or 1";
 const OF_LOOPS = ": write out each pass of a loop. `tools/from_c.py` follows loops";
@@ -225,7 +225,7 @@ const REFUSED = [
   ["void P0", "void P2", `\`P2\`${OF_NAMES}`],
   ["P1(void)", "P1(void *argument)", "`void P1(void *argument) { y = 1; int r0 ..`: a thread is a function without parameters"],
   ["void P1(void)", "int main(void) { return 0; }\nvoid P1(void)",
-    "`int main(void) { return 0; }`: in place of `main`, each thread is a function without parameters"],
+    "`int main(void) { return 0; }`: leave `main` out, and each thread is a function without parameters"],
   ["x = 1;", "if (y < 1) x = 1;", `\`if (y < 1)\`${OF_CONDITIONS}`],
   ["x = 1;", "if (y == 1 || y == 2) x = 1;", `\`if (y == 1 || y == 2)\`${OF_CONDITIONS}`],
   ["x = 1;", "if (y == x) x = 1;", `\`if (y == x)\`${OF_SIDES}`],

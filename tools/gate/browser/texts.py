@@ -391,6 +391,7 @@ class Faults(PageCase):
         self.assertSays("The question true holds always: look at the list of states.", "#fault")
         user.click("#fault .apply")
         self.assertSoon("X86 Mine\n{}\n P0 ;\n mov [x],1 ;\n mov [y],1 ;\nlocations [x; y;]\nexists (true)\n", user.value)
+        self.assertSays("No question. The list has all states in which a run ends.", "#outcome .verdict")
 
     def test_named_blocks(self) -> None:
         """Of blocks of instructions, each below a line with its thread's name, a button makes a test, with the question below them."""
@@ -410,8 +411,10 @@ class Faults(PageCase):
             user.click("#fault .apply")
             self.assertSoon(f"X86 Mine\n{{}}\n{rows}exists (0:EAX=0 /\\ 1:EAX=0)\n", user.value)
             self.assertSays("Allowed.", "#outcome .verdict")
-        user.run_text("P0():\n push rbp\n")
-        self.assertSays("P0 is not expected here.", "#fault")
+        user.run_text("P0():\n push rbp\n mov rbp, rsp\n mov DWORD PTR x[rip], 1\n pop rbp\n ret\n")
+        self.assertSays("These are instructions of a compiler without optimization, which keep variables on the stack: compile with -O2.", "#fault")
+        user.run_text("P0():    # @P0()\n mov dword ptr [rip + x], 1\n ret\n")
+        self.assertEqual("Make it P0 of a test", user.text("#fault .apply"))
 
     def test_c_rows(self) -> None:
         """Rows in C become instructions by a button; of calls and of threads in C the page says what compiles them, with the command to copy."""
