@@ -45,6 +45,7 @@ TITLE = "What can this program do?"
 # The sheet's sentence on the tests' files, up to the words on a link.
 FILES = "The tests are files in `tests`, and *open* "
 # Links from the sheet of a site to its other documents, on a screen.
+BEGIN_WITH = "Begin with the sheet: it has the tasks in their order. Write down what you expect of a test before you look at its list."
 WAY_BACK = '<p class="screen"><a href="index.html" target="lw">lw</a> · <a href="tutorial.html">Tutorial</a> · <a href="card.html">Syntax</a></p>\n'
 WHO = '<p class="who"><span>Name:</span> <span>Group:</span> <span>Points:</span></p>\n'
 # The column in which reasons are written has to be wide.
@@ -124,10 +125,11 @@ def make_sheet(lab: str, tests: dict[str, str], site: str | None, is_of_site: bo
 
 
 def make_index(has_site: bool) -> str:
-    """Returns the page on which a folder or a server opens: links to the sheet, the card, and the workbench."""
-    site = [("site/index.html", "The page: all examples")] if has_site else []
-    links = [("sheet.html", "The sheet"), ("card.html", "The syntax, on one card"), *site]
-    return make_page("A lab", "<ul>\n" + "".join(f'<li><a href="{link}">{title}</a></li>\n' for link, title in links) + "</ul>\n", "index")
+    """Returns the page on which a folder or a server opens: where to begin, and links to the sheet, the card, and the workbench."""
+    site = [("site/index.html", "The page", "the workbench, with all examples")] if has_site else []
+    links = [("sheet.html", "The sheet", "the tasks, and room for your answers"), ("card.html", "The card", "the syntax on one page"), *site]
+    items = "".join(f'<li><a href="{link}">{title}</a>: {words}</li>\n' for link, title, words in links)
+    return make_page("A lab", f"<h1>{TITLE}</h1>\n<p>{BEGIN_WITH}</p>\n<ul>\n{items}</ul>\n", "index")
 
 
 def make_timetable(lab: str) -> str:
