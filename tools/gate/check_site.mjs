@@ -705,7 +705,7 @@ function compareHints(page, program, tally) {
     const hint = page.faults.explainFault(fault, text);
     const row = page.faults.explainMissingRowEnd(fault, text).match(/^Line (\d+) has no `;`/)?.[1];
     const expected = [true, line, proposed, changed ?? hint.at?.row];
-    tally.compare(`the words on ${wrong}`, expected, [hint.words.includes(words), row && Number(row), hint.change?.text, hint.at?.row]);
+    tally.compare(`the words on ${wrong}`, expected, [`${hint.words} ${hint.more ?? ""}`.includes(words), row && Number(row), hint.change?.text, hint.at?.row]);
   }
 }
 
@@ -862,7 +862,7 @@ const HINTS = [
     "MOV [x],$1 | MOV EAX,[y] ;\n MFENCE | MOV EBX,[x] ;\nexists (1:EAX=1 /\\ 1:EBX"],
   [`${ALL_ROWS}\nexists (x=1 /\\ 1:EAX=0)`, "MOV RAX,[x] | MOV [x],$1 ;\nexists (rax=0)", "Registers are `EAX` to `EDX`", undefined, "MOV EAX,[x] | MOV [x],$1 ;\nexists (0:EAX"],
   ["exists (x=1 /\\", "exist (x=1 &&", "lw has no question of the name `exist`.", undefined, "exists", 6],
-  ["X86 A\n{ x=0 }\n P0 | P1 ;", "X86 A\n{ x=0 }\nP0 (int *x) {", "The threads are functions in C", undefined, undefined],
+  ["X86 A\n{ x=0 }\n P0 | P1 ;", "X86 A\n{ x=0 }\nP0 (int *x) {", "Its first word is `C` then.", undefined, undefined],
   ["X86 A", "use std::thread;\nX86 A", "`python3 tools/from_c.py --show mine.rs`", undefined, undefined],
   [ALL_ROWS, "lock; xaddl %eax,(x) | movl $1,(x) ;", "Only a row's end has a `;`.", undefined,
     RIGHT.replace(ALL_ROWS, () => "lock xaddl %eax,(x) | movl $1,(x) ;").replace(/^[^]*(?=P0)/, "")],
