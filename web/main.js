@@ -177,10 +177,13 @@ async function listAsked() {
   scrollToAnswers();
 }
 
-/** Scrolls to the answers, unless they begin in the upper part of the window. On a phone they are above the text. */
+/**
+ * Scrolls to the answers, unless they begin in the upper part of the window. On a phone they are above the text. It is done at once: what is drawn
+ * meanwhile may end a smooth scroll.
+ */
 function scrollToAnswers() {
   const { top } = findById("answers").getBoundingClientRect();
-  if (top < 0 || top > 0.6 * innerHeight) findById("answers").scrollIntoView({ block: "start", behavior: isStill() ? "auto" : "smooth" });
+  if (top < 0 || top > 0.6 * innerHeight) findById("answers").scrollIntoView({ block: "start" });
 }
 
 /** Unfolds the text of the test and brings it into sight, or folds it. */
