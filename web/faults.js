@@ -27,12 +27,12 @@ const HEADS = ["SRC", "X86"];
 const LABELS = /^(?:\w+\s*:\s*)*$/;
 const QUESTION_OR_LIST = /(?:(?:[~!]|\bnot\b)\s*)?\b(?:exists|forall|locations|filter)\b|\b(?:forbidden|never|allowed|required|always)\s*\(/i;
 // The line before the code of a thread, as in `P0:`, or of a function, as compilers write it; and how a question begins, or the list of locations before it.
-const HEADING = /^[ \t]*(?:#|\/\/|;)?[ \t]*(?:P|T|CPU|core|processor|thread)[ \t_]*\d[ \t]*(?::|$)/im;
-const FUNCTION = /^[ \t]*((?:[A-Za-z_~][\w$]*(?:::)?)+(?:\([^()\n]*\))?)[ \t]*:[ \t]*$/gm;
+const HEADING = /^[ \t]*(?:(?:#|\/\/|;)[ \t]*)?(?:P|T|CPU|core|processor|thread)[ \t_]*\d[ \t]*(?::|$)/im;
+const FUNCTION = /^[ \t]*([A-Za-z_~][\w$]*(?:::[A-Za-z_~][\w$]*)*(?:\([^()\n]*\))?)[ \t]*:[ \t]*$/gm;
 // A comment of a compiler, and an instruction on a function's frame on the stack.
-const COMPILER_COMMENT = /[ \t]+#(?![0-9]).*$/gm;
+const COMPILER_COMMENT = /(?<![ \t])[ \t]+#(?![0-9]).*$/gm;
 const FRAME = /^(?:push|pop|leave)\w*\b|^(?:mov|sub|add)\w*\s.*\b[er][sb]p\b/i;
-const QUESTION = /^[ \t]*(?:locations\b|filter\b|forall\b|(?:[~!]|not\b)?[ \t]*exists\b)/m;
+const QUESTION = /^[ \t]*(?:locations\b|filter\b|forall\b|(?:(?:[~!]|not\b)[ \t]*)?exists\b)/m;
 // A line of assembly: labels, an instruction, or both.
 const ASSEMBLY = /^(?:[.\w]+:\s*)+$|^(?:[.\w]+:\s*)*(?:(?:lock|rep)\s+)?(?:mov|x?add|sub|cmp|xchg|inc|dec|test|x?or|and|j[nmez]|[mls]fence|nop|pause)\w*(?:\s[^;|{}=]*)?$/i;
 // A load, with its register, which is first, or last in AT&T's order; and a register that is an operand.
