@@ -13,7 +13,8 @@ If a state that the question is against is present with all fences, no set of th
 called as good as all fences; there is no such line if the test has no fence. The command also prints all smallest sets of places at which
 further MFENCEs would forbid these states. With `--everything` the fences of an x86 test are never called enough, since no question is asked. With
 `--exchanges` it prints for each XCHG and LOCK XADD which states are added if it is not locked: for XCHG a plain store, or a load and a store if
-the old word is used; for LOCK XADD a load, a sum and a store; both by the question and by all registers and locations.
+the old word is used; for LOCK XADD a load, a sum and a store; both by the question and by all registers and locations. Then it prints all smallest
+sets of the test's fences and locks that add no state together, if the test has several; it tries no fence in place of a lock.
 
 A test in herd's form that lw does not read, as with LOCK CMPXCHG or loops, is converted and put together as by tools/assume.py. The answers name
 its own instructions, each with its line: a fence is left out in all tests and copies in which it occurs. Each run goes through a loop at most N
@@ -37,7 +38,7 @@ from typing import NamedTuple, TypedDict
 sys.dont_write_bytecode = True
 import given
 import plain
-from fencing.exchanges import format_instructions, list_exchanges, make_unlocked_instructions, replace_instruction
+from fencing.exchanges import format_instructions, leave_out, list_exchanges, list_removable, make_unlocked_instructions, replace_instruction
 from fencing.places import Place, insert_fences, list_fence_places, remove_fences
 from fencing.sets import find_smallest_sets
 from fencing.spare import is_spare
@@ -216,14 +217,34 @@ def format_without_lock(test: plain.Test, place: Place, question: str) -> list[s
     return [f"  {question}: {number} more as {format_instructions(instructions)}", *format_added_states(added, "    ")]
 
 
+def find_sets_together(test: plain.Test) -> list[list[Place]]:
+    """Returns all smallest sets of a test's fences and locks that add no state."""
+    removable, states = list_removable(test), list_states(test)
+    left_out = lambda chosen: {place: it for place, it in removable.items() if place not in chosen}
+    return find_smallest_sets(list(removable), lambda chosen: list_states(leave_out(test, left_out(chosen))) == states)
+
+
+def format_together(test: plain.Test, question: str) -> list[str]:
+    """Returns the line on the smallest sets of fences and locks that add no state; none unless the test has several that can be left out, a lock among
+    them. `question` says by what it is asked.
+    """
+    removable = list_removable(test)
+    if len(removable) < 2 or not any(removable.values()):
+        return []
+    format_item = lambda place: f"P{place[0]} at {place[1]}, {plain.format_instruction(test, test.threads[place[0]][place[1]])}"
+    sets = "; or ".join("; ".join(map(format_item, it)) or "none" for it in find_sets_together(test))
+    return [f"Fences and locks that add no state together, with none to spare, {question}: {sets}"]
+
+
 def format_exchanges(test: plain.Test, by_everything: bool) -> list[str]:
-    """Returns the lines on each exchange: by the question, unless everything is asked about, and by everything."""
+    """Returns the lines on each exchange, and on fences and locks together: by the question, unless everything is asked about, and by everything."""
     lines = []
     for thread, position in list_exchanges(test):
         lines.append(f"P{thread} at {position}, {plain.format_instruction(test, test.threads[thread][position])}, without its lock:")
         lines += [] if by_everything else format_without_lock(test, (thread, position), f"by its question, {plain.format_condition(test)}")
         lines += format_without_lock(show_everything(test), (thread, position), "by all registers and locations")
-    return lines
+    lines += [] if by_everything else format_together(test, f"by its question, {plain.format_condition(test)}")
+    return [*lines, *format_together(show_everything(test), "by all registers and locations")]
 
 
 def format_makers() -> list[str]:

@@ -15,6 +15,7 @@ const MAX_SHOWN = 4;
 // The search for further fences that nobody has asked for: how many lists it may make, and after how many milliseconds it begins no further one.
 const AT_ONCE = { lists: 16, milliseconds: 1000 };
 const REACHABLE = "What is asked about is reachable with all locks. Once fences forbid it, a lock that changes nothing here may be needed: ask again then.";
+const TOGETHER = "Two that change nothing alone may matter together.";
 const BY_CLICK = "In Watch and By hand “+ fence” puts a fence between two instructions, where the pointer is, and “✕ fence” takes it out.";
 
 /** The panel that shows which fences matter. */
@@ -25,12 +26,13 @@ export class Fences {
     this.place = el("div", {});
     this.more = el("div", { class: "more-fences" });
     this.locks = el("div", { class: "locks" });
+    this.together = el("div", { class: "together" });
     this.film = new Film(editor);
     this.everything = el("input", { type: "checkbox", id: "everything", change: () => this.ask() });
     const words = " Compare all registers and locations, not only those of the question";
     this.choice = el("p", { class: "row" }, el("label", {}, this.everything, words));
     this.hint = el("p", { class: "small by-click" }, BY_CLICK);
-    panel.append(this.place, this.more, this.locks, this.choice, this.hint, this.film.place);
+    panel.append(this.place, this.more, this.locks, this.together, this.choice, this.hint, this.film.place);
   }
 
   /** Removes what is shown. */
@@ -39,6 +41,7 @@ export class Fences {
     this.place.replaceChildren();
     this.more.replaceChildren();
     this.locks.replaceChildren();
+    this.together.replaceChildren();
     this.hint.hidden = true;
     this.film.clear();
   }
@@ -77,7 +80,9 @@ export class Fences {
     if (!hasExchange(this.editor.text)) return;
     const offer = makeButton("Which exchanges need their lock?", () => this.showExchanges(shown), { class: "main find-locks" });
     const answer = await this.askExchanges({ limit: AT_ONCE });
-    if (answer) this.locks.replaceChildren(...(answer.exchanges ? this.makePartsOfExchanges(answer.exchanges, shown) : [offer]));
+    if (!answer) return;
+    this.locks.replaceChildren(...(answer.exchanges ? this.makePartsOfExchanges(answer.exchanges, shown) : [offer]));
+    if (answer.exchanges) await this.offerTogether(answer.exchanges, shown);
   }
 
   /** Shows which exchanges need their lock. */
@@ -87,12 +92,48 @@ export class Fences {
     this.locks.replaceChildren();
     if (!answer.exchanges) return showError(answer, this.locks, this.editor);
     this.locks.append(...this.makePartsOfExchanges(answer.exchanges, shown));
+    await this.offerTogether(answer.exchanges, shown);
   }
 
-  /** Asks which exchanges need their lock, within a limit, if there is one. */
-  askExchanges(limit, options) {
+  /** Asks which exchanges need their lock, or another question on them, within a limit, if there is one. */
+  askExchanges(limit, options, question = "exchanges") {
     const fields = { text: this.editor.text, everything: this.everything.checked, search: this.isSearched, ...limit };
-    return ask(this.editor, "exchanges", fields, options);
+    return ask(this.editor, question, fields, options);
+  }
+
+  /** Shows which fences and locks are enough together, if there are several; a button offers to look for that if it takes many lists. */
+  async offerTogether(exchanges, { table }) {
+    const tried = exchanges.filter(({ words }) => words).length;
+    if (!tried || tried + table.rows.length < 2) return;
+    const noun = table.rows.length ? "fences and locks" : "locks";
+    const isAllTried = tried === exchanges.length;
+    const show = async () => {
+      const answer = await this.askExchanges({}, { place: this.together }, "enough together");
+      if (!answer) return;
+      this.together.replaceChildren();
+      if (!answer.together) return showError(answer, this.together, this.editor);
+      this.together.append(...this.makePartsOfTogether(answer.together, noun, isAllTried));
+    };
+    const answer = await this.askExchanges({ limit: AT_ONCE }, undefined, "enough together");
+    if (!answer) return;
+    const offer = makeButton(`Which ${noun} are enough together?`, show, { class: "main find-together" });
+    const offered = [el("p", {}, TOGETHER, " ", offer)];
+    this.together.replaceChildren(...(answer.together ? this.makePartsOfTogether(answer.together, noun, isAllTried) : offered));
+  }
+
+  /** Returns the words on the smallest sets of fences and locks, which `noun` calls; `isAllTried` says whether each exchange was tried without its lock. */
+  makePartsOfTogether({ places, states, sets, more }, noun, isAllTried) {
+    const names = listFenceNames({ rows: places.map((place) => ({ place: nameFence(place) })) });
+    const [{ kept, text }] = sets;
+    const tryIt = (set) => makeButton("Try it", () => this.take(set.text), { class: "take" });
+    const rows = sets.map((set) => el("li", {}, `${set.kept.map((it) => names[it]).join("; ")}. `, tryIt(set)));
+    const others = more ? [el("p", { class: "small" }, `And ${more} other sets of as many.`)] : [];
+    const isOf = `A set has only ${noun} that the test has: no other fence is tried in place of a lock.`;
+    const note = el("p", { class: "small" }, isOf, isAllTried ? "" : " An exchange for which no register is free keeps its lock.");
+    if (!kept.length) return [el("p", { class: "next-step" }, el("b", {}, `All ${noun} can be left out together:`), " no state is added. ", tryIt({ text })), note];
+    const isAll = kept.length === places.length;
+    if (isAll) return [el("p", { class: "next-step" }, el("b", {}, `All ${noun} are needed:`), " if any one of them is left out, states are added."), note];
+    return [el("p", { class: "next-step" }, el("b", {}, `The fewest ${noun} that are enough for ${formatSameStates(states)}:`)), el("ul", { class: "fence-sets" }, rows), ...others, note];
   }
 
   /** Returns the table of exchanges, each with the states that are new without its lock, and what follows from it. */
@@ -108,7 +149,7 @@ export class Fences {
       return el("tr", {}, el("th", { scope: "row" }, name), el("td", {}, effect), el("td", {}, makeStateLines(added ?? [], watch)));
     });
     return [
-      el("p", {}, "Which exchanges need their lock, ", by, "? Each is tried alone without it: two that change nothing alone may matter together."),
+      el("p", {}, "Which exchanges need their lock, ", by, "? Each is tried alone without it."),
       el("div", { class: "wide" }, el("table", {}, el("thead", {}, head), el("tbody", {}, rows))),
       table.positive === (condition.startsWith("forall") ? table.states : 0) ? "" : el("p", { class: "notice" }, REACHABLE),
       el("p", { class: "small" }, renderSentence("The page's own code writes the texts without a lock, as `tools/fences.py --exchanges` does "), makePlainMark(),
@@ -265,6 +306,11 @@ function describeTable({ table, language }, names) {
   }
   const needed = isOne ? "The fence is needed: without it" : "Every fence is needed: if any one of them is left out,";
   return [`${needed} ${program} ends in more states. With ${isOne ? "it" : "all"} ${formatHolding(table)}`];
+}
+
+/** Returns the place of an exchange as it is, and that of a fence with the name of its instruction. */
+function nameFence(place) {
+  return place.replace(/^(P\d at \d+)(?:$|, (?=before ))/, (_, at) => `${at}, MFENCE `).replace(/MFENCE $/, "MFENCE at the end");
 }
 
 /** Returns how many states are new, in words. */

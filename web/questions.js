@@ -8,7 +8,7 @@
 
 import { formatCanonicalText, listSourceCells, listX86Cells } from "./canonical.js";
 import { describeEvent, describeRefusal } from "./effects.js";
-import { makeExchangeTable } from "./exchanges.js";
+import { findEnoughTogether, makeExchangeTable } from "./exchanges.js";
 import { makeExecution } from "./executions.js";
 import { compileSchedule, completeSchedule, findInterleavedSchedule, listCells, makeFilm, makeSourceFilm } from "./films.js";
 import { findHelpingSets, insertFences, listFencePlaces } from "./fencing.js";
@@ -224,6 +224,12 @@ function answerExchanges(program, text, fields, onProgress) {
   return { exchanges: makeExchangeTable(fields.everything ? showEverything(test) : test, makeLister(program, fields, onProgress)) };
 }
 
+/** Returns which fences and locks of a test are enough together, by its question or by everything. Throws NoAnswer as answerMoreFences does. */
+function answerEnoughTogether(program, text, fields, onProgress) {
+  const test = readTest(program.ask(["compile"], text));
+  return { together: findEnoughTogether(fields.everything ? showEverything(test) : test, makeLister(program, fields, onProgress)) };
+}
+
 /**
  * Returns where further fences would leave no unwanted state of an x86 test; for a source test, whose compiler adds them, nothing. Throws NoAnswer if the
  * answer needs more lists or milliseconds than the `limit`.
@@ -304,6 +310,7 @@ const QUESTIONS = {
   fences: answerFences,
   "more fences": answerMoreFences,
   exchanges: answerExchanges,
+  "enough together": answerEnoughTogether,
   interleaved: answerInterleaved,
   picture: answerPicture,
   graph: answerGraph,

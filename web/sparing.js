@@ -48,7 +48,7 @@ export function showEverything(test) {
  * @param {Place} place
  * @returns {string}
  */
-function formatFencePlace(test, [thread, position]) {
+export function formatFencePlace(test, [thread, position]) {
   const next = test.threads[thread][position + 1];
   return `P${thread} at ${position}${next ? `, before ${formatInstruction(test, next)}` : ""}`;
 }

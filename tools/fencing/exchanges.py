@@ -62,3 +62,19 @@ def replace_instruction(test: Test, place: Place, instructions: list[Statement])
     threads = list(test.threads)
     threads[thread] = tuple(code[:position] + instructions + code[position + 1 :])
     return replace(test, threads=threads)
+
+
+def list_removable(test: Test) -> dict[Place, list[Statement]]:
+    """Returns the places of the fences and the locks that can be left out, in their order, each with the instructions that replace it: none for a fence.
+    An exchange for which no register is free is not among them.
+    """
+    fences = {(thread, index): [] for thread, code in enumerate(test.threads) for index, it in enumerate(code) if it.kind == "mfence"}
+    unlocked = {place: make_unlocked_instructions(test, place) for place in list_exchanges(test)}
+    return dict(sorted({**fences, **{place: it for place, it in unlocked.items() if it}}.items()))
+
+
+def leave_out(test: Test, removed: dict[Place, list[Statement]]) -> Test:
+    """Returns a test in which instructions replace some fences and exchanges: the last one first, so that the others stay in their places."""
+    for place, instructions in sorted(removed.items(), reverse=True):
+        test = replace_instruction(test, place, instructions)
+    return test

@@ -216,7 +216,7 @@ const FEW_ACCESSES = 14;
 function moreFencesOf(text) {
   const number = (String(text).match(/\[|:=/g) ?? []).length;
   const interleaved = /^\s*X86/.test(text) ? [["interleaved", {}]] : [];
-  const exchanges = [["exchanges", { everything: false }], ["exchanges", { everything: true }]];
+  const exchanges = ["exchanges", "enough together"].flatMap((it) => [[it, { everything: false }], [it, { everything: true }]]);
   return number <= FEW_ACCESSES ? [["more fences", {}], ...exchanges, ...interleaved] : [];
 }
 

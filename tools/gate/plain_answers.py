@@ -313,6 +313,23 @@ def answer_exchanges(text: bytes, everything: bool) -> Answer:
     return {"exchanges": rows}
 
 
+def answer_enough_together(text: bytes, everything: bool) -> Answer:
+    """Returns the smallest sets of a test's fences and locks that add no state, with the text of each."""
+    read = plain.read_test(ask(["compile"], text))
+    test = fences.show_everything(read) if everything else read
+    fences.lists.clear()
+    removable = exchanges.list_removable(test)
+    places = list(removable)
+    sets = fences.find_sets_together(test)
+    words = lambda place: f"P{place[0]} at {place[1]}, {plain.format_instruction(test, test.threads[place[0]][place[1]])}"
+    left_out = lambda kept: {place: it for place, it in removable.items() if place not in kept}
+    shown = [
+        {"kept": list(map(places.index, kept)), "text": plain.format_canonical_text(exchanges.leave_out(test, left_out(kept)))} for kept in sets[:6]
+    ]
+    named = [words(place) if removable[place] else fences.format_fence_place(test, place) for place in places]
+    return {"together": {"places": named, "states": len(fences.list_states(test)), "sets": shown, "more": len(sets) - len(shown)}}
+
+
 def answer_interleaved(text: bytes) -> Answer:
     """Returns the lines of the states of an x86 test that interleaving on one memory gives."""
     test = plain.read_test(ask(["compile"], text))
@@ -361,6 +378,7 @@ QUESTIONS: dict[str, Callable[..., Answer]] = {
     "fences": answer_fences,
     "more fences": answer_more_fences,
     "exchanges": answer_exchanges,
+    "enough together": answer_enough_together,
     "interleaved": answer_interleaved,
     "picture": answer_picture,
     "graph": answer_graph,

@@ -224,6 +224,19 @@ class Command(cases.Case):
         ]
         self.assertEqual(expected, printed[2:6])
 
+    def test_together(self) -> None:
+        """With `--exchanges`: all smallest sets of fences and locks that add no state together, by the question and by everything; none of one lock."""
+        rows = " MOV EAX,$1 | MOV [y],$1 ;\n XCHG [x],EAX | MFENCE ;\n MFENCE | MOV EBX,[x] ;\n MOV EBX,[y] | ;"
+        text = f"X86 Mixed\n{{}}\n P0 | P1 ;\n{rows}\n~exists (0:EBX=0 /\\ 1:EBX=0)\n"
+        begin = "Fences and locks that add no state together, with none to spare, by "
+        sets = "P0 at 1, XCHG [x],EAX; P1 at 1, MFENCE; or P0 at 2, MFENCE; P1 at 1, MFENCE"
+        question = "its question, ~exists (0:EBX=0 /\\ 1:EBX=0)"
+        expected = [f"{begin}{question}: {sets}", f"{begin}all registers and locations: {sets}"]
+        list_lines = lambda words, given_text="": [it for it in run(["fences.py", "--exchanges", *words], given_text)[0].splitlines() if it.startswith(begin)]
+        self.assertEqual(expected, list_lines([], text))
+        self.assertEqual([], list_lines(["examples/MP+xchg-x86.litmus"]))
+        self.assertEqual([f"{begin}all registers and locations: none"], list_lines(["--everything", "examples/IRIW+xchgs-x86.litmus"]))
+
     def test_both_questions(self) -> None:
         """A lock that a question does not need, and the algorithm does: no line says that it can go without saying by what, and what
         everything says is beside it."""

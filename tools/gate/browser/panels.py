@@ -389,6 +389,27 @@ class Fences(PageCase):
         self.assertSays("The fewest fences that forbid it:", "#fences .next-step")
         self.assertEqual([], user.all("#fences .locks *"))
 
+    def test_together(self) -> None:
+        """The fewest fences and locks that are enough together are shown, and tried on a click; or that all are needed, or none; of one lock nothing."""
+        user = self.user
+        rows = " MOV EAX,$1 | MOV [y],$1 ;\n XCHG [x],EAX | MFENCE ;\n MFENCE | MOV EBX,[x] ;\n MOV EBX,[y] | ;"
+        user.open_listed(f"#text={quote(f'X86 Mixed{chr(10)}{{}}{chr(10)} P0 | P1 ;{chr(10)}{rows}{chr(10)}~exists (0:EBX=0 /{chr(92)} 1:EBX=0){chr(10)}')}&view=fences")
+        self.assertSays("The fewest fences and locks that are enough for the same 3 states:", "#fences .together .next-step")
+        sets = ["P0, XCHG [x],EAX; P1, MFENCE before MOV EBX,[x]. Try it", "P0, MFENCE before MOV EBX,[y]; P1, MFENCE before MOV EBX,[x]. Try it"]
+        self.assertEqual(sets, user.texts("#fences .together li"))
+        user.click("#fences .together li:last-child .take")
+        self.assertSays("Forbidden.", "#outcome .verdict")
+        self.assertIn("MOV [x],EAX", user.value())
+        for example, words in (
+            ("SB%2Bxchgs-x86", "All locks are needed: if any one of them is left out, states are added."),
+            ("IRIW%2Bxchgs-x86", "All locks can be left out together: no state is added. Try it"),
+        ):
+            user.open_listed(f"#example={example}&view=fences")
+            self.assertSays(words, "#fences .together .next-step")
+        user.open_listed("#example=MP%2Bxchg-x86&view=fences")
+        self.assertSays("Which exchanges need their lock", "#fences .locks")
+        self.assertEqual([], user.all("#fences .together *"))
+
     def test_search(self) -> None:
         """If lw refuses a list, a search is offered, and then all lists come from lw."""
         user = self.user
