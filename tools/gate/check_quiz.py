@@ -258,11 +258,12 @@ def check_browser(page: str, folder: str) -> Iterator[Comparison]:
         for index, answer in enumerate(make_answers(quiz.parse_answers(parse_data(page)), WRONG), 1):
             for kind, bit in (("interleaving", 1), ("x86", 2)):
                 user.click(f"input[name={kind}{index}][value={'yes' if answer & bit else 'no'}]")
+        user.find("#student").send_keys("a<b")
         user.click("#done")
-        yield "a student is asked for", (True, "student"), ("Your name or number" in user.text("#fault"), user.focused().get_attribute("id"))
-        yield "no code before", [], user.all("#code")
+        yield "a name that no code has", (True, "student"), ("No code has this name" in user.text("#fault"), user.focused().get_attribute("id"))
+        yield "no result before", [], [it for it in user.all("#score, #code") if it.is_displayed()]
+        yield from check_without_name(user, folder)
         # What is stored, and the code of all answers.
-        user.find("#student").send_keys("Ana 17")
         user.driver.refresh()
         user.find("body[data-ready]")
         answers = user.run("return document.querySelectorAll('input:checked').length"), user.value("#student")
@@ -287,6 +288,22 @@ def check_browser(page: str, folder: str) -> Iterator[Comparison]:
         yield "the page reports no fault", [], [it for it in user.driver.get_log("browser") if it["level"] == "SEVERE"]
     finally:
         user.driver.quit()
+
+
+def check_without_name(user: users.User, folder: str) -> Iterator[Comparison]:
+    """Checks that without a name the result is shown, and why, and that the code of the same answers comes when the name does."""
+    user.find("#student").clear()
+    user.click("#done")
+    yield "the score without a name", f"{2 * TESTS - 4} of {2 * TESTS} right.", user.text("#score")
+    yield "the reasons without a name", 2 * TESTS, len(user.run("return [...document.querySelectorAll('fieldset .why')]"))
+    yield "a name is asked for", True, user.text("#nameless").startswith("The code for your teacher needs your name or number.")
+    yield "no code without a name", [], [it for it in user.all("#code") if it.is_displayed()]
+    yield "no answer can be changed", 0, user.run("return document.querySelectorAll('input[type=radio]:not([disabled])').length")
+    user.click("#make-code")
+    yield "the name is missing", ("Your name or number, please.", "student"), (user.text("#fault"), user.focused().get_attribute("id"))
+    user.find("#student").send_keys("Ana 17")
+    user.click("#make-code")
+    yield "the code once there is a name", ([HEADING, ["1", *ROW]], "", 0), run_and_split(user.text("#code"), f"{folder}/quiz.html")
 
 
 def check_links(page: str, folder: str) -> Iterator[Comparison]:
