@@ -60,7 +60,7 @@ path.pale { stroke-opacity: 0.4 }
 marker path[class] { stroke-dasharray: none }
 text.relation { font-weight: bold; paint-order: stroke; stroke: #fff; stroke-width: 4 }
 @media (prefers-color-scheme: dark) {
-path, path.marked { stroke: #ececec } path.po { stroke: #8d939c } text.relation { stroke: #16181c }
+path { stroke: #ececec } path.po { stroke: #8d939c } path.marked { stroke: #ececec } text.relation { stroke: #16181c }
 }
 """
 

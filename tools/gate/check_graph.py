@@ -261,6 +261,26 @@ def check_family(name: str, relations: list[str], verdict: str) -> Iterator[Comp
     yield f"{name}: its cycle", True, cycle in list_rotations(relations)
 
 
+def find_stroke(style: str, classes: set[str]) -> str:
+    """Returns the colour that a style sheet gives a path of some classes: by the last of the rules with the most classes."""
+    found = (-1, "")
+    for selectors, declarations in re.findall(r"([^{}]+)\{([^{}]*)\}", style):
+        colour = re.search(r"(?<![-\w])stroke: (#\w+)", declarations)
+        for element, *named in (it.strip().split(".") for it in selectors.split(",")):
+            if colour and element == "path" and {*named} <= classes and len(named) >= found[0]:
+                found = len(named), colour[1]
+    return found[1]
+
+
+def check_colours() -> Iterator[Comparison]:
+    """Checks that a marked arrow of each relation has the same colour, by light and by dark."""
+    light, _, dark = graph.STYLE.partition("@media (prefers-color-scheme: dark) {")
+    for scheme, style in (("light", light), ("dark", light + dark)):
+        marked = {find_stroke(style, {relation, "marked"}) for relation in graph.NAMES}
+        yield f"all marked arrows have the colour of the others, {scheme}", {find_stroke(style, {"rf"})}, marked
+        yield f"arrows of po that are not marked are paler, {scheme}", False, find_stroke(style, {"po"}) in marked
+
+
 def check_tool() -> Iterator[Comparison]:
     """Compares what the tool prints."""
     tool = [sys.executable, f"{HOME}/tools/graph.py"]
@@ -292,6 +312,7 @@ def check_tool() -> Iterator[Comparison]:
     yield "where SB's fences are missing", 2, text.count("would keep their order")
     picture = run("P0 P0 P1 P1 D0 D1", SB).stdout
     yield "SB's picture marks its cycle", 4, picture.count(' marked"')
+    yield from check_colours()
     for path, *arguments in graph.DOCUMENTS:
         with open(f"{HOME}/{path}", encoding="utf-8") as file:
             yield path, graph.draw_document_picture(*arguments), file.read()
