@@ -75,7 +75,7 @@ export class Run {
    * "telling"; `of` says of which text the run is, if it is not that in the editor; `search` says that the list was made by a search. `own` is a
    * schedule that the test has of its own, or null: that run is shown if it ends in the state, or if `state` is null, and otherwise the run that is
    * listed to the state, or to `otherwise`; with `isByTurns` it is one of an x86 test by interleaving, if there is one. `opening` returns what is said of the
-   * run at first, given the answer that has it, or null.
+   * run at first, given the answer that has it, as `words` or null, and what explains it or null.
    */
   async show(state, { step = 0, run = null, protocol = this.protocol, text = this.editor.text, of = [], play = false, ...how } = {}) {
     const { search = false, own = null, otherwise = null, opening = null, isByTurns = false } = how;

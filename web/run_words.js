@@ -1,6 +1,6 @@
 // Describes a step of a run: what its event has done, and at the end the state in which the run has ended.
 
-import { el } from "./dom.js";
+import { el, makeButton } from "./dom.js";
 import { caches, hasStepped } from "./preferences.js";
 import { renderTintedSentence } from "./tint.js";
 
@@ -56,11 +56,12 @@ export function describeStep(run) {
   return [step, ...done, ...describeEnd(run), run.isOpening ? describeOpening(run) : null].filter(Boolean);
 }
 
-/** Returns which run is shown first, or why it opens at a step in its middle; null if it opens at its start. */
+/** Returns which run is shown first, with a button that explains why no run ends as asked, or why it opens at a step in its middle; null if it opens at its start. */
 function describeOpening({ opening, step, frame }) {
   const count = frame.state.threads.reduce((sum, it) => sum + (it.buffer?.length ?? 0), 0);
-  const words = opening ?? (step ? `This step is shown first: ${count === 1 ? "a store waits" : `${count} stores wait`}.` : null);
-  return words && el("span", { class: "opening" }, ` ${words}`);
+  const words = opening?.words ?? (step ? `This step is shown first: ${count === 1 ? "a store waits" : `${count} stores wait`}.` : null);
+  const why = opening?.explain ? [" ", makeButton("Why not?", opening.explain, { class: "link" })] : [];
+  return words && el("span", { class: "opening" }, ` ${words}`, ...why);
 }
 
 /** Returns the number of the step; of a run by hand its length only if events follow, and nothing before the first event. */

@@ -279,12 +279,17 @@ export class States {
     return states.find((it) => it.index === this.words.telling) ?? findClosest(states, this.missing) ?? states[0];
   }
 
-  /** Returns what is said of the run that an answer has, which is shown first: that no run ends as the test asks, or that it is an interleaving; or null. */
+  /**
+   * Returns what is said of the run that an answer has, which is shown first: as `words` that no run ends as the test asks, or that it is an interleaving, or
+   * null; and as `explain` what shows why no run ends so, or null.
+   */
   describeOpening({ state: line, isOwn, isByTurns }) {
     const { report, missing } = this;
-    if (report?.positive !== 0 || report.asked === "Required") return isByTurns ? "This run is an interleaving: each store goes to memory at once." : null;
+    const byTurns = isByTurns ? "This run is an interleaving: each store goes to memory at once." : null;
+    if (report?.positive !== 0 || report.asked === "Required") return { words: byTurns, explain: null };
     const isClosest = missing !== null && countDifferences(line, missing) === countDifferences(findClosest(report.states, missing).line, missing);
-    return `No run ends so; ${isClosest ? "this one comes closest" : `this is the ${isOwn ? "test's own run" : "first of the list"}`}.`;
+    const shown = isClosest ? "comes closest" : isOwn ? "is the test's example" : "ends in the first state";
+    return { words: `No run ends as asked: this one ${shown}.`, explain: missing !== null && this.why ? () => this.why(missing) : null };
   }
 
   /** Returns the line of a state that the condition asks about, or null if no run ends in one or states are not marked. */

@@ -200,17 +200,22 @@ class Starts(PageCase):
         self.assertSoon(schedule_to("SB-x86"), user.schedule)
 
     def test_of_forbidden(self) -> None:
-        """If no run ends in what is asked about, a sentence says which run is shown first: one that comes closest, or the test's own; and no longer than that."""
+        """If no run ends in what is asked about, a sentence says which run is shown first: one that comes closest, or the test's own; and no longer than that.
+        A button in it explains why no run ends so."""
         user = self.user
-        for name, words in (("SB%2Bmfences-x86", "this one comes closest"), ("MP-x86", "this is the test's own run"), ("SB", "this one comes closest")):
+        examples = (("SB%2Bmfences-x86", "comes closest"), ("MP-x86", "is the test's example"), ("IRIW-x86", "is the test's example"), ("SB", "comes closest"))
+        for name, words in examples:
             user.open_listed(f"#example={name}")
-            self.assertStep(f"No run ends so; {words}.")
+            self.assertStep(f"No run ends as asked: this one {words}. Why not?")
             user.press(user.keys.ARROW_RIGHT)
-            self.assertSoon(False, lambda: "No run ends so" in user.step())
+            self.assertSoon(False, lambda: "No run ends as asked" in user.step())
         user.click("table.strip .watch")
-        self.assertSoon(False, lambda: "No run ends so" in user.step())
+        self.assertSoon(False, lambda: "No run ends as asked" in user.step())
         user.open_listed("#example=SB-x86")
-        self.assertFalse("No run ends so" in user.step())
+        self.assertFalse("No run ends as asked" in user.step())
+        user.open_listed("#example=IRIW-x86")
+        user.click("#watching .opening .link")
+        self.assertSays("x86-TSO forbids 2:EAX=1; 2:EBX=0; 3:EAX=1; 3:EBX=0;", "#why .why-answers")
 
     def test_closest(self) -> None:
         """A test of one's own that no run answers opens on the run to the state that differs least from the one that is asked about."""
@@ -218,7 +223,7 @@ class Starts(PageCase):
         user.open_listed()
         rows = " P0         | P1          ;\n MOV [x],$1 | MOV EAX,[y] ;\n MOV [y],$1 | MOV EBX,[x] ;\n            | MOV ECX,[y] ;\n"
         user.run_text(f"X86 Mine\n{{}}\n{rows}~exists (1:EAX=1 /\\ 1:EBX=0 /\\ 1:ECX=1)\n")
-        self.assertStep("No run ends so; this one comes closest.")
+        self.assertStep("No run ends as asked: this one comes closest.")
         self.assertSoon("1:EAX=0; 1:EBX=0; 1:ECX=1;", lambda: user.find("table.strip th.chosen .watch").get_attribute("data-line"))
 
     def test_skipped(self) -> None:
