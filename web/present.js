@@ -13,8 +13,9 @@ const MAX_TYPE = 44;
 // The largest ratio of the machine's type to the rest, if there is room: with at most two threads, and with more.
 const [MAX_SCALE, MAX_TIGHT_SCALE] = [1.5, 1.2];
 // The possible places of the graph: beside the machine, and beside all. Its possible sizes there: that in which its letters are as large as the rest, a
-// smaller one, and as it is drawn; and the largest if there is room.
+// smaller one, and as it is drawn; and the largest if there is room. A graph beside the machine may have the list below it, in place of the list above.
 const GRAPH_PLACES = ["machine", "all"];
+const LIST_BELOW = "list";
 const GRAPH_SIZES = [1.24, 1.12, 1];
 const MAX_GRAPH_SIZE = 1.6;
 // The elements that are no smaller than on the page itself, by the property of the style sheet that has their size there.
@@ -90,10 +91,30 @@ export class Present {
     this.placeGraph(dataset, least);
     document.documentElement.classList.toggle("close", !this.fits(least));
     if (!this.fits(least)) return this.foldCode();
+    const size = this.findSize(least, most);
+    if (isOne) this.enlarge(this.moveList(least, most, size));
+  }
+
+  /** Returns the largest size of type in which all fits, and the verdict has no more lines than in the least size. Leaves the page in that size. */
+  findSize(least, most) {
+    this.fits(least);
     const isShort = hasShortVerdict();
     const size = findLargest([least, most, 0.5], (it) => this.fits(it) && (!isShort || hasShortVerdict()));
     this.fits(size);
-    if (isOne) this.enlarge(size);
+    return size;
+  }
+
+  /** Moves the list below a graph that is beside the machine, if the type is larger then than a size. Returns the size of the type, and leaves the page in it. */
+  moveList(least, most, size) {
+    const { dataset } = document.documentElement;
+    const isBesideMachine = dataset.graph === "machine" && document.querySelector("#answers > #graph-place .graph")?.getClientRects().length;
+    if (!isBesideMachine) return size;
+    dataset.graph = LIST_BELOW;
+    const other = this.fits(least) ? this.findSize(least, most) : 0;
+    if (other > size) return other;
+    dataset.graph = "machine";
+    this.fits(size);
+    return size;
   }
 
   /** Puts the graph, as large as can be, where all fits in the least size of type, or if there is no such place, nowhere. */

@@ -421,6 +421,21 @@ class Projector(PageCase):
             self.assertTrue(user.run(LETTERS_OF_GRAPH) >= least, (name, size))
             user.press(user.keys.ESCAPE)
 
+    def test_list_below_graph(self) -> None:
+        """If the type is larger then, the list is below the graph, which is larger, and all is in sight; four threads leave it above."""
+        user = self.user
+        below = """
+        const [list, graph] = ["#outcome table.strip", "svg.graph"].map((css) => document.querySelector(css).getBoundingClientRect());
+        return list.top >= graph.bottom;
+        """
+        for name, size, is_below in (("SB-x86", (1280, 720), True), ("SB-x86", (1920, 1080), True), ("IRIW-x86", (1920, 1080), False)):
+            self.present(f"#example={name}", *size)
+            user.find("#answers > #graph-place svg.graph")
+            self.assertSoon(is_below, lambda: user.run(below))
+            self.assertEqual(is_below, user.run(LETTERS_OF_GRAPH) >= 1.2, (name, size))
+            self.assertTrue(user.run(IN_SIGHT, "#outcome .states-place, #outcome .verdict, svg.graph, #watching .machine"), (name, size))
+            user.press(user.keys.ESCAPE)
+
     def test_no_graph(self) -> None:
         """With a source run no graph is shown, since the sentence on whose it is has no room; with the compiled run its graph is."""
         user = self.user
