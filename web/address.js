@@ -127,3 +127,12 @@ export function makeLink() {
   write();
   return location.href;
 }
+
+/**
+ * Returns a link to the test alone, which asks for a prediction first: it has neither a state nor a run.
+ * @returns {string}
+ */
+export function makeQuestionLink() {
+  const { example, text } = read();
+  return `${location.href.split("#")[0]}#${new URLSearchParams({ ...(example ? { example } : { text }), predict: "1" })}`;
+}

@@ -39,6 +39,9 @@ const INSTEAD = `${FIRST} is shown in its place.`;
 // The pause in typing after which the states are listed, and the longest time of a question that the page asks by itself, in milliseconds.
 const TYPING = 600;
 const MAX_MILLISECONDS = 10000;
+const HERE_ONLY = ": it is of use on this machine only";
+const ASKS_FIRST = ": it asks for a prediction first";
+const QUESTION_TITLE = "Copy a link that opens this test with Predict first";
 const CHANGED = "Changed: Ctrl+Enter lists its states.";
 // How many letters of an unknown field of a link are named at most.
 const MAX_LETTERS = 40;
@@ -378,7 +381,10 @@ async function openFile({ target }) {
 /** Copies the link to what is shown. `status` says whether that succeeded. */
 async function copyLink(status) {
   if (!address.read().example && !address.read().text) address.put({ text: editor.text });
-  await copy(address.makeLink(), status, location.protocol === "file:" ? ": it is of use on this machine only" : "");
+  await copy(address.makeLink(), status, location.protocol === "file:" ? HERE_ONLY : "");
+  if (beside.isOpen || findById("predict").checked) return;
+  const copyQuestion = () => copy(address.makeQuestionLink(), status, location.protocol === "file:" ? HERE_ONLY : ASKS_FIRST);
+  status.append(" ", makeButton("Hide the answer in it", copyQuestion, { class: "link", id: "link-question", title: QUESTION_TITLE }));
 }
 
 // Listeners.

@@ -2,8 +2,10 @@
 from __future__ import annotations
 
 import time
+from urllib.parse import quote
 
 from gate.browser.page_case import PageCase
+from gate.browser.predicting import open_anew
 
 # Changes the text, and follows a link when the address of that change is about to be written.
 LINK_AFTER_CHANGE = """
@@ -14,6 +16,7 @@ const until = performance.now() + 260;
 while (performance.now() < until);
 location.hash = "#example=MP";
 """
+OWN = "X86 Mine\n{}\n P0 | P1 ;\n MOV [x],$1 | MOV EAX,[x] ;\nexists (1:EAX=1)\n"
 STATE = "state=0%3AEAX%3D0%3B+1%3AEAX%3D0%3B"
 # Links that the page did not make: what they name does not exist, or is the name of a property of every object.
 HOSTILE = (
@@ -174,10 +177,28 @@ class Links(PageCase):
         user.run("document.execCommand = () => true; Object.defineProperty(navigator, 'clipboard', { value: undefined })")
         user.click("#link")
         only = ": it is of use on this machine only." if user.address.startswith("file:") else "."
-        self.assertSoon(f"Copied{only}", lambda: user.text("#said"))
+        self.assertSoon(f"Copied{only} Hide the answer in it", lambda: user.text("#said"))
         user.run("document.execCommand = () => false")
         user.click("#link")
         self.assertSoon(user.run("return location.href"), lambda: user.value("#said input"))
+
+    def test_question(self) -> None:
+        """After a link another one can be copied that asks for a prediction first: of the test alone, without a state or a run; if a link asks, it is no other."""
+        user = self.user
+        for link, field in (("#example=MP-x86&view=why", "example=MP-x86"), (f"#text={quote(OWN)}&view=fences", "text=X86+Mine")):
+            user.open_listed(link)
+            user.run("document.execCommand = () => false; Object.defineProperty(navigator, 'clipboard', { value: undefined })")
+            user.click("#link")
+            user.click("#link-question")
+            self.assertSoon(True, lambda: "predict=1" in user.value("#said input"))
+            copied = user.value("#said input")
+            self.assertTrue(copied.partition("#")[2].startswith(field) and copied.endswith("&predict=1"), copied)
+            open_anew(user, f"#{copied.partition('#')[2]}")
+            user.find("#outcome .predict")
+            self.assertEqual([], user.all("#outcome table"))
+            user.click("#link")
+            self.assertSoon(True, lambda: bool(user.text("#said") or user.all("#said input")))
+            self.assertEqual([], user.all("#link-question"))
 
 
 class Hostile(PageCase):
