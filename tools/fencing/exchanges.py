@@ -68,9 +68,13 @@ def list_removable(test: Test) -> dict[Place, list[Statement]]:
     """Returns the places of the fences and the locks that can be left out, in their order, each with the instructions that replace it: none for a fence.
     An exchange for which no register is free is not among them.
     """
-    fences = {(thread, index): [] for thread, code in enumerate(test.threads) for index, it in enumerate(code) if it.kind == "mfence"}
-    unlocked = {place: make_unlocked_instructions(test, place) for place in list_exchanges(test)}
-    return dict(sorted({**fences, **{place: it for place, it in unlocked.items() if it}}.items()))
+    removable: dict[Place, list[Statement]] = {}
+    for place in ((thread, index) for thread, code in enumerate(test.threads) for index in range(len(code))):
+        kind = test.threads[place[0]][place[1]].kind
+        instructions = make_unlocked_instructions(test, place) if kind in ("xchg", "xadd") else []
+        if kind == "mfence" or instructions:
+            removable[place] = instructions
+    return removable
 
 
 def leave_out(test: Test, removed: dict[Place, list[Statement]]) -> Test:

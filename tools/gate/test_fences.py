@@ -32,7 +32,7 @@ import plain
 import random_tests
 from gate import cases
 from gate.examples import TOOLS, examples, read, run
-from fencing.exchanges import list_exchanges, make_unlocked_instructions, replace_instruction
+from fencing.exchanges import leave_out, list_exchanges, list_removable, make_unlocked_instructions, replace_instruction
 from fencing.places import find_positions_after_stores, insert_fences
 from fencing.sets import find_smallest_sets
 from fencing.spare import find_loads_after, is_spare
@@ -46,6 +46,8 @@ RANDOM_TESTS = 150
 FENCED_TESTS = 300
 MIN_SPARE = 30
 MAX_PLACES = 2
+# The most fences and locks of an example whose sets are all tried.
+MAX_TOGETHER = 4
 # Four threads, each of which takes a ticket, and adds to `n` if it is served first; the next one is served then.
 TICKETS = """X86 Tickets
 { 0:EAX=1; 1:EAX=1; 2:EAX=1; 3:EAX=1; }
@@ -165,6 +167,23 @@ class Exchanges(BySearch):
                     with self.subTest(test.name, place=place):
                         lines = answers.filter_state_lines(make_report_by_search(replace_instruction(test, place, instructions)))
                         self.assertEqual([], sorted(before - set(lines)))
+
+
+    def test_together(self) -> None:
+        """The sets of fences and locks that add no state are those of a search through all sets, and each set with more of them adds none either."""
+        for name, text in examples():
+            test = plain.compile_test(plain.read_test(text))
+            removable = list_removable(test)
+            if not (any(removable.values()) and 1 < len(removable) <= MAX_TOGETHER):
+                continue
+            states = answers.filter_state_lines(make_report_by_search(test))
+            enough: dict[frozenset[tuple[int, int]], bool] = {}
+            for chosen in (frozenset(it) for size in range(len(removable) + 1) for it in combinations(removable, size)):
+                left_out = {place: it for place, it in removable.items() if place not in chosen}
+                enough[chosen] = answers.filter_state_lines(make_report_by_search(leave_out(test, left_out))) == states
+            with self.subTest(name):
+                self.assertEqual(find_all_smallest(list(removable), enough.__getitem__), fences.find_sets_together(test))
+                self.assertEqual([], [(few, many) for few in enough for many in enough if enough[few] and few < many and not enough[many]])
 
 
 class Command(cases.Case):
