@@ -108,8 +108,8 @@ export function makeExchangeTable(test, listOf) {
 }
 
 /**
- * Returns the fences and the locks of a test that can be left out, each with its place in words and the instructions that replace it: none for a fence. An
- * exchange for which no register is free is not among them.
+ * Returns the fences and the locks of a test that can be left out, each with its place in words and the instructions that replace it: none for a fence.
+ * An exchange for which no register is free is not among them.
  */
 function listRemovable(test) {
   const listed = listPlaces(test, ["mfence", "xchg", "xadd"]).map((at) => {
@@ -127,20 +127,22 @@ function leaveOut(test, removed) {
 }
 
 /**
- * Returns the smallest sets of a test's fences and locks with which it has the states that it has with all of them. `places` has all that can be left out,
- * in words, and `states` the number of the states; each set has the indices of what it `kept`, and the `text` without the others; `more` counts the sets that
- * are not shown. `listOf` is that of makeExchangeTable. Throws NoAnswer if a list is refused, or too many are needed.
+ * Returns the smallest sets of a test's fences and locks with which it has the states that it has with all of them. `places` has all that can be
+ * left out, in words, and `states` the number of the states. Each set has the indices of what it `kept`, and the `text` without the others, which is that
+ * of `original`: this test with the sites that it shows itself. `more` counts the sets that are not shown. `listOf` is that of makeExchangeTable. Throws
+ * NoAnswer if a list is refused, or too many are needed.
  * @param {Test} test
+ * @param {Test} original
  * @param {function(string): ({lines: string[]} | null)} listOf
  * @returns {{places: string[], states: number, sets: {kept: number[], text: string}[], more: number}}
  */
-export function findEnoughTogether(test, listOf) {
+export function findEnoughTogether(test, original, listOf) {
   const removable = listRemovable(test);
   const lists = new Map();
-  const formatWith = (kept) => formatCanonicalText(leaveOut(test, removable.filter((it) => !kept.includes(it))));
+  const formatWith = (kept, of = test) => formatCanonicalText(leaveOut(of, removable.filter((it) => !kept.includes(it))));
   const listStates = (text) => {
     if (lists.has(text)) return lists.get(text);
-    if (lists.size >= MAX_LISTS) throw new NoAnswer("There are too many sets of fences and locks to try them all here: `tools/fences.py --exchanges` tries more.");
+    if (lists.size >= MAX_LISTS) throw new NoAnswer("There are too many sets of fences and locks to try here: `tools/fences.py --exchanges` tries more.");
     const list = listOf(text);
     if (!list) throw new NoAnswer("lw refuses the list of this test with fewer fences or locks: `tools/fences.py --exchanges` tries more.");
     lists.set(text, list.lines);
@@ -148,6 +150,6 @@ export function findEnoughTogether(test, listOf) {
   };
   const states = listStates(formatCanonicalText(test));
   const sets = findSmallestSets(removable, (kept) => listStates(formatWith(kept)).join() === states.join());
-  const shown = sets.slice(0, MAX_SETS).map((kept) => ({ kept: kept.map((it) => removable.indexOf(it)), text: formatWith(kept) }));
+  const shown = sets.slice(0, MAX_SETS).map((kept) => ({ kept: kept.map((it) => removable.indexOf(it)), text: formatWith(kept, original) }));
   return { places: removable.map((it) => it.place), states: states.length, sets: shown, more: sets.length - shown.length };
 }

@@ -102,38 +102,39 @@ export class Fences {
   }
 
   /** Shows which fences and locks are enough together, if there are several; a button offers to look for that if it takes many lists. */
-  async offerTogether(exchanges, { table }) {
+  async offerTogether(exchanges, { table, language }) {
     const tried = exchanges.filter(({ words }) => words).length;
     if (!tried || tried + table.rows.length < 2) return;
     const noun = table.rows.length ? "fences and locks" : "locks";
-    const isAllTried = tried === exchanges.length;
+    const makeParts = ({ together }) => this.makePartsOfTogether(together, { noun, isAllTried: tried === exchanges.length, isSource: language === "SRC" });
     const show = async () => {
       const answer = await this.askExchanges({}, { place: this.together }, "enough together");
       if (!answer) return;
-      this.together.replaceChildren();
-      if (!answer.together) return showError(answer, this.together, this.editor);
-      this.together.append(...this.makePartsOfTogether(answer.together, noun, isAllTried));
+      this.together.replaceChildren(...(answer.together ? makeParts(answer) : []));
+      if (!answer.together) showError(answer, this.together, this.editor);
     };
     const answer = await this.askExchanges({ limit: AT_ONCE }, undefined, "enough together");
     if (!answer) return;
     const offer = makeButton(`Which ${noun} are enough together?`, show, { class: "main find-together" });
-    const offered = [el("p", {}, TOGETHER, " ", offer)];
-    this.together.replaceChildren(...(answer.together ? this.makePartsOfTogether(answer.together, noun, isAllTried) : offered));
+    this.together.replaceChildren(...(answer.together ? makeParts(answer) : [el("p", {}, TOGETHER, " ", offer)]));
   }
 
-  /** Returns the words on the smallest sets of fences and locks, which `noun` calls; `isAllTried` says whether each exchange was tried without its lock. */
-  makePartsOfTogether({ places, states, sets, more }, noun, isAllTried) {
+  /**
+   * Returns the words on the smallest sets of fences and locks, which `noun` calls. `isAllTried` says whether each exchange was tried without its lock;
+   * the sets of a source test are those of its compiled program, and are not put into its text.
+   */
+  makePartsOfTogether({ places, states, sets, more }, { noun, isAllTried, isSource }) {
     const names = listFenceNames({ rows: places.map((place) => ({ place: nameFence(place) })) });
-    const [{ kept, text }] = sets;
-    const tryIt = (set) => makeButton("Try it", () => this.take(set.text), { class: "take" });
+    const makeHead = (words, ...rest) => el("p", { class: "next-step" }, el("b", {}, words), ...rest);
+    const tryIt = ({ text }) => (isSource ? "" : makeButton("Try it", () => this.take(text), { class: "take" }));
+    const isOf = `A set has only ${noun} that ${isSource ? "the compiled program" : "the test"} has: no other fence is tried in place of a lock.`;
+    const note = el("p", { class: "small" }, isOf, isAllTried ? "" : " An exchange for which no register is free keeps its lock.");
+    const number = sets[0].kept.length;
+    if (!number) return [makeHead(`All ${noun} can be left out together:`, " no state is added. ", tryIt(sets[0])), note];
+    if (number === places.length) return [makeHead(`All ${noun} are needed:`, " if any one of them is left out, states are added."), note];
     const rows = sets.map((set) => el("li", {}, `${set.kept.map((it) => names[it]).join("; ")}. `, tryIt(set)));
     const others = more ? [el("p", { class: "small" }, `And ${more} other sets of as many.`)] : [];
-    const isOf = `A set has only ${noun} that the test has: no other fence is tried in place of a lock.`;
-    const note = el("p", { class: "small" }, isOf, isAllTried ? "" : " An exchange for which no register is free keeps its lock.");
-    if (!kept.length) return [el("p", { class: "next-step" }, el("b", {}, `All ${noun} can be left out together:`), " no state is added. ", tryIt({ text })), note];
-    const isAll = kept.length === places.length;
-    if (isAll) return [el("p", { class: "next-step" }, el("b", {}, `All ${noun} are needed:`), " if any one of them is left out, states are added."), note];
-    return [el("p", { class: "next-step" }, el("b", {}, `The fewest ${noun} that are enough for ${formatSameStates(states)}:`)), el("ul", { class: "fence-sets" }, rows), ...others, note];
+    return [makeHead(`The fewest ${noun} that are enough for ${formatSameStates(states)}:`), el("ul", { class: "fence-sets" }, rows), ...others, note];
   }
 
   /** Returns the table of exchanges, each with the states that are new without its lock, and what follows from it. */

@@ -104,11 +104,14 @@ export class Present {
     return size;
   }
 
-  /** Moves the list below a graph that is beside the machine, if the type is larger then than a size. Returns the size of the type, and leaves the page in it. */
+  /**
+   * Moves the list below a graph that is beside the machine, if the type is larger then than a size. Returns the size of the type, and leaves the page
+   * in it.
+   */
   moveList(least, most, size) {
     const { dataset } = document.documentElement;
-    const isBesideMachine = dataset.graph === "machine" && document.querySelector("#answers > #graph-place .graph")?.getClientRects().length;
-    if (!isBesideMachine) return size;
+    const isShown = document.querySelector("#answers > #graph-place .graph")?.getClientRects().length > 0;
+    if (dataset.graph !== "machine" || !isShown) return size;
     dataset.graph = LIST_BELOW;
     const other = this.fits(least) ? this.findSize(least, most) : 0;
     if (other > size) return other;

@@ -227,7 +227,7 @@ function answerExchanges(program, text, fields, onProgress) {
 /** Returns which fences and locks of a test are enough together, by its question or by everything. Throws NoAnswer as answerMoreFences does. */
 function answerEnoughTogether(program, text, fields, onProgress) {
   const test = readTest(program.ask(["compile"], text));
-  return { together: findEnoughTogether(fields.everything ? showEverything(test) : test, makeLister(program, fields, onProgress)) };
+  return { together: findEnoughTogether(fields.everything ? showEverything(test) : test, test, makeLister(program, fields, onProgress)) };
 }
 
 /**

@@ -56,7 +56,10 @@ export function describeStep(run) {
   return [step, ...done, ...describeEnd(run), run.isOpening ? describeOpening(run) : null].filter(Boolean);
 }
 
-/** Returns which run is shown first, with a button that explains why no run ends as asked, or why it opens at a step in its middle; null if it opens at its start. */
+/**
+ * Returns which run is shown first, with a button that explains why no run ends as asked, or why it opens at a step in its middle; null if it opens at
+ * its start.
+ */
 function describeOpening({ opening, step, frame }) {
   const count = frame.state.threads.reduce((sum, it) => sum + (it.buffer?.length ?? 0), 0);
   const words = opening?.words ?? (step ? `This step is shown first: ${count === 1 ? "a store waits" : `${count} stores wait`}.` : null);

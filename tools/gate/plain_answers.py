@@ -324,7 +324,7 @@ def answer_enough_together(text: bytes, everything: bool) -> Answer:
     words = lambda place: f"P{place[0]} at {place[1]}, {plain.format_instruction(test, test.threads[place[0]][place[1]])}"
     left_out = lambda kept: {place: it for place, it in removable.items() if place not in kept}
     shown = [
-        {"kept": list(map(places.index, kept)), "text": plain.format_canonical_text(exchanges.leave_out(test, left_out(kept)))} for kept in sets[:6]
+        {"kept": list(map(places.index, kept)), "text": plain.format_canonical_text(exchanges.leave_out(read, left_out(kept)))} for kept in sets[:6]
     ]
     named = [words(place) if removable[place] else fences.format_fence_place(test, place) for place in places]
     return {"together": {"places": named, "states": len(fences.list_states(test)), "sets": shown, "more": len(sets) - len(shown)}}

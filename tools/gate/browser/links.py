@@ -183,7 +183,7 @@ class Links(PageCase):
         self.assertSoon(user.run("return location.href"), lambda: user.value("#said input"))
 
     def test_question(self) -> None:
-        """After a link another one can be copied that asks for a prediction first: of the test alone, without a state or a run; if a link asks, it is no other."""
+        """After a link another one can be copied that asks for a prediction first, with neither state nor run; after a link that asks there is no other."""
         user = self.user
         for link, field in (("#example=MP-x86&view=why", "example=MP-x86"), (f"#text={quote(OWN)}&view=fences", "text=X86+Mine")):
             user.open_listed(link)

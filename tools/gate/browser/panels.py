@@ -10,6 +10,11 @@ from gate.browser.texts import FIVE
 from gate.browser.user import User, read
 
 MISSED = "0:EAX=0; 1:EAX=0;"
+# A test with a fence and a lock of which one is enough.
+MIXED = (
+    "X86 Mixed\n{}\n P0 | P1 ;\n MOV EAX,$1 | MOV [y],$1 ;\n XCHG [x],EAX | MFENCE ;\n MFENCE | MOV EBX,[x] ;\n MOV EBX,[y] | ;\n"
+    "~exists (0:EBX=0 /\\ 1:EBX=0)\n"
+)
 # A test with six places for fences, of which three forbid what it asks about: 29 lists are made.
 OWN_LOADS = (
     "X86 3.SB+own\n{}\n P0 | P1 | P2 ;\n MOV [x],$1 | MOV [y],$1 | MOV [z],$1 ;\n MOV EAX,[x] | MOV EAX,[y] | MOV EAX,[z] ;\n"
@@ -392,8 +397,7 @@ class Fences(PageCase):
     def test_together(self) -> None:
         """The fewest fences and locks that are enough together are shown, and tried on a click; or that all are needed, or none; of one lock nothing."""
         user = self.user
-        rows = " MOV EAX,$1 | MOV [y],$1 ;\n XCHG [x],EAX | MFENCE ;\n MFENCE | MOV EBX,[x] ;\n MOV EBX,[y] | ;"
-        user.open_listed(f"#text={quote(f'X86 Mixed{chr(10)}{{}}{chr(10)} P0 | P1 ;{chr(10)}{rows}{chr(10)}~exists (0:EBX=0 /{chr(92)} 1:EBX=0){chr(10)}')}&view=fences")
+        user.open_listed(f"#text={quote(MIXED)}&view=fences")
         self.assertSays("The fewest fences and locks that are enough for the same 3 states:", "#fences .together .next-step")
         sets = ["P0, XCHG [x],EAX; P1, MFENCE before MOV EBX,[x]. Try it", "P0, MFENCE before MOV EBX,[y]; P1, MFENCE before MOV EBX,[x]. Try it"]
         self.assertEqual(sets, user.texts("#fences .together li"))
@@ -403,6 +407,7 @@ class Fences(PageCase):
         for example, words in (
             ("SB%2Bxchgs-x86", "All locks are needed: if any one of them is left out, states are added."),
             ("IRIW%2Bxchgs-x86", "All locks can be left out together: no state is added. Try it"),
+            ("SB%2Bxchgs", "All locks are needed: if any one of them is left out, states are added."),
         ):
             user.open_listed(f"#example={example}&view=fences")
             self.assertSays(words, "#fences .together .next-step")
