@@ -4,7 +4,8 @@
 // The records `Program` and `Part` are those of c_reader.js.
 
 import { alignCells } from "./aligned.js";
-import { readProgram, refusePart } from "./c_reader.js";
+import { startThreads } from "./c_main.js";
+import { checkThreads, readProgram, refusePart } from "./c_reader.js";
 import { RESULT, ThreadWriter } from "./c_thread.js";
 import { readTest } from "./tests.js";
 
@@ -26,18 +27,24 @@ function checkRaces(accesses) {
   refusePart({ code: name, index }, ": that threads do not race on it is not checked, so make it atomic or volatile");
 }
 
+/** Returns the first part of another one that is a name. */
+function locateName({ code, index }, name) {
+  return { code: name, index: index + Math.max(code.search(new RegExp(`\\b${name}\\b`)), 0) };
+}
+
 /**
  * Returns a question with its connectives and registers as lw writes them, and adds its locations to the names in `used`. Throws NoTest if it names a
  * variable that neither has a register nor is shared.
  */
-function translateQuestion({ words, question: { code, index } }, writers, used) {
+function translateQuestion({ words, question: { code, index, source } }, writers, used) {
   const begin = index + code.search(/\S|$/);
+  const findPart = (site, offset) => (source ? locateName(source, site) : { code: site, index: begin + offset });
   const translateSite = (site, number, variable, offset) => {
     if (WORD_OF_QUESTION.test(site)) return site;
     const writer = number ? writers[number] : writers.find((it) => it.own.some(({ name }) => name === variable));
     if (writer?.known.has(variable)) return writer.makeSite(variable);
     const why = !writer?.registers.includes(variable) ? OF_NOTHING : variable === RESULT ? OF_RESULT : OF_PATHS;
-    if (site !== variable || !words.has(site)) refusePart({ code: site, index: begin + offset }, `, of which the question asks: ${why}`);
+    if (site !== variable || !words.has(site)) refusePart(findPart(site, offset), `, of which the question asks: ${why}`);
     used.add(site);
     return site;
   };
@@ -62,8 +69,10 @@ function guessQuestion(writers, sites, used) {
   return `${list}exists (${asked.map((it) => `${it}=0`).join(" /\\ ") || "true"})`;
 }
 
-/** Returns the x86 test of a program, and whether its question is a guess, since the program has none. Throws NoTest if it is not rewritten. */
-function writeTest(program) {
+/** Returns the x86 test of a text, and whether its question is a guess, since the program has none. Throws NoTest if it is not rewritten. */
+function writeTest(text) {
+  const program = startThreads(readProgram(text));
+  checkThreads(program);
   const writers = program.threads.map((_, number) => new ThreadWriter(program, number).writeThread());
   const accesses = writers.flatMap((it) => it.accesses);
   checkRaces(accesses);
@@ -84,7 +93,7 @@ function writeTest(program) {
  */
 export function rewriteProgram(text) {
   try {
-    const test = writeTest(readProgram(text));
+    const test = writeTest(text);
     readTest(test.made);
     return test;
   } catch ({ message, index }) {

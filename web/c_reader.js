@@ -1,9 +1,13 @@
 // Reads a program in C or C++, or a test of herd in C: its shared variables, its threads, which are functions, and its question. Not proved.
 //
-// A `Program` has a `name`, the initial `words` of its shared variables by their names, its `threads`, and its `question`. It `isHerd`, or not.
-// A `Part` has its `code`, as the program has it, or "", and its `index` in the text. A question is one.
+// A `Program` has its `text`, a `name`, the initial `words` of its shared variables by their names, the declarations of those outside of functions in
+// `globals`, its `threads`, and its `question`. It `isHerd`, or not. If it has a `main`, this is a `Part`, and its threads are all other functions
+// until c_main.js has followed it.
+// A `Part` has its `code`, as the program has it, or "", and its `index` in the text. A question is one; if `main` asks it, it has also the `source`
+// in `main`, which is a part.
 // A `CThread` has a `name`, its `code`, which is a `Part`, the index of its `head`, and the declarations of the shared `variables` that it may use,
-// by their names. It `returnsWord`, or not.
+// by their names. It has its `whole` part, and the code of its `parameters`. It `returnsWord`, or not, and `isStarted` by `main`,
+// or not.
 // A `Declaration` has the `name` of a variable, and the code of its initial `value`, if it has one. It `isPointer`, or not; if it `isBool`, it holds
 // 0 and 1 only. The `order` is that of the operators on it: seq_cst if it is atomic, relaxed if it is volatile, and otherwise plain.
 
@@ -15,19 +19,24 @@ const HERD = /^\s*(?:C|X86|SRC)\s/;
 // The heading of a test of herd and its block: the groups are its name, and what is in the block.
 const HEADING = /^\s*(?:C|X86|SRC)\s+([^\s{]+)[^{(]*\{([^}]*)\}/;
 // A comment in C: the groups are the question in a line and that in a block. MARK of tools/c/source.py finds the same, also after a second `//`.
-const COMMENT = /\/\/(?:.*?lw:(?<=\/\/[ \t]*lw:)(.*)|.*)|\/\*(?:\s*lw:([^]*?)|[^]*?)\*\//g;
+// A string is matched first, since what looks like a comment is none in it.
+const COMMENT = /"(?:[^"\\\n]|\\.)*"|\/\/(?:.*?lw:(?<=\/\/[ \t]*lw:)(.*)|.*)|\/\*(?:\s*lw:([^]*?)|[^]*?)\*\//g;
+// What in a string might be taken for code.
+const MARK_IN_STRING = /[(){};,]/g;
 // What a program may have that does not matter here.
-const HEADERS = /^\s*#\s*include\b.*/gm;
-const NAMESPACE = /\busing namespace std;/;
+const HEADERS = /^[ \t]*#[ \t]*(?:include|pragma)\b.*/gm;
+const WITHOUT_EFFECT = /\busing\s[\w:\s]{0,80};|\balignas\s{0,9}\([\s\w:]{0,80}\)|\[\[[\w:, ]{0,80}\]\]|\bnoexcept\b/g;
 // An entry of a block of initial values: the groups are the name of a variable, and its value.
 const ENTRY = /^(?:\w[\w ]*[ *])?\[?([A-Za-z_]\w*)\]?(?:=(.+))?$/;
 // A function up to its code: the groups are its type, its name, and its parameters.
 const FUNCTION = /^((?:\w+[\s*]+)*?)(\w+)\s*\(([^(){};]*)\)\s*\{/;
 // The types of a result of 32 bits.
 const WORD_TYPE = /^(?:(?:static|extern|inline|const|(?:un)?signed|int|u?int32_t)\s+)*(?:(?:un)?signed|int|u?int32_t)\s+$/;
-const NO_PARAMETERS = /^\s*(?:void\s*)?$/;
+// The parameters of a thread: none, or a pointer to anything, whose name is the group.
+const PARAMETERS = /^\s*(?:void\s*(?:\*\s*(\w*)\s*)?)?$/;
+const PROTOTYPE = /^(?:\w+[\s*]+)+\w+\s*\([^(){};]*\)\s*;/;
 const MACRO = /^#\s*define\b.*/;
-const CLOSING = { "(": ")", "{": "}" };
+const CLOSING = { "(": ")", "{": "}", "[": "]" };
 // What is outside of functions, to its end.
 const STATEMENT = /^[^;]*;/;
 const QUESTION = /^(?:~|exists|forall|locations)/;
@@ -48,9 +57,8 @@ const OF_ENTRIES = ": initial values are entries as `x=1;`";
 const OF_GLOBALS = ": outside of threads are only declarations of 32-bit integers and `bool`, as `atomic_int x = 1;`";
 const OF_PARAMETERS = ": a parameter is a pointer to 32 bits, as `atomic_int *x`";
 const OF_VALUES = ": an initial value is one constant, as in `x = 1` or `x{1}`, and of a `bool` 0 or 1";
-const OF_THREADS = ": a thread is a function without parameters";
+const OF_THREADS = ": a thread is a function without parameters, or with an unused `void *`";
 const OF_END = ": after the threads is the question, as `exists (0:r0=0)`";
-const OF_MAIN = ": leave `main` out, and each thread is a function without parameters";
 
 /**
  * Throws NoTest for a part of a program, which is cut if it is long, with the rest of a sentence. The fault has the `index` of the part.
@@ -103,7 +111,7 @@ export function squeezeCode(code) {
   return short
     .replace(/\bstd::/g, "")
     .replace(/\bmemory_order::/g, "memory_order_")
-    .replace(/(\w+)(\.|->)(load|store|exchange|fetch_\w+)\(/g, (_, name, sign, method) => `atomic_${method}(${sign === "." ? "&" : ""}${name},`)
+    .replace(/\b(\w+)(\.|->)(load|store|exchange|fetch_\w+)\(/g, (_, name, sign, method) => `atomic_${method}(${sign === "." ? "&" : ""}${name},`)
     .replace(/\b(READ|WRITE)_ONCE\((\*?)/g, (_, macro, star) => `atomic_${macro === "READ" ? "load" : "store"}_relaxed(${star ? "" : "&"}`)
     .replace(/\bsmp_(load_acquire|store_release)\(/g, "atomic_$1(")
     .replace(/\bxchg\(/g, "atomic_exchange(");
@@ -145,6 +153,7 @@ class ProgramReader {
     this.words = new Map();
     this.globals = new Map();
     this.threads = [];
+    this.main = null;
   }
 
   /** Returns the index of the rest in the text. */
@@ -166,17 +175,18 @@ class ProgramReader {
   readProgram() {
     const asked = this.takeComments();
     if (this.isHerd) this.readHeading();
-    this.rest = this.rest.replace(HEADERS, blank).replace(NAMESPACE, blank).trimStart();
+    this.rest = this.rest.replace(HEADERS, blank).replace(WITHOUT_EFFECT, blank).trimStart();
     while (this.rest && !QUESTION.test(this.rest)) this.readDefinition();
-    this.checkThreads();
     const question = this.rest ? this.cutPart(this.rest.length) : asked;
-    return { name: this.name, isHerd: this.isHerd, words: this.words, threads: this.threads, question };
+    const { text, name, isHerd, words, globals, threads, main } = this;
+    return { text, name, isHerd, words, globals, threads, main, question };
   }
 
   /** Takes the comments out of the text. Returns the question in them. Throws NoTest if a program asks twice. */
   takeComments() {
     const questions = [];
     this.rest = (this.isHerd ? blankComments(this.text) : this.text).replace(COMMENT, (comment, line, block, index) => {
+      if (comment.startsWith('"')) return comment.replace(MARK_IN_STRING, " ");
       const code = line ?? block;
       if (code !== undefined) questions.push({ code, index: index + comment.lastIndexOf(code) });
       if (questions.length > 1 && !this.isHerd) refusePart({ code: comment, index }, ": a second comment says what is asked");
@@ -203,64 +213,76 @@ class ProgramReader {
       this.readFunction(found);
       return;
     }
+    const [prototype] = (!this.isHerd && PROTOTYPE.exec(this.rest)) || [];
+    if (prototype) {
+      this.skipPart(prototype.length);
+      return;
+    }
     const [macro] = MACRO.exec(this.rest) ?? [];
     if (macro) refusePart(this.cutPart(macro.length), ": write its text where it is used");
     const [whole] = STATEMENT.exec(this.rest) ?? [this.rest];
     const part = this.cutPart(whole.length);
     if (this.isHerd) refusePart(part, OF_END);
     if (!whole.endsWith(";")) refusePart(part, OF_GLOBALS);
-    this.declareVariables(this.globals, whole.slice(0, -1), part, OF_GLOBALS);
+    declareVariables(this, this.globals, whole.slice(0, -1), part, OF_GLOBALS);
     this.skipPart(whole.length);
   }
 
   /**
-   * Reads a function, which is a thread. In herd's form its parameters are its variables, and otherwise it has none.
+   * Reads a function, which is a thread or `main`. In herd's form its parameters are its variables.
    * @param {string[]} found the match of FUNCTION
    */
   readFunction([{ length }, type, name, parameters]) {
     const end = findClosing(this.rest, length - 1);
     if (end < 0) refusePart(this.cutPart(length), ": its `}` is missing");
     const whole = this.cutPart(end + 1);
-    if (name === "main") refusePart(whole, OF_MAIN);
-    if (!this.isHerd && !NO_PARAMETERS.test(parameters)) refusePart(whole, OF_THREADS);
     const variables = this.isHerd ? new Map() : this.globals;
     const begin = this.index + this.rest.indexOf("(") + 1;
     for (const parameter of this.isHerd ? splitCode({ code: parameters, index: begin }, ",") : []) {
-      this.declareVariables(variables, parameter.code, parameter.code.trim() ? parameter : whole, OF_PARAMETERS);
+      declareVariables(this, variables, parameter.code, parameter.code.trim() ? parameter : whole, OF_PARAMETERS);
     }
     const code = { code: this.rest.slice(length, end), index: this.index + length };
     const returnsWord = !this.isHerd && WORD_TYPE.test(type);
-    this.threads.push({ name, head: this.index + this.rest.indexOf(name, type.length), code, variables, returnsWord });
+    const head = this.index + this.rest.indexOf(name, type.length);
+    if (name === "main" && !this.isHerd) this.main = code;
+    else this.threads.push({ name, head, whole, parameters, code, variables, returnsWord, isStarted: false });
     this.skipPart(end + 1);
   }
+}
 
-  /**
-   * Adds what code declares to the variables of threads, and the initial words of these. Throws NoTest for the part that is `shown`, with a reason,
-   * if it is no declaration of shared variables, which are pointers in herd's form only.
-   * @param {Map<string, Declaration>} variables
-   * @param {string} code
-   * @param {Part} shown
-   * @param {string} why
-   */
-  declareVariables(variables, code, shown, why) {
-    const declared = parseDeclaration(squeezeCode(code));
-    if (!declared.length || declared[0].isPointer !== this.isHerd) refusePart(shown, why);
-    for (const variable of declared) {
-      const { name, value, isBool } = variable;
-      const word = value ? parseConstant(value) : this.words.get(name) ?? 0;
-      if (word === null || (isBool && word > 1)) refusePart(shown, OF_VALUES);
-      this.words.set(name, word);
-      variables.set(name, variable);
-    }
+/**
+ * Adds what code declares to some variables, and the initial words of these to a program's. Throws NoTest for the part that is `shown`, with a reason,
+ * if it is no declaration of shared variables, which are pointers in herd's form only.
+ * @param {{words: Map<string, number>, isHerd: boolean}} program
+ * @param {Map<string, Declaration>} variables
+ * @param {string} code
+ * @param {Part} shown
+ * @param {string} why
+ */
+export function declareVariables({ words, isHerd }, variables, code, shown, why) {
+  const declared = parseDeclaration(squeezeCode(code));
+  if (!declared.length || declared[0].isPointer !== isHerd) refusePart(shown, why);
+  for (const variable of declared) {
+    const { name, value, isBool } = variable;
+    const word = value ? parseConstant(value) : words.get(name) ?? 0;
+    if (word === null || (isBool && word > 1)) refusePart(shown, OF_VALUES);
+    words.set(name, word);
+    variables.set(name, variable);
   }
+}
 
-  /** Throws NoTest if there is no thread, or if some are functions `P0`, `P1` and so on, and one is not in its place. */
-  checkThreads() {
-    if (!this.threads.length) refusePart({ code: this.text, index: 0 }, ": threads are functions `P0`, `P1` and so on");
-    const isNumbered = this.threads.some((it) => /^P\d+$/.test(it.name));
-    const other = this.threads.find((it, number) => isNumbered && it.name !== `P${number}`);
-    if (other) refusePart({ code: other.name, index: other.head }, ": all functions are threads, `P0`, `P1` and so on, in this order");
-  }
+/**
+ * Throws NoTest if a program has no thread, or one with parameters that it may use; or if some threads are functions `P0`, `P1` and so on, and one is
+ * not in its place.
+ * @param {Program} program
+ */
+export function checkThreads({ text, isHerd, threads }) {
+  if (!threads.length) refusePart({ code: text, index: 0 }, ": threads are functions `P0`, `P1` and so on");
+  const withParameters = threads.find((it) => !isHerd && !PARAMETERS.test(it.parameters));
+  if (withParameters) refusePart(withParameters.whole, OF_THREADS);
+  const isNumbered = threads.some((it) => /^P\d+$/.test(it.name));
+  const other = threads.find((it, number) => isNumbered && it.name !== `P${number}`);
+  if (other) refusePart({ code: other.name, index: other.head }, ": all functions are threads, `P0`, `P1` and so on, in this order");
 }
 
 /**

@@ -6,6 +6,8 @@
 
 import { findClosing, parseConstant, refusePart } from "./c_reader.js";
 
+// The number of statements that a statement may be in.
+const DEEPEST = 64;
 const IF = /^if\s*\(/;
 const ELSE = /^else\b/;
 // How statements begin that are refused.
@@ -57,11 +59,14 @@ export function explainCondition(code) {
   return REASONS.find(([pattern]) => pattern !== COMPARISON && pattern.test(code.replace(/[=!]=.*/, "")))?.[1] ?? OF_CONDITIONS;
 }
 
-/** Reads the statements of a code, from its begin to its end. `at` is how far it is read. */
-class StatementReader {
-  /** @param {Part} code */
-  constructor({ code, index }) {
-    Object.assign(this, { code, index, at: 0 });
+/** Reads the statements of a code, from its begin to its end. `at` is how far it is read, and `depth` the number of statements that it is in. */
+export class StatementReader {
+  /**
+   * @param {Part} code
+   * @param {number} [depth]
+   */
+  constructor({ code, index }, depth = 0) {
+    Object.assign(this, { code, index, depth, at: 0 });
     this.skipBlanks();
   }
 
@@ -93,20 +98,26 @@ class StatementReader {
   /** Returns the next statement. Throws NoTest if it is none that is rewritten, or has no end. */
   readStatement() {
     const { rest } = this;
+    if (this.depth > DEEPEST) refusePart(this.takePart(rest.length), ": it is in too many other statements");
     if (rest.startsWith("{")) return this.readBlock();
     if (IF.test(rest)) return this.readBranch();
-    if (LOOP.test(rest)) this.refuseLoop();
-    const length = rest.indexOf(";");
+    if (LOOP.test(rest)) return this.readLoop();
+    const length = this.findEnd();
     if (length < 0) refusePart(this.takePart(rest.length), ": its `;` is missing");
     const statement = this.takePart(length);
     this.takePart(1);
     return statement;
   }
 
+  /** Returns the index of the `;` that ends the statement here; -1 if there is none. */
+  findEnd() {
+    return this.rest.indexOf(";");
+  }
+
   /** Returns a block, whose braces are not in its statements. */
   readBlock() {
     const { code, index } = this.takePart(findClosing(this.rest, 0) + 1);
-    return { code, index, block: readStatements({ code: code.slice(1, -1), index: index + 1 }) };
+    return { code, index, block: new this.constructor({ code: code.slice(1, -1), index: index + 1 }, this.depth + 1).readAll() };
   }
 
   /** Returns an `if`, with its `else`. Its code is up to its condition. */
@@ -124,12 +135,14 @@ class StatementReader {
   /** Returns the statements of a branch of an `if` that begins with a part. Throws NoTest for this part if there is none. */
   readBranchBody(head) {
     if (!this.rest) refusePart(head, ": a branch has a statement");
+    this.depth += 1;
     const statement = this.readStatement();
+    this.depth -= 1;
     return statement.block ?? [statement].filter((it) => it.code.trim());
   }
 
   /** Throws NoTest for the loop, the `switch` or the `else` that begins here. */
-  refuseLoop() {
+  readLoop() {
     const { rest } = this;
     const head = HEAD.exec(rest)?.[0].length;
     const length = head ? findClosing(rest, head) + 1 : rest.search(/[;{]|$/);

@@ -11,6 +11,10 @@ import { REGISTERS } from "./token_reader.js";
 const FENCE = /^(?:atomic_thread_fence\(memory_order_seq_cst|(?:smp_mb|__sync_synchronize)\()\)$/;
 const NO_FENCE = /^(?:atomic_thread_fence\(memory_order_(?:relaxed|consume|acquire|release|acq_rel)|smp_[rw]mb\()\)$/;
 const RETURN = /^return\b ?(.*)$/;
+// What a thread returns that has no result.
+const NOTHING = /^(?:NULL|nullptr|0|\(void\*\)0)$/;
+// A statement without an effect, in squeezed code: the group is the name of a parameter.
+const NO_USE = /^\(void\)(\w+)$/;
 // An assignment: the groups are its place, the sign of `+=` or `-=`, and its value.
 const ASSIGNMENT = /^(\*?\w+)([+-]?)=([^=].*)$/;
 // Why a statement is refused.
@@ -44,9 +48,9 @@ export class ThreadWriter extends ValueWriter {
    * @param {number} number
    */
   constructor({ words, threads, isHerd }, number) {
-    const { name, head, code, variables, returnsWord } = threads[number];
+    const { name, head, code, parameters, variables, returnsWord, isStarted } = threads[number];
     super(number, variables);
-    Object.assign(this, { name, head, code, words, returnsWord, isHerd });
+    Object.assign(this, { name, head, code, parameters, words, returnsWord, isStarted, isHerd });
     // The shared variables that only this thread uses, and that are neither atomic nor volatile. They have registers.
     const isUsed = (variable, thread) => new RegExp(`\\b${variable}\\b`).test(thread.code.code);
     const isOwn = (variable) => isUsed(variable, threads[number]) && threads.filter((it) => isUsed(variable, it)).length === 1;
@@ -147,7 +151,13 @@ export class ThreadWriter extends ValueWriter {
     const [, result] = RETURN.exec(statement) ?? [];
     if (FENCE.test(statement)) this.writeInstruction("MFENCE");
     else if (result !== undefined) this.writeReturn(result, isLast);
-    else if (!declared.length && !NO_FENCE.test(statement)) this.writeAssignment(statement);
+    else if (!declared.length && !NO_FENCE.test(statement) && !this.isUseOfParameter(statement)) this.writeAssignment(statement);
+  }
+
+  /** Returns whether a statement only says that a parameter is not used. */
+  isUseOfParameter(statement) {
+    const [, name] = NO_USE.exec(statement) ?? [];
+    return name !== undefined && !this.isHerd && this.parameters.endsWith(name) && !this.variables.has(name);
   }
 
   /** Declares a variable that has a register, and assigns the code of its initial value, unless that is empty. */
@@ -157,8 +167,9 @@ export class ThreadWriter extends ValueWriter {
     if (value) this.assignLocal(name, value);
   }
 
-  /** Writes a `return`, with the code of its value or "". */
-  writeReturn(value, isLast) {
+  /** Writes a `return`, with the code of its value or "". What `main` is not asked for is not set. */
+  writeReturn(result, isLast) {
+    const value = !this.isHerd && NOTHING.test(result) && (this.isStarted || !this.returnsWord) ? "" : result;
     if (value && !this.returnsWord) this.refuseStatement(this.isHerd ? OF_RETURN_IN_HERD : OF_RETURN);
     if (value) this.assignLocal(RESULT, value);
     this.exits.push(this.known);

@@ -141,6 +141,78 @@ const GLOBALS = "#include <stdatomic.h>\natomic_int x, y;\nvolatile int v;\nint 
 const OTHER = "void P1(void) { int r9 = q; }\n";
 const POINTERS = "atomic_int* x, atomic_int *y, volatile int* v, int* q";
 
+// Programs with a `main`: what comes before `main`, what is in it, the instructions of all threads, and the question.
+const ATOMICS = "std::atomic<int> x{0}, y{0};\nint r1, r2;\n";
+const STORE_THEN_LOAD = ["MOV [x],$1; MOV EAX,[y]", "MOV [y],$1; MOV EAX,[x]"];
+const FIRST_LAMBDA = "[&] { x.store(1, std::memory_order_relaxed); r1 = y.load(std::memory_order_relaxed); }";
+const SECOND_LAMBDA = "[&]() mutable -> void { y.store(1, std::memory_order_relaxed); r2 = x.load(std::memory_order_relaxed); }";
+const TWO_THREADS = `std::thread t1(${FIRST_LAMBDA}); std::thread t2(${SECOND_LAMBDA});`;
+const JOINS = "t1.join(); t2.join();";
+const FUNCTIONS = `void *writer(void *);
+void *writer(void *arg) { (void)arg; x.store(1, std::memory_order_relaxed); r1 = y.load(std::memory_order_relaxed); return NULL; }
+static int reader(void* unused) { y.store(1, std::memory_order_relaxed); r2 = x.load(std::memory_order_relaxed); return 0; }
+void left_out(int i) { x = i; }
+`;
+const BOTH_0 = "exists (0:EAX=0 /\\ 1:EAX=0)";
+const NEVER = `~${BOTH_0}`;
+const MAINS = [
+  [ATOMICS, `${TWO_THREADS} ${JOINS} printf("r1=%d; x++ // (%d)\\n", r1, r2); return 0;`, STORE_THEN_LOAD, BOTH_0],
+  ["", `std::atomic<int> x{0}, y{0}; int r1 = 0, r2 = 0; ${TWO_THREADS} ${JOINS} assert(!(r1 == 0 && r2 == 0));`, STORE_THEN_LOAD, NEVER],
+  [ATOMICS, `${TWO_THREADS} ${JOINS} if (r1 == 0 && !r2) { puts("both"); } else puts("no");`, STORE_THEN_LOAD, BOTH_0],
+  [ATOMICS, `${TWO_THREADS} ${JOINS} assert(r1 || 0 != r2);`, STORE_THEN_LOAD, NEVER],
+  [ATOMICS, `${TWO_THREADS} ${JOINS} assert(r1 == 1 || r2 == 1);`, STORE_THEN_LOAD, "forall (0:EAX=1 \\/ 1:EAX=1)"],
+  [ATOMICS, `${TWO_THREADS} ${JOINS} assert(x.load() == 1); assert((r1 == 1 || r2 == 1) && y == 1);`, STORE_THEN_LOAD,
+    "forall (x=1 /\\ (0:EAX=1 \\/ 1:EAX=1) /\\ y=1)"],
+  [ATOMICS, `${TWO_THREADS} ${JOINS} assert(r1 != 2); assert(!(r2 == 2 || r2 == 3));`, STORE_THEN_LOAD, "~exists (0:EAX=2 \\/ 1:EAX=2 \\/ 1:EAX=3)"],
+  [ATOMICS, `${TWO_THREADS} ${JOINS} assert(!(r1 == 0 && r2 != 0));`, STORE_THEN_LOAD, "forall (~0:EAX=0 \\/ 1:EAX=0)"],
+  [ATOMICS, `{ std::jthread a(${FIRST_LAMBDA}), b{${SECOND_LAMBDA}}; } assert(r1 == 1 || r2 == 1);`, STORE_THEN_LOAD, "forall (0:EAX=1 \\/ 1:EAX=1)"],
+  [ATOMICS, `std::jthread a(${FIRST_LAMBDA}); auto f = ${SECOND_LAMBDA}; std::jthread b(f);`, STORE_THEN_LOAD, BOTH_0],
+  [ATOMICS, `std::thread a, b; b = std::thread(${SECOND_LAMBDA}); a = std::thread(${FIRST_LAMBDA}); a.join(); b.join();`, [...STORE_THEN_LOAD].reverse(), BOTH_0],
+  [ATOMICS, `std::vector<std::thread> ts; ts.emplace_back(${FIRST_LAMBDA}); ts.push_back(std::thread(${SECOND_LAMBDA})); for (auto& t : ts) { t.join(); }`,
+    STORE_THEN_LOAD, BOTH_0],
+  [ATOMICS + FUNCTIONS, `pthread_t a, b; pthread_create(&a, NULL, reader, NULL); pthread_create(&b, NULL, writer, (void *)1); pthread_join(a, NULL);
+  pthread_join(b, NULL);`, [...STORE_THEN_LOAD].reverse(), BOTH_0],
+  [ATOMICS + FUNCTIONS, `x = 0; y.store(3); thrd_t t[2]; thrd_create(&t[0], writer, NULL); thrd_create(&t[1], &reader, 0);
+  for (int i = 0; i < 2; ++i) thrd_join(t[i], NULL); if (y == 3) puts("");`, STORE_THEN_LOAD, "exists (y=3)"],
+  ["atomic_int x;\nvoid f() { x++; }\n", `std::thread a(f), b(f); a.join(); b.join(); assert(x == 2);`, Array(2).fill("MOV EAX,$1; LOCK XADD [x],EAX"), "forall (x=2)"],
+  [`${ATOMICS}// lw: exists (r1=7)\n`, `${TWO_THREADS} ${JOINS} assert(r1 == 0);`, STORE_THEN_LOAD, "exists (0:EAX=7)"],
+];
+// What is refused in a `main`: a part of the program, what is in its place, and why.
+const MAIN = `${ATOMICS}int main() {
+  ${TWO_THREADS}
+  ${JOINS}
+  assert(r1 == 1 || r2 == 1);
+}
+`;
+const OF_RUNNING = ": while threads run, `main` only starts others and joins them, so give this to a thread of its own";
+const OF_BEFORE = ": before its threads, `main` only declares variables, and sets them to constants, as `x = 0;`";
+const OF_RUNS = ": one run is enough, since the page lists all final states";
+const OF_FORMULAS = ": what `main` asks compares variables with constants by `==` or `!=`, joined by `&&` and `||`";
+const REFUSED_MAINS = [
+  ["  std::thread t1", "  for (int i = 0; i < 9; i++) {} std::thread t1", `\`for (int i = 0; i < 9; i++)\`${OF_RUNS}`],
+  ["  std::thread t1", "  for (;;) {} std::thread t1", `\`for (;;)\`${OF_RUNS}`],
+  ["  std::thread t1", "  int i = y; std::thread t1", "`int i = y`: an initial value is one constant, as in `x = 1` or `x{1}`, and of a `bool` 0 or 1"],
+  ["  std::thread t1", "  x++; std::thread t1", `\`x++\`${OF_BEFORE}`],
+  ["  std::thread t1", "  int r1; std::thread t1", "`int r1`: give it a name that no other variable has"],
+  ["  t1.join();", "  x = 2; t1.join();", `\`x = 2\`${OF_RUNNING}`],
+  ["  t1.join();", "  printf(\"%d\", x++); t1.join();", `\`printf("%d", x++)\`${OF_RUNNING}`],
+  ["  t1.join();", "  t1.join(); std::thread t3([] { x = 2; });", "`std::thread t3([] { x = 2; })`: `main` starts all threads before it joins one"],
+  ["  t1.join();", "  t1.join(); t1.join();", "`t1.join()`: no thread that runs has this name"],
+  ["  t1.join();", "", "`assert(r1 == 1 || r2 == 1)`: `main` joins all threads before"],
+  ["t2.join();\n  assert(r1 == 1 || r2 == 1);", "", "`}`: `main` joins each thread, and not `t2`"],
+  ["[&] {", "[=] {", "`[=] { x.store(1, std::memory_order_relax..`: a lambda has its variables by reference, as `[&]`"],
+  ["std::thread t2(", "std::thread t2(f, ", "`std::thread t2(f, [&]() mutable -> void ..`: a thread begins with a function or a lambda without parameters"],
+  ["[&] {", "[&](int i) {", "`std::thread t1([&](int i) { x.store(1, s..`: a thread begins with a function or a lambda without parameters"],
+  ["  assert", "  x = 3; assert", "`x = 3`: after the joins, `main` only prints, or asks by an `assert` or an `if`"],
+  ["  assert", "  if (r1 == 3) x = 3; assert", "`x = 3`: after the joins, `main` only prints, or asks by an `assert` or an `if`"],
+  ["  assert", "  if (r1 == 3) puts(\"\"); assert", "`assert(r1 == 1 || r2 == 1)`: `main` asks only once"],
+  ["r1 == 1 ||", "r1 > 1 ||", `\`assert(r1 > 1 || r2 == 1)\`${OF_FORMULAS}`],
+  ["r1 == 1 ||", "r1 == r2 ||", `\`assert(r1 == r2 || r2 == 1)\`${OF_FORMULAS}`],
+  ["r1 == 1 ||", "r1 = 1 ||", `\`assert(r1 = 1 || r2 == 1)\`${OF_FORMULAS}`],
+  ["r1 == 1 ||", "r3 == 1 ||", "`r3`, of which the question asks: nothing sets it"],
+  ["x.store", "x.exchange", "`x.exchange(1, std::memory_order_relaxed)`, of which compilers make different code"],
+];
+
 // What is refused: a part of a program and what is in its place, and why.
 const PROGRAM = `atomic_int x, y; int d;
 void P0(void) { x = 1; int r0 = y; }
@@ -223,9 +295,9 @@ const REFUSED = [
   ["void P0(void) { x = 1; int r0 = y; }", "void P0(void) { int a = y, b = y, c = y, e = y, f = y, g = y; x = 1; }", `\`P0\`${OF_REGISTERS}`],
   ["// lw", "void other(void) { x = 2; }\n// lw", `\`other\`${OF_NAMES}`],
   ["void P0", "void P2", `\`P2\`${OF_NAMES}`],
-  ["P1(void)", "P1(void *argument)", "`void P1(void *argument) { y = 1; int r0 ..`: a thread is a function without parameters"],
-  ["void P1(void)", "int main(void) { return 0; }\nvoid P1(void)",
-    "`int main(void) { return 0; }`: leave `main` out, and each thread is a function without parameters"],
+  ["P1(void)", "P1(int *argument)", "`void P1(int *argument) { y = 1; int r0 =..`: a thread is a function without parameters, or with an unused `void *`"],
+  ["void P1(void) { y = 1;", "void *P1(void *argument) { y = argument;", "`y = argument`: `argument` is not declared"],
+  ["void P1(void)", "int main(void) { return 0; }\nvoid P1(void)", "`}`: `main` starts no thread, so leave it out"],
   ["x = 1;", "if (y < 1) x = 1;", `\`if (y < 1)\`${OF_CONDITIONS}`],
   ["x = 1;", "if (y == 1 || y == 2) x = 1;", `\`if (y == 1 || y == 2)\`${OF_CONDITIONS}`],
   ["x = 1;", "if (y == x) x = 1;", `\`if (y == x)\`${OF_SIDES}`],
@@ -290,6 +362,11 @@ function listInstructions(text, thread) {
   return rows.map((it) => it.slice(0, -1).split("|")[thread].trim()).filter(Boolean).join("; ");
 }
 
+/** Returns the question of a test. */
+function findQuestion(text) {
+  return text.trimEnd().split("\n").at(-1);
+}
+
 /** Returns the page's modules of some names. */
 async function loadModules(names) {
   const room = fs.mkdtempSync(path.join(os.tmpdir(), "lw-programs-"));
@@ -336,6 +413,15 @@ function comparePrograms(page, compare) {
     const program = PROGRAM.replace(part, () => wrong).replace(second ?? "", () => third ?? "");
     const found = rewriteProgram(program);
     compare(`what is refused in ${wrong}`, [why, true], [found.why ?? found.made, isAt(program, found)]);
+  }
+  for (const [before, code, threads, question] of MAINS) {
+    const { made, why } = rewriteProgram(`${before}int main() { ${code} }\n`);
+    compare(`main: ${code}`, [...threads, question, true], made ? [...threads.map((_, at) => listInstructions(made, at)), findQuestion(made), isRead(made)] : [why]);
+  }
+  for (const [part, wrong, why] of REFUSED_MAINS) {
+    const program = MAIN.replace(part, () => wrong);
+    const found = rewriteProgram(program);
+    compare(`what is refused in main: ${wrong}`, [why, true], [found.why ?? found.made, isAt(program, found)]);
   }
   for (const [what, program, expected] of WHOLE) {
     const found = rewriteProgram(program);

@@ -1,0 +1,276 @@
+// Follows `main` of a program in C or C++: the threads that it starts, in their order, the words of variables before it starts them, and what it asks
+// after it has joined them. Not proved.
+//
+// The records `Program`, `CThread` and `Part` are those of c_reader.js, and `Statement` is that of c_statements.js. A statement that joins all
+// threads of an array has the name of this array, `joined`, and the number of them, `count`, if it is a constant.
+// A `Start` has the code by which a thread is joined, its `handle`, as `t1` or `threads[0]`, and the name of its function, which is `started`. It
+// `isJoining` if its handle joins it at the end of a block, or not.
+
+import { formatAssertion, formatFormula, parseFormula } from "./c_question.js";
+import { declareVariables, findClosing, parseConstant, parseDeclaration, refusePart, squeezeCode } from "./c_reader.js";
+import { splitOutside, StatementReader } from "./c_statements.js";
+
+// A lambda up to its code: the group is what it captures.
+const LAMBDA = /(?<![\w\])])\[([^\][]*)\]\s*(?:\(\s*(?:void\s*)?\)\s*)?(?:mutable\b\s*|->\s*void\b\s*)*\{/;
+const CAPTURES = /^(?:&\w*(?:,&\w+)*)?$/;
+const STRING = /"(?:[^"\\]|\\.)*"/g;
+// The patterns that follow are of squeezed code. What changes nothing that threads share: output, waiting and ends, unless it has an effect.
+const OUTPUT = /^(?:(?:f?printf|f?puts|putchar|fmt::print|print(?:ln)?|fflush|setvbuf)\(|(?:cout|cerr)<<)/;
+const HARMLESS = /^(?:(?:static_assert|\w*sleep\w*|this_thread::\w+|exit|abort|pthread_exit)\(|return\b|\(void\)\w+$|\w+\.(?:reserve|request_stop)\(|$)/;
+const EFFECT = /(?<![=!<>])=(?!=)|\+\+|--|exchange|store|fetch_|lambda/;
+// A loop that joins all threads of an array: the groups are this array, or the index and its end; and again the array.
+const JOIN_LOOP = new RegExp(
+  "^for\\((?:(?:const )?auto ?&{0,2}\\w+:(\\w+)|(?:int|size_t|unsigned|auto) (\\w+)=0;\\2(?:<|!=)(\\w+);(?:\\2\\+\\+|\\+\\+\\2))\\)" +
+    "\\{?(?:(\\w+)(?:\\[\\2\\])?\\.join\\(\\)|(?:pthread|thrd)_join\\((\\w+)\\[\\2\\],[\\w&]*\\));\\}?$",
+);
+const JOIN = /^(?:(\w+(?:\[\d+\])?)\.join\(\)|(?:pthread|thrd)_join\((\w+(?:\[\d+\])?),[^,]*\))$/;
+const HANDLES = /^(?:pthread_t|thrd_t) \w/;
+const CONTAINER = /^(?:vector<(j?)thread>|array<(j?)thread,\w+>) ?(\w+)(?:\(\w*\)|\{\})?$/;
+const THREADS = /^(j?)thread (.*)$/;
+const DECLARATOR = /^(\w+(?:\[\w*\])?)(?:=?(?:j?thread)?[({](.+)[)}])?$/;
+const ASSIGNED = /^(?:auto )?(\w+(?:\[\d+\])?)=(j?)thread[({](.*)[)}]$/;
+const APPENDED = /^(\w+)\.(?:emplace|push)_back\((?:j?thread[({])?([^)}]*)[)}]{1,2}$/;
+const CREATED = /^(?:pthread|thrd)_create\((.*)\)$/;
+const NAMED_LAMBDA = /^(?:const )?auto ?&{0,2}(\w+)=(lambda_\d+)$/;
+const CALLEE = /^&?(\w+)(?:,.*)?$/;
+const ASSIGNMENT = /^(\w+)=([^=].*)$/;
+const INITIAL_STORE = /^atomic_(?:store|init)(?:_explicit|_relaxed|_release)?\(&(\w+),([^,]*)(?:,memory_order_\w+)?\)$/;
+const ASSERTION = /^assert\((.*)\)$/;
+// Why a part is refused.
+const OF_RUNS = ": one run is enough, since the page lists all final states";
+const OF_BEFORE = ": before its threads, `main` only declares variables, and sets them to constants, as `x = 0;`";
+const OF_RUNNING = ": while threads run, `main` only starts others and joins them, so give this to a thread of its own";
+const OF_AFTER = ": after the joins, `main` only prints, or asks by an `assert` or an `if`";
+const OF_JOINS = ": `main` starts all threads before it joins one";
+const OF_UNJOINED = ": `main` joins all threads before";
+const OF_HANDLES = ": no thread that runs has this name";
+const OF_CAPTURES = ": a lambda has its variables by reference, as `[&]`";
+const OF_ASKED = ": `main` asks only once";
+const OF_FORMULAS = ": what `main` asks compares variables with constants by `==` or `!=`, joined by `&&` and `||`";
+const OF_NAMES = ": give it a name that no other variable has";
+const OF_CODE = ": a thread begins with a function or a lambda without parameters";
+
+/** Reads the statements of `main`. */
+class MainReader extends StatementReader {
+  /** Returns the index of the `;` that ends the statement here, which is in no parentheses or braces; -1 if there is none. */
+  findEnd() {
+    let depth = 0;
+    const { rest } = this;
+    for (let at = 0; at < rest.length; at += 1) {
+      depth += Number("({[".includes(rest[at])) - Number(")}]".includes(rest[at]));
+      if (!depth && rest[at] === ";") return at;
+    }
+    return -1;
+  }
+
+  /** Returns the loop here, if it joins threads. Throws NoTest if it does not. */
+  readLoop() {
+    const { rest } = this;
+    const close = findClosing(rest, Math.max(rest.indexOf("("), 0));
+    const body = close + 1 + rest.slice(close + 1).search(/\S|$/);
+    const end = (rest[body] === "{" ? findClosing(rest, body) : rest.indexOf(";", body)) + 1;
+    const [found, range, , count, called, other] = JOIN_LOOP.exec(squeezeCode(rest.slice(0, end))) ?? [];
+    if (!found) refusePart(this.takePart(close + 1 || rest.search(/[;{]|$/)), OF_RUNS);
+    return { ...this.takePart(end), joined: range ?? called ?? other, count: parseConstant(count ?? "") };
+  }
+}
+
+/** Follows the statements of `main`. */
+class MainFollower {
+  /** @param {Program} program */
+  constructor(program) {
+    this.program = program;
+    this.functions = new Map(program.threads.map((it) => [it.name, it]));
+    // The threads that are started, and of those that are not joined yet, whether their handles join them.
+    this.threads = [];
+    this.running = new Map();
+    this.hasJoined = false;
+    // Of arrays of threads, whether they join them.
+    this.containers = new Map();
+    // What is asserted, whose parts are all of it, and the question.
+    this.asserted = [];
+    this.question = null;
+  }
+
+  /** Follows statements. Throws NoTest at one that does more than what is rewritten. */
+  followStatements(statements) {
+    for (const statement of statements) {
+      if (statement.block) this.followBlock(statement.block);
+      else if (statement.then) this.followBranch(statement);
+      else if (statement.joined) this.joinAll(statement);
+      else this.followSimple(statement);
+    }
+  }
+
+  /** Follows statements, at whose end some handles join the threads that are started in them. */
+  followBlock(statements) {
+    const outer = new Set(this.running.keys());
+    this.followStatements(statements);
+    for (const [handle, isJoining] of [...this.running].filter(([it]) => !outer.has(it))) if (isJoining) this.joinThread(handle);
+  }
+
+  /** Takes an `if` for a question. What is in its branches does not matter. */
+  followBranch(statement) {
+    for (const it of [...statement.then, ...statement.otherwise]) this.checkHarmless(it);
+    this.ask(statement, (formula) => `exists (${formatFormula(formula)})`, statement.condition);
+  }
+
+  /** Throws NoTest unless a statement, and all statements in it, change nothing that threads share. */
+  checkHarmless(statement) {
+    for (const it of statement.block ?? [...(statement.then ?? []), ...(statement.otherwise ?? [])]) this.checkHarmless(it);
+    if (!statement.block && !statement.then && !isHarmless(squeezeCode(removeStrings(statement.code)))) refusePart(statement, OF_AFTER);
+  }
+
+  /** Sets the question to what `format` makes of a condition in a statement. Throws NoTest if threads run, or `main` has asked something else. */
+  ask(statement, format, condition, isAsserted = false) {
+    if (!this.threads.length) refusePart(statement, OF_BEFORE);
+    if (this.running.size) refusePart(statement, OF_UNJOINED);
+    if (this.question && !(isAsserted && this.asserted.length)) refusePart(statement, OF_ASKED);
+    const formula = parseFormula(squeezeCode(condition)) ?? refusePart(statement, OF_FORMULAS);
+    if (isAsserted) this.asserted.push(formula);
+    const { index } = this.question?.source ?? statement;
+    const source = { code: this.program.text.slice(index, statement.index + statement.code.length), index };
+    this.question = { code: format(formula), index: statement.index, source };
+  }
+
+  /** Follows a statement that has no statements in it, except in lambdas. */
+  followSimple(statement) {
+    const code = squeezeCode(this.takeLambdas({ code: removeStrings(statement.code), index: statement.index }));
+    if (isHarmless(code)) return;
+    const starts = this.parseStarts(code);
+    const [, lambdaName, lambda] = NAMED_LAMBDA.exec(code) ?? [];
+    const [, handle, other] = JOIN.exec(code) ?? [];
+    const [, condition] = ASSERTION.exec(code) ?? [];
+    if (starts) starts.forEach((it) => this.startThread(it, statement));
+    else if (lambda) this.functions.set(lambdaName, this.functions.get(lambda));
+    else if (handle ?? other) this.joinThread(handle ?? other, statement);
+    else if (condition) this.ask(statement, () => formatAssertion(joinFormulas(this.asserted)), condition, true);
+    else if (!this.threads.length) this.setWords(code, statement);
+    else refusePart(statement, this.running.size ? OF_RUNNING : OF_AFTER);
+  }
+
+  /** Returns the code of a part with names in place of its lambdas, which are functions then. */
+  takeLambdas({ code, index }) {
+    const pieces = [];
+    let at = 0;
+    for (let found = LAMBDA.exec(code); found; found = LAMBDA.exec(code.slice(at))) {
+      const begin = at + found.index;
+      const open = begin + found[0].length;
+      const end = findClosing(code, open - 1) + 1;
+      const whole = { code: code.slice(begin, end || open), index: index + begin };
+      if (!end) refusePart(whole, ": its `}` is missing");
+      if (!CAPTURES.test(squeezeCode(found[1]))) refusePart(whole, OF_CAPTURES);
+      pieces.push(code.slice(at, begin), this.addLambda(whole, { code: code.slice(open, end - 1), index: index + open }));
+      at = end;
+    }
+    return [...pieces, code.slice(at)].join("");
+  }
+
+  /** Adds the function of a lambda, given all of it and its code. Returns a name for it. */
+  addLambda(whole, code) {
+    const name = `lambda_${this.functions.size}`;
+    const { globals } = this.program;
+    this.functions.set(name, { name: "lambda", head: whole.index, whole, parameters: "", code, variables: globals, returnsWord: false });
+    return name;
+  }
+
+  /** Returns the threads that squeezed code starts, which are none in a declaration of handles; null if it is neither. */
+  parseStarts(code) {
+    const [, isVectorJoining, isArrayJoining, container] = CONTAINER.exec(code) ?? [];
+    if (container) this.containers.set(container, Boolean(isVectorJoining || isArrayJoining));
+    if (container || HANDLES.test(code)) return [];
+    const [, isJoining, declarators] = THREADS.exec(code) ?? [];
+    if (declarators) return this.parseDeclarators(splitOutside(declarators, ","), isJoining === "j");
+    const [, assigned, isAssignedJoining, callee] = ASSIGNED.exec(code) ?? [];
+    if (assigned) return [makeStart(assigned, isAssignedJoining === "j" || this.containers.get(assigned.split("[")[0]), callee)];
+    const [, appended, first] = APPENDED.exec(code) ?? [];
+    if (appended) return [makeStart(`${appended}[${this.threads.length}]`, this.containers.get(appended), first)];
+    const [, words] = CREATED.exec(code) ?? [];
+    const [created, ...others] = splitOutside(words ?? "", ",");
+    return others.length > 1 ? [makeStart(created.replace(/^&/, "").replace(/^(\w+)\+(\d+)$/, "$1[$2]"), false, others.at(-2))] : null;
+  }
+
+  /** Returns the threads that declarations of handles start; null if they are none. */
+  parseDeclarators(declarators, isJoining) {
+    const found = declarators.map((it) => DECLARATOR.exec(it));
+    if (found.includes(null)) return null;
+    for (const [, handle] of found) this.containers.set(handle.split("[")[0], isJoining);
+    return found.filter(([, , started]) => started).map(([, handle, started]) => makeStart(handle, isJoining, started));
+  }
+
+  /** Adds a thread. Throws NoTest for the statement that starts it if a thread was joined before, or if it is of no function. */
+  startThread({ handle, isJoining, started }, statement) {
+    const thread = this.functions.get(CALLEE.exec(started)?.[1]) ?? refusePart(statement, OF_CODE);
+    if (this.hasJoined || this.running.has(handle)) refusePart(statement, OF_JOINS);
+    this.threads.push({ ...thread, isStarted: true });
+    this.running.set(handle, Boolean(isJoining));
+  }
+
+  /** Joins the thread of a handle. Throws NoTest for the statement if none runs. */
+  joinThread(handle, statement) {
+    if (!this.running.delete(handle)) refusePart(statement, OF_HANDLES);
+    this.hasJoined = true;
+  }
+
+  /** Joins the threads of an array, or the first ones of it. */
+  joinAll(statement) {
+    const { joined, count } = statement;
+    const isJoined = (handle) => handle.startsWith(`${joined}[`) && (count === null || parseInt(handle.slice(joined.length + 1), 10) < count);
+    const handles = [...this.running.keys()].filter(isJoined);
+    if (!handles.length) refusePart(statement, OF_HANDLES);
+    handles.forEach((it) => this.joinThread(it, statement));
+  }
+
+  /** Declares variables, or sets one to a constant, before threads run. */
+  setWords(code, statement) {
+    const { globals, words } = this.program;
+    const declared = parseDeclaration(code);
+    if (declared.some((it) => globals.has(it.name))) refusePart(statement, OF_NAMES);
+    if (declared.length) {
+      declareVariables(this.program, globals, statement.code, statement, OF_BEFORE);
+      return;
+    }
+    const [, name, value] = ASSIGNMENT.exec(code) ?? INITIAL_STORE.exec(code) ?? refusePart(statement, OF_BEFORE);
+    const word = parseConstant(value);
+    if (!globals.has(name) || word === null || (globals.get(name).isBool && word > 1)) refusePart(statement, OF_BEFORE);
+    words.set(name, word);
+  }
+}
+
+/** Returns code in which strings are empty, and what follows them is in its place. */
+function removeStrings(code) {
+  return code.replace(STRING, (it) => `"${" ".repeat(it.length - 2)}"`);
+}
+
+/** Returns whether squeezed code without strings changes nothing that threads share. */
+function isHarmless(code) {
+  return (OUTPUT.test(code) || HARMLESS.test(code)) && !EFFECT.test(code);
+}
+
+/** Returns the formula that holds if all of some do. */
+function joinFormulas(formulas) {
+  return formulas.length === 1 ? formulas[0] : { sign: "/\\", parts: formulas };
+}
+
+/** Returns a record of a start. */
+function makeStart(handle, isJoining, started) {
+  return { handle, isJoining, started };
+}
+
+/**
+ * Returns a program whose threads are those that its `main` starts, and whose question is that of `main` if it has no other one. A program without a
+ * `main` is returned unchanged. Throws NoTest if `main` does more.
+ * @param {Program} program
+ * @returns {Program}
+ */
+export function startThreads(program) {
+  const { main, question } = program;
+  if (!main) return program;
+  const follower = new MainFollower(program);
+  follower.followStatements(new MainReader(main).readAll());
+  const end = { code: "}", index: main.index + main.code.length };
+  const [left] = [...follower.running].find(([, isJoining]) => !isJoining) ?? [];
+  if (left) refusePart(end, `: \`main\` joins each thread, and not \`${left}\``);
+  if (!follower.threads.length) refusePart(end, ": `main` starts no thread, so leave it out");
+  return { ...program, threads: follower.threads, question: question.code ? question : follower.question ?? question };
+}

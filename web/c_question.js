@@ -1,0 +1,84 @@
+// Reads what a program in C or C++ asserts, and writes questions of lw. Not proved.
+//
+// A `Formula` is an atom, or has a `sign`, `/\` or `\/`, and the `parts` that it joins. An atom has the `name` of a variable, and a `word`; `isEqual`
+// says whether the variable is to be this word, or another one.
+
+import { parseConstant } from "./c_reader.js";
+import { removeOuterParentheses, splitOutside } from "./c_statements.js";
+
+// A variable that a condition compares, in squeezed code, or a load of one: the groups are its name.
+const SITE = /^(?:(\w+)|atomic_load(?:_explicit|_relaxed|_acquire)?\(&(\w+),?(?:memory_order_\w+)?\))$/;
+const SIGNS = [["||", "\\/"], ["&&", "/\\"]];
+const OPPOSITE = { "\\/": "/\\", "/\\": "\\/" };
+// A formula is no longer.
+const LONGEST = 2000;
+
+/**
+ * Returns the formula of a condition, or null if it has more than variables, constants, `==`, `!=`, `!`, `&&` and `||`.
+ * @param {string} code squeezed
+ * @returns {Formula | null}
+ */
+export function parseFormula(code) {
+  if (code.length > LONGEST) return null;
+  const inner = removeOuterParentheses(code);
+  for (const [mark, sign] of SIGNS) {
+    const codes = splitOutside(inner, mark);
+    if (codes.length === 1) continue;
+    const parts = codes.map(parseFormula);
+    return parts.includes(null) ? null : { sign, parts };
+  }
+  return /^!(?!=)/.test(inner) ? parseNegation(inner.slice(1)) : parseAtom(inner);
+}
+
+/** Returns the formula of what follows a `!`: code in parentheses, or a variable. */
+function parseNegation(code) {
+  const isWhole = code !== removeOuterParentheses(code) || SITE.test(code) || /^!(?!=)/.test(code);
+  const formula = isWhole ? parseFormula(code) : null;
+  return formula && negateFormula(formula);
+}
+
+/** Returns the atom of a comparison, or of a variable, which is not 0. */
+function parseAtom(code) {
+  const isEqual = splitOutside(code, "==").length === 2;
+  const sides = splitOutside(code, isEqual ? "==" : "!=").map(removeOuterParentheses);
+  if (sides.length > 2) return null;
+  const [site, constant = "0"] = parseConstant(sides[0]) === null ? sides : sides.reverse();
+  const [, name, loaded] = SITE.exec(site) ?? [];
+  const word = parseConstant(constant);
+  return (name ?? loaded) && parseConstant(site) === null && word !== null ? { name: name ?? loaded, word, isEqual } : null;
+}
+
+/**
+ * Returns the formula that holds if another one does not.
+ * @param {Formula} formula
+ * @returns {Formula}
+ */
+export function negateFormula(formula) {
+  if (!formula.sign) return { ...formula, isEqual: !formula.isEqual };
+  return { sign: OPPOSITE[formula.sign], parts: formula.parts.map(negateFormula) };
+}
+
+/**
+ * Returns a formula as lw writes it.
+ * @param {Formula} formula
+ * @returns {string}
+ */
+export function formatFormula({ sign, parts, name, word, isEqual }) {
+  if (!sign) return `${isEqual ? "" : "~"}${name}=${word}`;
+  const needsParentheses = (it) => sign === "/\\" && it.sign === "\\/";
+  return parts.map((it) => (needsParentheses(it) ? `(${formatFormula(it)})` : formatFormula(it))).join(` ${sign} `);
+}
+
+/** Returns whether all atoms of a formula are of other words. */
+function isAllUnequal({ parts, isEqual }) {
+  return parts ? parts.every(isAllUnequal) : !isEqual;
+}
+
+/**
+ * Returns the question that asks whether a formula always holds: of what never happens if it only says what is not so.
+ * @param {Formula} formula
+ * @returns {string}
+ */
+export function formatAssertion(formula) {
+  return isAllUnequal(formula) ? `~exists (${formatFormula(negateFormula(formula))})` : `forall (${formatFormula(formula)})`;
+}
