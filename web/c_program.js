@@ -1,10 +1,11 @@
-// Rewrites a program in C or C++, or a test of herd in C, as an x86 test: its threads have no loops, and each access becomes what gcc and clang make
-// of it, in the order of the program. What they make different code of is refused, and what is no such program. Not proved.
+// Rewrites a program in C or C++, or a test of herd in C, as an x86 test: its threads have no loops but those that wait, and each access becomes what
+// gcc and clang make of it, in the order of the program. What they make different code of is refused, and what is no such program. Not proved.
 //
 // The records `Program` and `Part` are those of c_reader.js.
 
 import { alignCells } from "./aligned.js";
 import { startThreads } from "./c_main.js";
+import { limitQuestion } from "./c_question.js";
 import { checkThreads, readProgram, refusePart } from "./c_reader.js";
 import { RESULT, ThreadWriter } from "./c_thread.js";
 import { readTest } from "./tests.js";
@@ -13,18 +14,21 @@ import { readTest } from "./tests.js";
 const OF_NOTHING = "nothing sets it";
 const OF_RESULT = "the thread returns a value on some paths only";
 const OF_PATHS = "declare it outside of blocks, with a value, as `int r0 = 0`";
+const OF_QUESTION = ": a question is `exists (..)`, `~exists (..)` or `forall (..)`";
 // A name in a question: the groups are the number of a thread before it, and the name. And those that are words of the question itself.
 const NAME = /(?<!\w)(?:P?(\d)\s*:\s*)?([A-Za-z_]\w*)/g;
 const WORD_OF_QUESTION = /^(?:exists|forall|locations|not|true|false)$/;
 
-/** Throws NoTest if there is a race on a variable of which an access is plain: another thread accesses it too, and one of the two writes. */
-function checkRaces(accesses) {
+/** Returns the names of variables on which there is a race by a plain access: another thread accesses them too, and one of the two writes. */
+function listRaces(accesses) {
   const isConflict = (one, other) => one.thread !== other.thread && one.name === other.name && (one.isWrite || other.isWrite);
-  const race = accesses.find((it) => it.isPlain && accesses.some((other) => isConflict(it, other)));
-  if (!race) return;
-  const { name, statement } = race;
-  const index = statement.index + statement.code.search(new RegExp(`\\b${name}\\b`));
-  refusePart({ code: name, index }, ": that threads do not race on it is not checked, so make it atomic or volatile");
+  const races = accesses.filter((it) => it.isPlain && accesses.some((other) => isConflict(it, other)));
+  return [...new Set(races.map((it) => it.name))];
+}
+
+/** Returns the atoms that hold in a state if all loops that wait have ended. */
+function listEnds(writers) {
+  return writers.flatMap((writer) => writer.waits.map(({ variable, word, isEqual }) => ({ name: writer.makeSite(variable), word, isEqual: !isEqual })));
 }
 
 /** Returns the first part of another one that is a name. */
@@ -69,27 +73,31 @@ function guessQuestion(writers, sites, used) {
   return `${list}exists (${asked.map((it) => `${it}=0`).join(" /\\ ") || "true"})`;
 }
 
-/** Returns the x86 test of a text, and whether its question is a guess, since the program has none. Throws NoTest if it is not rewritten. */
+/** Returns the record of `rewriteProgram` of a text. Throws NoTest if it is not rewritten. */
 function writeTest(text) {
   const program = startThreads(readProgram(text));
   checkThreads(program);
   const writers = program.threads.map((_, number) => new ThreadWriter(program, number).writeThread());
   const accesses = writers.flatMap((it) => it.accesses);
-  checkRaces(accesses);
   const used = new Set(accesses.map((it) => it.name));
   const asked = translateQuestion(program, writers, used);
   const sites = writers.flatMap((writer) => writer.registers.map((variable) => ({ site: writer.makeSite(variable), variable })));
   const comment = sites.length ? `(* ${sites.map(({ site, variable }) => `${site} is ${variable}`).join(", ")} *)\n` : "";
   const block = [...program.words].filter(([name]) => used.has(name)).map(([name, word]) => `${name}=${word}; `).join("");
-  const end = asked || guessQuestion(writers, sites.map((it) => it.site), used);
-  return { made: alignCells(`X86 ${program.name}\n${comment}{ ${block}}\n${formatRows(writers)}${end}\n`), isGuess: !asked };
+  const ends = listEnds(writers);
+  const others = sites.map((it) => it.site).filter((site) => !ends.some((it) => it.name === site));
+  const whole = asked || guessQuestion(writers, others, used);
+  const end = ends.length ? limitQuestion(whole, ends) ?? refusePart(program.question, OF_QUESTION) : whole;
+  const made = alignCells(`X86 ${program.name}\n${comment}{ ${block}}\n${formatRows(writers)}${end}\n`);
+  return { made, isGuess: !asked, races: listRaces(accesses), isWaiting: ends.length > 0 };
 }
 
 /**
- * Returns the x86 test of a program in C or C++, or of a test of herd in C, and whether its question is a guess, since the program asks nothing; or
- * why it is not rewritten: a part of it, with its index, and the end of a sentence; or without an index why lw refuses the test.
+ * Returns the x86 test of a program in C or C++, or of a test of herd in C, and whether its question is a guess, since the program asks nothing; the
+ * names of plain variables on which threads race; and whether a load is in place of a loop that waits. Or returns why it is not rewritten: a part of it,
+ * with its index, and the end of a sentence; or without an index why lw refuses the test.
  * @param {string} text
- * @returns {{made?: string, isGuess?: boolean, why?: string, index?: number}}
+ * @returns {{made?: string, isGuess?: boolean, races?: string[], isWaiting?: boolean, why?: string, index?: number}}
  */
 export function rewriteProgram(text) {
   try {

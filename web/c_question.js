@@ -10,6 +10,8 @@ import { removeOuterParentheses, splitOutside } from "./c_statements.js";
 const SITE = /^(?:(\w+)|atomic_load(?:_explicit|_relaxed|_acquire)?\(&(\w+),?(?:memory_order_\w+)?\))$/;
 const SIGNS = [["||", "\\/"], ["&&", "/\\"]];
 const OPPOSITE = { "\\/": "/\\", "/\\": "\\/" };
+// A question: the groups are the list before it, its quantifier, and its proposition.
+const QUESTION = /^((?:locations\s*\[[^\]]*\]\s*)?)(~\s*exists|exists|forall)\b\s*([^]*)$/;
 // A formula is no longer.
 const LONGEST = 2000;
 
@@ -81,4 +83,30 @@ function isAllUnequal({ parts, isEqual }) {
  */
 export function formatAssertion(formula) {
   return isAllUnequal(formula) ? `~exists (${formatFormula(negateFormula(formula))})` : `forall (${formatFormula(formula)})`;
+}
+
+/** Returns whether each parenthesis of a code that closes has one that opens. */
+function isBalanced(code) {
+  let depth = 0;
+  for (const letter of code) {
+    depth += Number(letter === "(") - Number(letter === ")");
+    if (depth < 0) return false;
+  }
+  return depth === 0;
+}
+
+/**
+ * Returns a question of lw that asks the same as another one, but only of the states in which some formulas hold, which are atoms. Null if the other
+ * one is no question.
+ * @param {string} question
+ * @param {Formula[]} atoms
+ * @returns {string | null}
+ */
+export function limitQuestion(question, atoms) {
+  const [, list, quantifier, code] = QUESTION.exec(question) ?? [];
+  const proposition = removeOuterParentheses((code ?? "").trim());
+  if (!proposition || !isBalanced(proposition)) return null;
+  if (quantifier === "forall") return `${list}forall (${[...atoms.map(negateFormula).map(formatFormula), proposition].join(" \\/ ")})`;
+  const others = proposition === "true" ? [] : [proposition.includes("\\/") ? `(${proposition})` : proposition];
+  return `${list}${quantifier} (${[...atoms.map(formatFormula), ...others].join(" /\\ ")})`;
 }

@@ -2,9 +2,9 @@
 // refused. Not proved.
 //
 // A `Statement` is a `Part` of a program. That of an `if` has its `condition`, and the statements of its branches, `then` and `otherwise`; one in
-// braces has the statements of its `block`.
+// braces has the statements of its `block`. A loop that only waits has its `condition`, and the code of what it `assigns`, or "".
 
-import { findClosing, parseConstant, refusePart } from "./c_reader.js";
+import { findClosing, parseConstant, refusePart, squeezeCode } from "./c_reader.js";
 
 // The number of statements that a statement may be in.
 const DEEPEST = 64;
@@ -14,10 +14,12 @@ const ELSE = /^else\b/;
 const LOOP = /^(?:else|while|for|do|switch)\b/;
 const SWITCH = /^switch\b/;
 const HEAD = /^\w+\s*(?=\()/;
-// A loop that only waits: one load is enough in its place. (A loop that exchanges does not only wait.)
-const WAITING = /^while\s*\((?![^;]*(?:exchange|xchg|test_and_set|\+\+|--))[^;{]*\)\s*(?:;|\{\s*(?:;|\w*(?:pause|relax|yield)\w*\(\);)?\s*\})/;
-const OF_WAITING = ": in place of a loop that waits, load once, and ask for the value that ends it";
-const OF_LOOPS = ": write out each pass of a loop. `tools/from_c.py` follows loops";
+// The body of a loop that only waits, in squeezed code: the group is what it assigns.
+const WAITING = /^\{?(?:;|(\w+=[^;{}]+);)?(?:(?:this_thread::)?\w{0,40}(?:pause|relax|yield|sleep)\w{0,40}\([^();]*\);)*\}?$/;
+const DO = /^do\b/;
+const WHILE = /^\s*while\s*(?=\()/;
+/** Why a loop is refused, as the end of a sentence. */
+export const OF_LOOPS = ": write out each pass of a loop. `tools/from_c.py` follows loops";
 const OF_SWITCH = ": write an `if` for each case";
 const OF_ELSE = ": an `else` follows the one statement or block of its `if`";
 const COMPARISON = /[=!]=|[^=!]=!|<(?!<)|(?<!>)>(?!>)|&&|\|\|/;
@@ -141,18 +143,44 @@ export class StatementReader {
     return statement.block ?? [statement].filter((it) => it.code.trim());
   }
 
-  /** Throws NoTest for the loop, the `switch` or the `else` that begins here. */
+  /** Returns the loop here, if it only waits. Throws NoTest at another one, at a `switch`, and at an `else`. */
   readLoop() {
+    const loop = this.readWaiting();
+    if (loop) return loop;
     const { rest } = this;
     const head = HEAD.exec(rest)?.[0].length;
     const length = head ? findClosing(rest, head) + 1 : rest.search(/[;{]|$/);
-    const [, why] = [[ELSE, OF_ELSE], [SWITCH, OF_SWITCH], [WAITING, OF_WAITING]].find(([pattern]) => pattern.test(rest)) ?? [LOOP, OF_LOOPS];
-    refusePart(this.takePart(length), why);
+    const [, why] = [[ELSE, OF_ELSE], [SWITCH, OF_SWITCH]].find(([pattern]) => pattern.test(rest)) ?? [LOOP, OF_LOOPS];
+    return refusePart(this.takePart(length), why);
+  }
+
+  /** Returns the loop here with its `condition` and what it `assigns`, which is "" if it assigns nothing; null if it does more than to wait. */
+  readWaiting() {
+    const { rest } = this;
+    const isDo = DO.test(rest);
+    const body = isDo ? findBody(rest, "do".length) : null;
+    const begin = isDo ? body.end : 0;
+    const head = WHILE.exec(rest.slice(begin))?.[0].length;
+    const close = head ? findClosing(rest, begin + head) : -1;
+    if (close < 0) return null;
+    const { code, end } = isDo ? { ...body, end: close + 1 } : findBody(rest, close + 1);
+    const [found, assigns = ""] = WAITING.exec(squeezeCode(code)) ?? [];
+    if (found === undefined) return null;
+    const part = this.takePart(close + 1);
+    this.takePart(end - close - 1);
+    return { ...part, condition: part.code.slice(begin + head + 1, -1), assigns };
   }
 }
 
+/** Returns the code of a statement or a block that begins at an index, after blanks, and where it ends. */
+function findBody(code, index) {
+  const begin = index + code.slice(index).search(/\S|$/);
+  const end = (code[begin] === "{" ? findClosing(code, begin) : code.indexOf(";", begin)) + 1 || code.length;
+  return { code: code.slice(begin, end), end };
+}
+
 /**
- * Returns the statements of a code. Throws NoTest at a loop, and at a statement that has no end.
+ * Returns the statements of a code. Throws NoTest at a loop that does not only wait, and at a statement that has no end.
  * @param {Part} code
  * @returns {Statement[]}
  */

@@ -3,7 +3,7 @@
 // The records `Program` and `CThread` are those of c_reader.js, and `Statement` is that of c_statements.js.
 
 import { parseConstant, parseDeclaration, refusePart, squeezeCode } from "./c_reader.js";
-import { OF_CONDITIONS, parseCondition, readStatements } from "./c_statements.js";
+import { OF_CONDITIONS, OF_LOOPS, parseCondition, readStatements } from "./c_statements.js";
 import { isTruth, OF_BOOLS, OF_STEPS, OF_SUBTRACTION, parseStep, SPARE, ValueWriter } from "./c_values.js";
 import { REGISTERS } from "./token_reader.js";
 
@@ -15,6 +15,8 @@ const RETURN = /^return\b ?(.*)$/;
 const NOTHING = /^(?:NULL|nullptr|0|\(void\*\)0)$/;
 // A statement without an effect, in squeezed code: the group is the name of a parameter.
 const NO_USE = /^\(void\)(\w+)$/;
+// A load in a loop that waits: the groups are the variable that it is assigned to, if there is one, and the load.
+const AWAITED = /^(?:(\w+)=)?(\*?\w+|atomic_load\w{0,20}\([^()]*\))$/;
 // An assignment: the groups are its place, the sign of `+=` or `-=`, and its value.
 const ASSIGNMENT = /^(\*?\w+)([+-]?)=([^=].*)$/;
 // Why a statement is refused.
@@ -23,6 +25,9 @@ const OF_RETURN = ": a thread that returns a value is `int P0(void)`";
 const OF_RETURN_IN_HERD = ": a thread of herd returns nothing, so set a variable, as `int r0`";
 const OF_SIDES = ": compare with a constant or a variable of the thread";
 const OF_ATOMICS = ": a thread's own variable is not atomic, as `int r0`";
+const OF_BRANCHES = ": a loop that waits is in no branch, and after no `return`";
+const OF_AWAITED = ": this variable has the value that ended a loop, so set another one";
+const OF_PLAIN_LOOPS = ": a compiler loads a plain variable only once, so make it atomic or volatile";
 const OF_NAMES = ": give it a name that no other variable has";
 // The label at the end of a thread.
 const END = "END";
@@ -60,6 +65,10 @@ export class ThreadWriter extends ValueWriter {
     this.exits = [];
     this.labelCount = 0;
     this.loaded = null;
+    // Of each loop that waits, the variable with a register that it loads, and the word of which this variable is, or is not, while it waits. And the
+    // number of branches around a statement.
+    this.waits = [];
+    this.branchCount = 0;
   }
 
   /** Writes all instructions. Returns this writer. Throws NoTest at a statement that is not rewritten, and if there are too few registers. */
@@ -94,6 +103,7 @@ export class ThreadWriter extends ValueWriter {
       const isEnd = isLast && at === statements.length - 1;
       if (statement.block) this.writeBlock(statement.block, isEnd);
       else if (statement.then) this.writeBranch(statement, isEnd);
+      else if (statement.condition !== undefined) this.writeWaiting(statement);
       else this.writeSimple(squeezeCode(statement.code), isEnd);
     }
   }
@@ -113,6 +123,7 @@ export class ThreadWriter extends ValueWriter {
     const other = isLast && !otherwise.length ? END : this.makeLabel();
     const end = isLast ? END : otherwise.length ? this.makeLabel() : other;
     this.writeCondition(squeezeCode(condition), other);
+    this.branchCount += 1;
     const before = new Set(this.known);
     this.writeBlock(then, isLast && !otherwise.length);
     const after = this.known;
@@ -122,9 +133,35 @@ export class ThreadWriter extends ValueWriter {
       this.labels.push(other);
       this.writeBlock(otherwise, isLast);
     }
+    this.branchCount -= 1;
     this.known = joinPaths(after, this.known);
     const isTarget = this.instructions.some((it) => it.endsWith(` ${end}`));
     if (!isLast && isTarget) this.labels.push(end);
+  }
+
+  /**
+   * Writes one load in place of a loop that only waits, since loads change nothing: the loop ends as its last load does. Its register is not set again,
+   * so that a question can ask how it ended. Throws NoTest if the loop may not be reached, or has more than one load.
+   */
+  writeWaiting({ condition, assigns }) {
+    const [comparison, another] = parseCondition(squeezeCode(condition)) ?? [];
+    const [value, word] = [comparison?.sides[0], parseConstant(comparison?.sides[1] ?? "")];
+    const isAssigned = assigns && assigns.startsWith(`${value}=`);
+    const [, place, load] = AWAITED.exec(isAssigned ? assigns : assigns ? "" : value ?? "") ?? [];
+    const isLoad = load && parseConstant(load) === null && !this.locals.has(load) && (!place || this.locals.has(place));
+    if (another || word === null || !isLoad) this.refuseStatement(OF_LOOPS);
+    if (this.branchCount || this.exits.length) this.refuseStatement(OF_BRANCHES);
+    const { loaded } = this;
+    const { name } = this.parseOperation(load);
+    const number = this.waits.length + 1;
+    const variable = place ?? `${name} after ${number > 1 ? `loop ${number}` : "its loop"}`;
+    this.assignLocal(variable, load);
+    const { isPlain, isBool } = this.accesses.at(-1);
+    if (isPlain) this.refuseStatement(OF_PLAIN_LOOPS);
+    // A loop on a `bool` waits for the other one of two words.
+    const isOther = isBool && comparison.isEqual && word < 2;
+    this.waits.push({ variable, word: isOther ? 1 - word : word, isEqual: comparison.isEqual && !isOther });
+    this.loaded = loaded;
   }
 
   /** Writes the instructions that jump to a label if a condition is false. */
@@ -189,6 +226,7 @@ export class ThreadWriter extends ValueWriter {
   /** Writes the instructions that set a variable with a register. Throws NoTest if it holds 0 and 1 only, and the value may be another one. */
   assignLocal(name, value) {
     const count = this.accesses.length;
+    if (this.waits.some((it) => it.variable === name)) this.refuseStatement(OF_AWAITED);
     this.writeValue(value, this.findRegister(name));
     this.known.add(name);
     const [access, another] = this.accesses.slice(count);

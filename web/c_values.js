@@ -166,7 +166,8 @@ export class ValueWriter {
   /** Writes a step of a variable with a register, whose value before or after it another register gets. */
   writeOwnStep({ place, sign, isBefore }, register) {
     const own = this.findRegister(place);
-    if (own === register || !this.known.has(place) || this.bools.has(place)) this.refuseStatement(OF_STEPS);
+    const isAwaited = this.waits.some((it) => it.variable === place);
+    if (own === register || !this.known.has(place) || this.bools.has(place) || isAwaited) this.refuseStatement(OF_STEPS);
     const step = `ADD ${own},$${toWord(Number(`${sign}1`))}`;
     const copy = `MOV ${register},${own}`;
     for (const instruction of isBefore ? [step, copy] : [copy, step]) this.writeInstruction(instruction);

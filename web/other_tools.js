@@ -21,6 +21,8 @@ const OF_GUESS = " The question is a guess: change it to yours.";
 const OF_BUTTON =
   "The button makes an x86 test of it: each access as gcc and clang compile it, in the order of the program. That is not proved, and a compiler may " +
   "also reorder or merge relaxed and plain accesses.";
+const OF_WAITING =
+  " A loop that waits is one load here: states in which it has not ended are in the list, too, and the question leaves them out.";
 const NOT_ASKED = " The question `true` holds always: look at the list of states.";
 // How a program in Rust begins, what only C++ has, and how a thread in C begins.
 const RUST = /^\s*(?:use|fn|pub|static\s+\w+\s*:|#!?\[)/;
@@ -51,12 +53,20 @@ function explainProgram(words, text, place) {
   const how = `${OF_C}: save this as \`${file}\`, then \`${command}\` prints a test for this page.${form}${once}`;
   const hint = { more: how, document: "from-c.html", command };
   if (RUST.test(text)) return { words: `${words} ${HERE}`, ...hint };
-  const { made, isGuess, why, index } = rewriteProgram(text);
+  const { made, isGuess, races, isWaiting, why, index } = rewriteProgram(text);
   if (!made) return { words: explainRefusedProgram(text, why, index), ...hint, at: findPart(place.text, text, index) };
   place.proposeChange(made, 0, place.text.length);
   Object.assign(place.change, { title: "Rewrite it as an x86 test", done: "Rewritten." });
   const question = made.endsWith("(true)\n") ? NOT_ASKED : isGuess ? OF_GUESS : "";
-  return { words: `${words} ${OF_BUTTON}${question}`, ...hint };
+  return { words: `${words} ${OF_BUTTON}${explainRaces(races)}${isWaiting ? OF_WAITING : ""}${question}`, ...hint };
+}
+
+/** Returns a sentence on plain variables, if there are some, on which threads race in a program; or "". */
+function explainRaces(names) {
+  if (!names.length) return "";
+  const list = names.map((it) => `\`${it}\``).join(", ").replace(/, (?=[^,]*$)/, " and ");
+  const [are, them] = names.length === 1 ? ["is", "it"] : ["are", "them"];
+  return ` ${list} ${are} plain: each access is one \`MOV\` here, which a compiler need not keep if threads race on ${them}.`;
 }
 
 /** Returns a sentence that says why a program is not rewritten: for its part at an index, or, without an index, for what lw refuses in its test. */

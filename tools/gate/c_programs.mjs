@@ -219,11 +219,12 @@ void P0(void) { x = 1; int r0 = y; }
 void P1(void) { y = 1; int r0 = x; }
 // lw: exists (0:r0=0 /\\ 1:r0=0)
 `;
-const RACE = ": that threads do not race on it is not checked, so make it atomic or volatile";
 const OF_GLOBALS = ": outside of threads are only declarations of 32-bit integers and `bool`, as `atomic_int x = 1;`";
 const OF_VALUES = ": an initial value is one constant, as in `x = 1` or `x{1}`, and of a `bool` 0 or 1";
 const OF_LOOPS = ": write out each pass of a loop. `tools/from_c.py` follows loops";
-const OF_WAITING = ": in place of a loop that waits, load once, and ask for the value that ends it";
+const OF_PLAIN_LOOPS = ": a compiler loads a plain variable only once, so make it atomic or volatile";
+const OF_BRANCHES = ": a loop that waits is in no branch, and after no `return`";
+const OF_AWAITED = ": this variable has the value that ended a loop, so set another one";
 const OF_OTHERS = ": a statement is one load, store, exchange, addition or fence, or an `if`";
 const OF_ORDER = ", of which compilers make different code";
 const OF_BOOLS = ": a `bool` is set to `true`, `false`, or another `bool` that is loaded";
@@ -247,7 +248,24 @@ const OF_REGISTERS = ", which needs more than six registers";
 const OF_ENTRIES = ": initial values are entries as `x=1;`";
 const REFUSED = [
   ["int r0 = y;", "if (y == 1) { int r0 = 1; }", `\`0:r0\`${OF_PATHS}`],
-  ["int r0 = y;", "while (y != 1) ;", `\`while (y != 1)\`${OF_WAITING}`],
+  ["int r0 = y;", "while (y != 1) ;", `\`0:r0\`${UNSET}`],
+  ["int r0 = y;", "while (1) ;", `\`while (1)\`${OF_LOOPS}`],
+  ["int r0 = y;", "int r0 = y; while (r0 == 1) ;", `\`while (r0 == 1)\`${OF_LOOPS}`],
+  ["int r0 = y;", "int r0 = y; while (y != r0) ;", `\`while (y != r0)\`${OF_LOOPS}`],
+  ["int r0 = y;", "while (y + 1 == 1) ;", `\`while (y + 1 == 1)\`${OF_LOOPS}`],
+  ["int r0 = y;", "while (y && x) ;", `\`while (y && x)\`${OF_LOOPS}`],
+  ["int r0 = y;", "while (y < 1) ;", `\`while (y < 1)\`${OF_LOOPS}`],
+  ["int r0 = y;", "while (y.test_and_set()) { }", `\`while (y.test_and_set())\`${OF_LOOPS}`],
+  ["int r0 = y;", "do x = y; while (x != 1);", `\`do x = y; while (x != 1)\`${OF_LOOPS}`],
+  ["int r0 = y;", "int r0; do r0 = y; while (y != 1);", `\`do r0 = y; while (y != 1)\`${OF_LOOPS}`],
+  ["int r0 = y;", "int r0; do r0 = y; while (r0 != 1); r0++;", `\`r0++\`${OF_AWAITED}`],
+  ["int r0 = y;", "int r0; do r0 = y; while (r0 != 1); int r1 = r0++;", `\`int r1 = r0++\`${OF_STEPS}`],
+  ["int r0 = y;", "{ int r0; do r0 = y; while (r0 != 1); } int r0 = 2;", `\`int r0 = 2\`${OF_AWAITED}`],
+  ["int r0 = y;", "int r0 = y; if (r0) while (y != 1) ;", `\`while (y != 1)\`${OF_BRANCHES}`],
+  ["int r0 = y;", "int r0 = y; if (r0) return; while (y != 1) ;", `\`while (y != 1)\`${OF_BRANCHES}`],
+  ["int r0 = y;", "while (d != 1) ;", `\`while (d != 1)\`${OF_PLAIN_LOOPS}`, "y = 1;", "d = 1;"],
+  ["int r0 = y;", "while (!d) { cpu_relax(); }", `\`while (!d)\`${OF_PLAIN_LOOPS}`, "y = 1;", "d = 1;"],
+  ["int r0 = y;", "while (!d) ;", `\`while (!d)\`${OF_LOOPS}`],
   ["int r0 = y;", "for (int i = 0; i < 3; i++) x = i;", `\`for (int i = 0; i < 3; i++)\`${OF_LOOPS}`],
   ["int r0 = y;", "while (x.exchange(1)) ;", `\`while (x.exchange(1))\`${OF_LOOPS}`],
   ["int r0 = y;", "int r0 = y; return r0;", "`return r0`: a thread that returns a value is `int P0(void)`"],
@@ -286,8 +304,6 @@ const REFUSED = [
   ["x = 1;", "x.fetch_add(0, std::memory_order_acquire);", `\`x.fetch_add(0, std::memory_order_acquire..\`${OF_ORDER}`],
   ["x = 1;", "atomic_thread_fence(seq_cst);", `\`atomic_thread_fence(seq_cst)\`${OF_FENCES}`],
   ["x = 1;", "asm volatile(\"mfence\" ::: \"memory\");", `\`asm volatile("mfence" ::: "memory")\`${OF_FENCES}`],
-  ["x = 1;", "d = 1;", `\`d\`${RACE}`, "y = 1;", "d = 2;"],
-  ["x = 1;", "d = 1;", `\`d\`${RACE}`, "y = 1;", "int r1 = READ_ONCE(d);"],
   ["x = 1;", "d++;", `\`d++\`${OF_ORDER}`, "y = 1;", "d = 2;"],
   ["int d;", "volatile int d;", `\`d++\`${OF_ORDER}`, "x = 1;", "d++;"],
   ["int d;", "volatile int d;", `\`int r0 = d++\`${OF_ORDER}`, "int r0 = y;", "int r0 = d++;"],
@@ -330,9 +346,10 @@ const REFUSED = [
   ["int r0 = y;", "int r0 = y ? 1 : 2;", "`int r0 = y ? 1 : 2`: write an `if`"],
   ["int r0 = y;", "lw_see(r0, y);", "`lw_see(r0, y)`: the question names the variable itself, as `0:r0`"],
   ["int r0 = y;", "int r0 = xchg(y, 2);", "`int r0 = xchg(y, 2)`: `y` is no pointer, as `&y` is"],
-  ["int r0 = y;", "do x = 1; while (y != 1);", `\`do x = 1\`${OF_LOOPS}`],
+  ["int r0 = y;", "do x = 1; while (y != 1);", `\`do x = 1; while (y != 1)\`${OF_LOOPS}`],
+  ["int r0 = y;", "do { x = 1; y = 2; } while (y != 1);", `\`do\`${OF_LOOPS}`],
   ["int r0 = y;", "while (y != 1) x = 2;", `\`while (y != 1)\`${OF_LOOPS}`],
-  ["int r0 = y;", "while (y.load() != 1) { cpu_relax(); }", `\`while (y.load() != 1)\`${OF_WAITING}`],
+  ["int r0 = y;", "while (y.load() != 1) { cpu_relax(); x = 1; }", `\`while (y.load() != 1)\`${OF_LOOPS}`],
   ["int r0 = y;", "goto L;", "`goto L`: `goto` and labels are not rewritten"],
   ["// lw", "x = 1;\n// lw", `\`x = 1;\`${OF_GLOBALS}`],
   ["int d;", "long d;", `\`long d;\`${OF_GLOBALS}`],
@@ -442,6 +459,7 @@ function comparePrograms(page, compare) {
   compare("a text that is no program has another hint", null, page.other_tools.findOtherLanguage({ text: "X86 A", index: 0, token: "X86" }));
 }
 
+const LOOP = PROGRAM.split("//")[0].replace("int r0 = y;", "while (y) ;");
 const SB = "exists (0:EAX=0 /\\ 1:EAX=0)\n";
 const BLOCK = "{ x=0; y=0; }\n";
 const NINE = [..."abcdefghi"];
@@ -604,8 +622,34 @@ exists (x=1)
   ["two initial values without a mark between", "C SB\n{ x=1 y=2; }\nP0 (int *x) { }\nexists (x=1)\n", `\`x=1 y=2\`${OF_ENTRIES}`],
   ["an initial value that is an address", "C SB\n{ x=y; }\nP0 (int *x) { }\nexists (x=1)\n", `\`x=y\`${OF_ENTRIES}`],
   ["a register in the initial values", "C SB\n{ 0:r0=1; }\nP0 (int *x) { }\nexists (x=1)\n", `\`0:r0=1\`${OF_ENTRIES}`],
-  ["a race with a store that is atomic", "C SB\n{}\nP0 (int *x) { *x = 1; }\nP1 (int *x) { int r0 = READ_ONCE(*x); }\nexists (1:r0=1)\n",
-    `\`x\`${RACE}`],
+  ["a race with a load that is volatile", "C SB\n{}\nP0 (int *x) { *x = 1; }\nP1 (int *x) { int r0 = READ_ONCE(*x); }\nexists (1:r0=1)\n", `X86 SB
+(* 1:EAX is r0 *)
+{ x=0; }
+ P0         | P1          ;
+ MOV [x],$1 | MOV EAX,[x] ;
+exists (1:EAX=1)
+`],
+  ["two loops that wait, and plain variables on which threads race", `std::atomic<int> go{0}, done{5};
+std::atomic<bool> ready;
+int data, more;
+void P0() { while (go.load(std::memory_order_acquire) != 2) { std::this_thread::yield(); } data = 1; more = data + 1; while (!ready) { } }
+void P1() { go = 2; int last; do last = done; while (last == 5); int seen = data, r1 = more; ready = true; }
+~exists (1:seen=0 \\/ 1:r1=0)
+`, `X86 Mine
+(* 0:EAX is go after its loop, 0:EBX is ready after loop 2, 1:EAX is last, 1:EBX is seen, 1:ECX is r1 *)
+{ go=0; done=5; ready=0; data=0; more=0; }
+ P0              | P1               ;
+ MOV EAX,[go]    | MOV EDX,$2       ;
+ MOV [data],$1   | XCHG [go],EDX    ;
+ MOV ECX,[data]  | MOV EAX,[done]   ;
+ ADD ECX,$1      | MOV EBX,[data]   ;
+ MOV [more],ECX  | MOV ECX,[more]   ;
+ MOV EBX,[ready] | MOV EDX,$1       ;
+                 | XCHG [ready],EDX ;
+~exists (0:EAX=2 /\\ 0:EBX=1 /\\ ~1:EAX=5 /\\ (1:EBX=0 \\/ 1:ECX=0))
+`],
+  ["a question that does not close, after a loop", `${LOOP}exists x=1) \\/ (x=2\n`,
+    "`exists x=1) \\/ (x=2`: a question is `exists (..)`, `~exists (..)` or `forall (..)`"],
   ["five threads", `atomic_int x;\n${[0, 1, 2, 3, 4].map((it) => `void P${it}() { x = 1; }\n`).join("")}// lw: exists (x=1)\n`,
     "there are more than 4 threads"],
   ["33 instructions", `atomic_int x;\nvoid P0() { ${"x++; ".repeat(17)}}\n// lw: exists (x=1)\n`, "a thread has too many statements"],
@@ -617,16 +661,20 @@ const BEGIN = "This begins as a program or a test in C does.";
 const BUTTON =
   " The button makes an x86 test of it: each access as gcc and clang compile it, in the order of the program. That is not proved, and a compiler may " +
   "also reorder or merge relaxed and plain accesses.";
+const GUESS = " The question is a guess: change it to yours.";
 const FIRST = "The threads are functions in C: the first word is `C` then.";
 const WOULD = "The page would rewrite this program in C as an x86 test,";
 const WOULD_IN_CPP = WOULD.replace("in C", "in C++");
 const IN_RUST = "This begins as a program in Rust does. Here only `SRC` and `X86` tests are read.";
-const LOOP = PROGRAM.replace("int r0 = y;", "while (y) ;");
+const LOCK = PROGRAM.replace("int r0 = y;", "while (y.exchange(1)) ;");
+const OF_LOCKS = `\`while (y.exchange(1))\`${OF_LOOPS}`;
+const WAITS = " A loop that waits is one load here: states in which it has not ended are in the list, too, and the question leaves them out.";
+const makePlain = (names) => ` ${names} plain: each access is one \`MOV\` here, which a compiler need not keep if threads race on `;
 // A text, its words, how the words on the command end, and the place if the text is not rewritten, as its row and its column.
 const HINTS = [
   ["a program", `/* Mine. */\n${PROGRAM}`, `${BEGIN}${BUTTON}`, "as `// lw: exists (0:r0=0)` does."],
   ["C++", `std::atomic<int> x;\n${PROGRAM.split("\n").slice(1).join("\n").replace(/y/g, "x")}`, `${BEGIN}${BUTTON}`, "does."],
-  ["no question", PROGRAM.split("//")[0], `${BEGIN}${BUTTON} The question is a guess: change it to yours.`, "does."],
+  ["no question", PROGRAM.split("//")[0], `${BEGIN}${BUTTON}${GUESS}`, "does."],
   ["no question and no load", "atomic_int x;\nvoid P0() { x++; }\n",
     `${BEGIN}${BUTTON} The question \`true\` holds always: look at the list of states.`, "does."],
   ["a test of herd", WHOLE[0][1], `${BEGIN}${BUTTON}`,
@@ -634,11 +682,15 @@ const HINTS = [
     "`atomic_load_explicit(x, memory_order_relaxed)`.)"],
   ["the first word X86", WHOLE[2][1], `${FIRST}${BUTTON}`,
     "`python3 tools/from_c.py --show SB.cc` prints a test for this page. Its first word is `C` then."],
-  ["a loop", LOOP, `${WOULD} but not \`while (y)\`${OF_WAITING}.`, "does.", [2, 24]],
-  ["a loop after blank lines and a comment", `\n\n/* One. */ // Two.\n${LOOP}`, `${WOULD} but not \`while (y)\`${OF_WAITING}.`, "does.", [5, 24]],
-  ["a loop in C++", LOOP.replace("atomic_int x", "std::atomic<int> x"), `${WOULD_IN_CPP} but not \`while (y)\`${OF_WAITING}.`, "does.", [2, 24]],
-  ["a loop in a test that begins with X86", WHOLE[2][1].replace("int r0 = *x;", "while (*x) ;"),
-    `${WOULD_IN_CPP} but not \`while (*x)\`${OF_WAITING}.`, "Its first word is `C` then.", [4, 61]],
+  ["a loop", LOCK, `${WOULD} but not ${OF_LOCKS}.`, "does.", [2, 24]],
+  ["a loop after blank lines and a comment", `\n\n/* One. */ // Two.\n${LOCK}`, `${WOULD} but not ${OF_LOCKS}.`, "does.", [5, 24]],
+  ["a loop in C++", LOCK.replace("atomic_int x", "std::atomic<int> x"), `${WOULD_IN_CPP} but not ${OF_LOCKS}.`, "does.", [2, 24]],
+  ["a loop in a test that begins with X86", WHOLE[2][1].replace("int r0 = *x;", "while (x->exchange(1)) ;"),
+    `${WOULD_IN_CPP} but not \`while (x->exchange(1))\`${OF_LOOPS}.`, "Its first word is `C` then.", [4, 61]],
+  ["a loop that waits, and a plain variable", LOOP.replace("x = 1;", "d = 1;").replace("y = 1;", "y = d;"),
+    `${BEGIN}${BUTTON}${makePlain("`d` is")}it.${WAITS}${GUESS}`, "does."],
+  ["three plain variables", "int x, y, z;\nvoid P0() { x = 1; y = 1; z = 1; }\nvoid P1() { x = 2; y = 2; z = 2; }\n// lw: exists (x=1)\n",
+    `${BEGIN}${BUTTON}${makePlain("`x`, `y` and `z` are")}them.`, "does."],
   ["a question of a register that nothing sets", PROGRAM.replace("1:r0", "1:r1"), `${WOULD} but not \`1:r1\`${UNSET}.`, "does.", [4, 26]],
   ["no thread", "C SB\n{}\n", `${WOULD} but not \`C SB {}\`: threads are functions \`P0\`, \`P1\` and so on.`, "page.", [1, 1]],
   ["nine locations", WHOLE.at(-1)[1], `${WOULD} which lw refuses: there are more than 8 locations.`, "does.", null],
