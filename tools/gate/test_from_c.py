@@ -121,6 +121,18 @@ BRANCHING = (
     ("if (x) { int t = y; if (t == 1) y = 2; else if (t == 2) y = 3; }", "y = 1; atomic_thread_fence(memory_order_seq_cst); x = 1; int r0 = y;",
      "1:r0=0"),
 )
+# Programs that the page rewrites with loops that wait, and with plain variables on which threads may race. Each has two threads and its question.
+AWAITED = (
+    ("data = 1; atomic_store_explicit(&x, 1, memory_order_release);",
+     "while (!atomic_load_explicit(&x, memory_order_acquire)) ; int r0 = data; lw_see(r0, r0);", "1:r0=0"),
+    ("data = 1; more = 2; x = 2;", "int r1 = 0; do r1 = x; while (r1 != 2); int r0 = data + 1; int r2 = more; lw_see(r0, r0); lw_see(r2, r2);",
+     "1:r0=0 /\\ 1:r2=0 /\\ 1:r1=2"),
+    ("x = 1; while (atomic_load_explicit(&y, memory_order_acquire) == 0) { } int r0 = data; lw_see(r0, r0);",
+     "while (atomic_load_explicit(&x, memory_order_acquire) == 0) { } data = 3; y = 1; data = 4;", "0:r0=0"),
+    ("atomic_store_explicit(&x, 1, memory_order_relaxed); while (!atomic_load_explicit(&z, memory_order_relaxed)) ; int r0 = y; lw_see(r0, r0);",
+     "atomic_store_explicit(&y, 1, memory_order_relaxed); atomic_store_explicit(&z, 1, memory_order_relaxed); int r1 = x; lw_see(r1, r1);",
+     "0:r0=0 /\\ 1:r1=0"),
+)
 # The orders of stores, loads and all others, for each variant of a shape.
 ORDERS = (("relaxed", "relaxed", "relaxed"), ("release", "acquire", "acq_rel"), ("seq_cst", "seq_cst", "seq_cst"))
 
@@ -158,6 +170,13 @@ def make_branching(first: str, second: str, question: str) -> str:
     return "\n".join(["#include <stdatomic.h>", "atomic_int x, y;", *threads, f"// lw: exists ({question} /\\ x=0 /\\ y=0)", ""])
 
 
+def make_awaited(first: str, second: str, question: str) -> str:
+    """Returns a program of two threads in C with loops that wait, by their code and its question, which names all locations besides."""
+    threads = f"void P0(void) {{ {first} }}\nvoid P1(void) {{ {second} }}\n"
+    names = "".join(f" /\\ {it}=0" for it in ("x", "y", "z", "data", "more") if re.search(rf"\b{it}\b", threads))
+    return f"#include <stdatomic.h>\natomic_int x, y, z;\nint data, more;\n{threads}// lw: exists ({question}{names})\n"
+
+
 def convert_to_herd_form(text: str) -> str:
     """Returns a program that `make_shape` made as a test in herd's form."""
     locations = require_match(re.search(r"atomic_int (.*);", text))[1].split(", ")
@@ -183,6 +202,17 @@ def list_rewritten_states(made: str) -> set[frozenset[tuple[str, str]]]:
     """Returns the states of a test that the page made, by tools/plain.py, with the names of its source's variables."""
     pairs = re.findall(r"(\d):(E\w\w) is (\w+)", made)
     return parse_states(plain.make_report(plain.read_test(made)), {f"{thread}:{register}": f"{thread}:{name}" for thread, register, name in pairs})
+
+
+def list_ended_states(text: str, made: str) -> set[frozenset[tuple[str, str]]]:
+    """Returns the states of a test that the page made in which the loops of its program have ended, without the loads of loops that have no name."""
+    count = text.count("while")
+    atoms = require_match(re.search(r"exists \((.*)\)$", made, re.M))[1].split(" /\\ ")[:count]
+    states = parse_states(plain.make_report(plain.read_test(made)), {})
+    ended = [state for state in states if all((tuple(it.lstrip("~").split("=")) in state) != it.startswith("~") for it in atoms)]
+    names = {site: name for site, name in re.findall(r"(\d:E\w\w) is ([\w ]*\w)", made)}
+    rename = lambda state: {(site[:2] + names[site] if site in names else site, word) for site, word in state}
+    return {frozenset(it for it in rename(state) if " after " not in it[0]) for state in ended}
 
 
 def make_program(*threads: str, data: str = DATA, after: str = "") -> str:
@@ -876,6 +906,17 @@ class Compiled(cases.Case):
             answer = from_c.convert_source(read_source("a.c", text), compiler, 1)[0]
             with self.subTest(text, made=made):
                 self.compare("from_c", compiler, text, parse_states(answer.report, {}), list_rewritten_states(made))
+
+    @unittest.skipUnless(shutil.which("node"), "node is not here")
+    def test_awaited(self) -> None:
+        """Programs with loops that wait, as the page rewrites them, have the states in which these have ended, as a compiler makes them."""
+        programs = [make_awaited(*it) for it in AWAITED]
+        rewritten = rewrite_by_page([re.sub(r" lw_see\(\w+, \w+\);", "", it) for it in programs])
+        for compiler in sorted({it.split()[0] + " -O2" for it in list_compilers(".c")}):
+            for text, made in zip(programs, rewritten):
+                answer = from_c.convert_source(read_source("a.c", text), compiler, 3)[0]
+                with self.subTest(text, compiler=compiler, made=made):
+                    self.assertEqual(parse_states(answer.report, {}), list_ended_states(text, made))
 
     def test_native(self) -> None:
         """No state is seen on this processor that is not listed, in some thousand runs of the same assembly."""
