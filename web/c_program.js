@@ -63,14 +63,34 @@ function formatRows(writers) {
 }
 
 /**
- * Returns a question for a test that has none: whether all variables that threads loaded last can be 0. It lists the other registers, and all
- * locations if no thread loads.
+ * Returns the names of locations whose last word says what a run did, and that no question names: those that two threads write, and those that are
+ * written and not read.
  */
-function guessQuestion(writers, sites, used) {
-  const asked = writers.filter((it) => it.known.has(it.loaded)).map((it) => it.makeSite(it.loaded));
-  const listed = [...sites.filter((it) => !asked.includes(it)), ...(asked.length ? [] : used)];
-  const list = listed.length ? `locations [${listed.join("; ")}]\n` : "";
-  return `${list}exists (${asked.map((it) => `${it}=0`).join(" /\\ ") || "true"})`;
+function listWritten(accesses, question) {
+  const isListed = (name) => {
+    const all = accesses.filter((it) => it.name === name);
+    const writers = new Set(all.filter((it) => it.isWrite).map((it) => it.thread));
+    return writers.size > 1 || (writers.size === 1 && !all.some((it) => it.isRead));
+  };
+  return [...new Set(accesses.map((it) => it.name))].filter((it) => isListed(it) && !new RegExp(`\\b${it}\\b`).test(question));
+}
+
+/** Returns a question for a test that has none: whether all variables that threads loaded last can be 0. It is `true` if no thread loads. */
+function guessQuestion(writers) {
+  const asked = writers.filter((it) => it.known.has(it.loaded)).map((it) => `${it.makeSite(it.loaded)}=0`);
+  return `exists (${asked.join(" /\\ ") || "true"})`;
+}
+
+/**
+ * Returns the list of sites that a question does not name, as the line before it; "" if there is none. If the question is a guess, these are also
+ * registers, and all locations if it is of nothing.
+ */
+function formatList(question, isGuess, accesses, sites) {
+  if (question.startsWith("locations")) return "";
+  const registers = isGuess ? sites.filter((it) => !question.includes(it)) : [];
+  const names = isGuess && question.endsWith("(true)") ? [...new Set(accesses.map((it) => it.name))] : listWritten(accesses, question);
+  const listed = [...registers, ...names];
+  return listed.length ? `locations [${listed.join("; ")}]\n` : "";
 }
 
 /** Returns the record of `rewriteProgram` of a text. Throws NoTest if it is not rewritten. */
@@ -85,10 +105,10 @@ function writeTest(text) {
   const comment = sites.length ? `(* ${sites.map(({ site, variable }) => `${site} is ${variable}`).join(", ")} *)\n` : "";
   const block = [...program.words].filter(([name]) => used.has(name)).map(([name, word]) => `${name}=${word}; `).join("");
   const ends = listEnds(writers);
-  const others = sites.map((it) => it.site).filter((site) => !ends.some((it) => it.name === site));
-  const whole = asked || guessQuestion(writers, others, used);
-  const end = ends.length ? limitQuestion(whole, ends) ?? refusePart(program.question, OF_QUESTION) : whole;
-  const made = alignCells(`X86 ${program.name}\n${comment}{ ${block}}\n${formatRows(writers)}${end}\n`);
+  const whole = asked || guessQuestion(writers);
+  const question = ends.length ? limitQuestion(whole, ends) ?? refusePart(program.question, OF_QUESTION) : whole;
+  const list = formatList(question, !asked, accesses, sites.map((it) => it.site));
+  const made = alignCells(`X86 ${program.name}\n${comment}{ ${block}}\n${formatRows(writers)}${list}${question}\n`);
   return { made, isGuess: !asked, races: listRaces(accesses), isWaiting: ends.length > 0 };
 }
 

@@ -3,8 +3,8 @@
 // The records `Part` and `Declaration` are those of c_reader.js, and `Statement` is that of c_statements.js.
 // An `Operation` has its `kind` (load, store, exchange, fetch_add or fetch_sub), its `order`, the `name` of a shared variable, which `isPointer` if
 // the code uses it as one, and the code of the `value` that it stores or adds, or "".
-// An `Access` has the number of its `thread`, its `statement`, and the `name` of its location. It `isPlain` and `isWrite`, or not, and the location
-// `isBool`, or not.
+// An `Access` has the number of its `thread`, and the `name` of its location. It `isPlain`, `isRead` if its result is used, and `isWrite`, or not, and
+// the location `isBool`, or not.
 
 import { parseConstant, refusePart, squeezeCode } from "./c_reader.js";
 import { explainCondition, explainStatement, removeOuterParentheses, splitTerms } from "./c_statements.js";
@@ -228,7 +228,8 @@ export class ValueWriter {
     const { kind, order, name, value } = operation;
     const { isBool } = this.variables.get(name);
     const isPlain = order === "plain";
-    this.accesses.push({ thread: this.number, statement: this.statement, name, isPlain, isWrite: kind !== "load", isBool });
+    const isRead = kind !== "store" && register !== undefined;
+    this.accesses.push({ thread: this.number, name, isPlain, isRead, isWrite: kind !== "load", isBool });
     const target = register ?? SPARE;
     if (kind === "load") this.writeInstruction(`MOV ${target},[${name}]`);
     else if (kind === "store" && order !== "seq_cst") this.writeStore(operation);

@@ -597,6 +597,33 @@ forall (x=2 /\\ d=4)
 locations [x; y]
 exists (true)
 `],
+  ["no question, and a location that two threads write", "volatile int x, y, z;\nvoid P0() { x = 1; y = 1; }\nvoid P1() { y = 2; z = 3; int r0 = x; }\n",
+    `X86 Mine
+(* 1:EAX is r0 *)
+{ x=0; y=0; z=0; }
+ P0         | P1          ;
+ MOV [x],$1 | MOV [y],$2  ;
+ MOV [y],$1 | MOV [z],$3  ;
+            | MOV EAX,[x] ;
+locations [y; z]
+exists (1:EAX=0)
+`],
+  ["a question that does not name what two threads write", "volatile int x, y;\nvoid P0() { x = 2; y = 1; }\nvoid P1() { int r0 = y; x = 1; }\nexists (1:r0=1)\n",
+    `X86 Mine
+(* 1:EAX is r0 *)
+${BLOCK} P0         | P1          ;
+ MOV [x],$2 | MOV EAX,[y] ;
+ MOV [y],$1 | MOV [x],$1  ;
+locations [x]
+exists (1:EAX=1)
+`],
+  ["no question, and only stores", "volatile int x, y;\nvoid P0() { x = 1; y = 2; }\nvoid P1() { y = 1; x = 2; }\n", `X86 Mine
+${BLOCK} P0         | P1         ;
+ MOV [x],$1 | MOV [y],$1 ;
+ MOV [y],$2 | MOV [x],$2 ;
+locations [x; y]
+exists (true)
+`],
   ["a question after another comment in its line", "atomic_int x;\nvoid P0() { x++; } // One. // lw: exists (x=1)\n", `X86 Mine
 { x=0; }
  P0                ;
