@@ -7,7 +7,7 @@
 // `isJoining` if its handle joins it at the end of a block, or not.
 
 import { formatAssertion, formatFormula, parseFormula } from "./c_question.js";
-import { declareVariables, findClosing, parseConstant, parseDeclaration, refusePart, squeezeCode } from "./c_reader.js";
+import { declareVariables, defineName, findClosing, parseConstant, parseDeclaration, refusePart, replaceNames, squeezeCode } from "./c_reader.js";
 import { splitOutside, StatementReader } from "./c_statements.js";
 
 // A lambda up to its code: the group is what it captures.
@@ -126,7 +126,7 @@ class MainFollower {
     if (!this.threads.length) refusePart(statement, OF_BEFORE);
     if (this.running.size) refusePart(statement, OF_UNJOINED);
     if (this.question && !(isAsserted && this.asserted.length)) refusePart(statement, OF_ASKED);
-    const formula = parseFormula(squeezeCode(condition)) ?? refusePart(statement, OF_FORMULAS);
+    const formula = parseFormula(this.squeeze(condition)) ?? refusePart(statement, OF_FORMULAS);
     if (isAsserted) this.asserted.push(formula);
     const { index } = this.question?.source ?? statement;
     const source = { code: this.program.text.slice(index, statement.index + statement.code.length), index };
@@ -135,7 +135,7 @@ class MainFollower {
 
   /** Follows a statement that has no statements in it, except in lambdas. */
   followSimple(statement) {
-    const code = squeezeCode(this.takeLambdas({ code: removeStrings(statement.code), index: statement.index }));
+    const code = this.squeeze(this.takeLambdas({ code: removeStrings(statement.code), index: statement.index }));
     if (isHarmless(code)) return;
     const starts = this.parseStarts(code);
     const [, lambdaName, lambda] = NAMED_LAMBDA.exec(code) ?? [];
@@ -147,6 +147,11 @@ class MainFollower {
     else if (condition) this.ask(statement, () => formatAssertion(joinFormulas(this.asserted)), condition, true);
     else if (!this.threads.length) this.setWords(code, statement);
     else refusePart(statement, this.running.size ? OF_RUNNING : OF_AFTER);
+  }
+
+  /** Returns squeezed code with the values of names in place of these. */
+  squeeze(code) {
+    return squeezeCode(replaceNames(code, this.program.names));
   }
 
   /** Returns the code of a part with names in place of its lambdas, which are functions then. */
@@ -223,7 +228,8 @@ class MainFollower {
 
   /** Declares variables, or sets one to a constant, before threads run. */
   setWords(code, statement) {
-    const { globals, words } = this.program;
+    const { globals, words, names } = this.program;
+    if (defineName(code, names)) return;
     const declared = parseDeclaration(code);
     if (declared.some((it) => globals.has(it.name))) refusePart(statement, OF_NAMES);
     if (declared.length) {

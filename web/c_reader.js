@@ -1,7 +1,7 @@
 // Reads a program in C or C++, or a test of herd in C: its shared variables, its threads, which are functions, and its question. Not proved.
 //
 // A `Program` has its `text`, a `name`, the initial `words` of its shared variables by their names, the declarations of those outside of functions in
-// `globals`, its `threads`, and its `question`. It `isHerd`, or not. If it has a `main`, this is a `Part`, and its threads are all other functions
+// `globals`, the values of its constants by their `names`, its `threads`, and its `question`. It `isHerd`, or not. If it has a `main`, this is a `Part`, and its threads are all other functions
 // until c_main.js has followed it.
 // A `Part` has its `code`, as the program has it, or "", and its `index` in the text. A question is one; if `main` asks it, it has also the `source`
 // in `main`, which is a part.
@@ -35,7 +35,17 @@ const WORD_TYPE = /^(?:(?:static|extern|inline|const|(?:un)?signed|int|u?int32_t
 // The parameters of a thread: none, or a pointer to anything, whose name is the group.
 const PARAMETERS = /^\s*(?:void\s*(?:\*\s*(\w*)\s*)?)?$/;
 const PROTOTYPE = /^(?:\w+[\s*]+)+\w+\s*\([^(){};]*\)\s*;/;
-const MACRO = /^#\s*define\b.*/;
+// A macro: the groups are its name, unless it has parameters, and its text. And a constant of C++ or C, with its name and its value.
+const MACRO = /^#[ \t]*define\b(?:[ \t]+(\w+)(?![\w(])[ \t]*(.*)|.*)/;
+const CONSTANT = /^(?:(?:static|inline)\s+)*(?:constexpr|const)\s+(?:auto|(?:unsigned\s+)?int|u?int32_t|(?:std::)?memory_order)\s+(\w+)\s*[={]\s*([\w:]+)\s*\}?\s*;/;
+const ORDER = /^memory_order_\w+$/;
+// In squeezed code, a name for an order of memory, and a reference by which a variable is atomic: the groups are its name, and what it refers to.
+const NAMED_ORDER = /^(?:static |const |constexpr )*(?:auto|memory_order) (\w+)[={](memory_order_\w+)\}?$/;
+const REFERENCE = /^(?:static |const )*(?:atomic_ref(?:<[\w ]{0,40}>| )(\w+)|auto (\w+)=atomic_ref(?:<[\w ]{0,40}>)?)[({](\w+)[)}]$/;
+// The begin of a block of declarations.
+const SPACE = /^(?:(?:inline\s+)?namespace(?:\s+[\w:]+)?|extern\s+"C")\s*\{/;
+// What may be a name with a value: a name, or one of a member, of which the groups are both names.
+const NAME_OF_VALUE = /\b([A-Za-z_]\w*)(?:\s{0,9}\.\s{0,9}([A-Za-z_]\w*))?/g;
 const CLOSING = { "(": ")", "{": "}", "[": "]" };
 // What is outside of functions, to its end.
 const STATEMENT = /^[^;]*;/;
@@ -110,11 +120,53 @@ export function squeezeCode(code) {
   const short = code.replace(/([+-])\s+(?=[+-]|=(?!=))|([=!])\s+(?==)/g, "$&@").replace(/\s+/g, " ").replace(/ ?([^\w ]) ?/g, "$1").trim();
   return short
     .replace(/\bstd::/g, "")
+    .replace(/\batomic_ref(?:<[\w ]{0,40}>)?[({](\w+)[)}](?=\.)/g, "$1")
+    .replace(/\bATOMIC_VAR_INIT\((\w+)\)/g, "$1")
     .replace(/\bmemory_order::/g, "memory_order_")
     .replace(/\b(\w+)(\.|->)(load|store|exchange|fetch_\w+)\(/g, (_, name, sign, method) => `atomic_${method}(${sign === "." ? "&" : ""}${name},`)
     .replace(/\b(READ|WRITE)_ONCE\((\*?)/g, (_, macro, star) => `atomic_${macro === "READ" ? "load" : "store"}_relaxed(${star ? "" : "&"}`)
     .replace(/\bsmp_(load_acquire|store_release)\(/g, "atomic_$1(")
     .replace(/\bxchg\(/g, "atomic_exchange(");
+}
+
+/**
+ * Returns code with other code in place of names. A name before a `.` is that of an object.
+ * @param {string} code
+ * @param {Map<string, string>} names
+ * @returns {string}
+ */
+export function replaceNames(code, names) {
+  if (!names.size) return code;
+  return code.replace(NAME_OF_VALUE, (whole, name, member) => {
+    const field = names.get(`${name}.${member}`);
+    if (field ?? !member) return field ?? names.get(name) ?? name;
+    return `${names.get(`${name}.`) ?? names.get(name) ?? name}.${names.get(member) ?? member}`;
+  });
+}
+
+/**
+ * Adds to `names` what squeezed code names: an order of memory, or a reference by which a variable is atomic. Returns whether it names one.
+ * @param {string} code
+ * @param {Map<string, string>} names
+ * @returns {boolean}
+ */
+export function defineName(code, names) {
+  const [, name, order] = NAMED_ORDER.exec(code) ?? [];
+  const [, first, second, variable] = REFERENCE.exec(code) ?? [];
+  if (order) names.set(name, order);
+  // Only its methods are atomic without a word that says so.
+  if (variable) names.set(`${first ?? second}.`, variable);
+  return Boolean(order || variable);
+}
+
+/**
+ * Returns the code of a constant, or of an order of memory, without blanks and `std::`; null if code is neither.
+ * @param {string} code
+ * @returns {string | null}
+ */
+export function parseNamedValue(code) {
+  const value = squeezeCode(code).replace(/^\((.*)\)$/, "$1");
+  return parseConstant(value) !== null || ORDER.test(value) ? value : null;
 }
 
 /**
@@ -152,6 +204,7 @@ class ProgramReader {
     this.name = "Mine";
     this.words = new Map();
     this.globals = new Map();
+    this.names = new Map();
     this.threads = [];
     this.main = null;
   }
@@ -178,8 +231,8 @@ class ProgramReader {
     this.rest = this.rest.replace(HEADERS, blank).replace(WITHOUT_EFFECT, blank).trimStart();
     while (this.rest && !QUESTION.test(this.rest)) this.readDefinition();
     const question = this.rest ? this.cutPart(this.rest.length) : asked;
-    const { text, name, isHerd, words, globals, threads, main } = this;
-    return { text, name, isHerd, words, globals, threads, main, question };
+    const { text, name, isHerd, words, globals, names, threads, main } = this;
+    return { text, name, isHerd, words, globals, names, threads, main, question };
   }
 
   /** Takes the comments out of the text. Returns the question in them. Throws NoTest if a program asks twice. */
@@ -209,22 +262,41 @@ class ProgramReader {
   /** Reads a function, or a declaration outside of them. */
   readDefinition() {
     const found = FUNCTION.exec(this.rest);
-    if (found) {
-      this.readFunction(found);
-      return;
-    }
     const [prototype] = (!this.isHerd && PROTOTYPE.exec(this.rest)) || [];
-    if (prototype) {
-      this.skipPart(prototype.length);
-      return;
-    }
-    const [macro] = MACRO.exec(this.rest) ?? [];
-    if (macro) refusePart(this.cutPart(macro.length), ": write its text where it is used");
+    if (found) this.readFunction(found);
+    else if (prototype) this.skipPart(prototype.length);
+    else if (!this.readNamedValue() && !this.readSpace()) this.readVariables();
+  }
+
+  /** Reads a macro or a constant, if one is here, and returns whether it is. Throws NoTest at a macro that is no constant. */
+  readNamedValue() {
+    const [macro, macroName, text = ""] = MACRO.exec(this.rest) ?? [];
+    const [constant, constantName, code = ""] = CONSTANT.exec(this.rest) ?? [];
+    const value = parseNamedValue(replaceNames(macro ? text : code, this.names));
+    if (macro && (!macroName || value === null)) refusePart(this.cutPart(macro.length), ": write its text where it is used");
+    if (value === null) return false;
+    this.names.set(macroName ?? constantName, value);
+    this.skipPart((macro ?? constant).length);
+    return true;
+  }
+
+  /** Reads the begin of a namespace, if one is here, whose end is blank then. Returns whether it is. */
+  readSpace() {
+    const [head] = SPACE.exec(this.rest) ?? [];
+    const end = head ? findClosing(this.rest, head.length - 1) : -1;
+    if (end < 0) return false;
+    this.rest = `${this.rest.slice(0, end)} ${this.rest.slice(end + 1)}`;
+    this.skipPart(head.length);
+    return true;
+  }
+
+  /** Reads a declaration of variables. */
+  readVariables() {
     const [whole] = STATEMENT.exec(this.rest) ?? [this.rest];
     const part = this.cutPart(whole.length);
     if (this.isHerd) refusePart(part, OF_END);
     if (!whole.endsWith(";")) refusePart(part, OF_GLOBALS);
-    declareVariables(this, this.globals, whole.slice(0, -1), part, OF_GLOBALS);
+    if (!defineName(squeezeCode(whole.slice(0, -1)), this.names)) declareVariables(this, this.globals, whole.slice(0, -1), part, OF_GLOBALS);
     this.skipPart(whole.length);
   }
 
@@ -253,14 +325,14 @@ class ProgramReader {
 /**
  * Adds what code declares to some variables, and the initial words of these to a program's. Throws NoTest for the part that is `shown`, with a reason,
  * if it is no declaration of shared variables, which are pointers in herd's form only.
- * @param {{words: Map<string, number>, isHerd: boolean}} program
+ * @param {{words: Map<string, number>, names: Map<string, string>, isHerd: boolean}} program
  * @param {Map<string, Declaration>} variables
  * @param {string} code
  * @param {Part} shown
  * @param {string} why
  */
-export function declareVariables({ words, isHerd }, variables, code, shown, why) {
-  const declared = parseDeclaration(squeezeCode(code));
+export function declareVariables({ words, names, isHerd }, variables, code, shown, why) {
+  const declared = parseDeclaration(squeezeCode(replaceNames(code, names)));
   if (!declared.length || declared[0].isPointer !== isHerd) refusePart(shown, why);
   for (const variable of declared) {
     const { name, value, isBool } = variable;

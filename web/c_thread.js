@@ -2,7 +2,7 @@
 //
 // The records `Program` and `CThread` are those of c_reader.js, and `Statement` is that of c_statements.js.
 
-import { parseConstant, parseDeclaration, refusePart, squeezeCode } from "./c_reader.js";
+import { defineName, parseConstant, parseDeclaration, refusePart } from "./c_reader.js";
 import { OF_CONDITIONS, OF_LOOPS, parseCondition, readStatements } from "./c_statements.js";
 import { isTruth, OF_BOOLS, OF_STEPS, OF_SUBTRACTION, parseStep, SPARE, ValueWriter } from "./c_values.js";
 import { REGISTERS } from "./token_reader.js";
@@ -52,9 +52,9 @@ export class ThreadWriter extends ValueWriter {
    * @param {Program} program
    * @param {number} number
    */
-  constructor({ words, threads, isHerd }, number) {
+  constructor({ words, names, threads, isHerd }, number) {
     const { name, head, code, parameters, variables, returnsWord, isStarted } = threads[number];
-    super(number, variables);
+    super(number, variables, names);
     Object.assign(this, { name, head, code, parameters, words, returnsWord, isStarted, isHerd });
     // The shared variables that only this thread uses, and that are neither atomic nor volatile. They have registers.
     const isUsed = (variable, thread) => new RegExp(`\\b${variable}\\b`).test(thread.code.code);
@@ -104,7 +104,7 @@ export class ThreadWriter extends ValueWriter {
       if (statement.block) this.writeBlock(statement.block, isEnd);
       else if (statement.then) this.writeBranch(statement, isEnd);
       else if (statement.condition !== undefined) this.writeWaiting(statement);
-      else this.writeSimple(squeezeCode(statement.code), isEnd);
+      else this.writeSimple(this.squeeze(statement.code), isEnd);
     }
   }
 
@@ -122,7 +122,7 @@ export class ThreadWriter extends ValueWriter {
   writeBranch({ condition, then, otherwise }, isLast) {
     const other = isLast && !otherwise.length ? END : this.makeLabel();
     const end = isLast ? END : otherwise.length ? this.makeLabel() : other;
-    this.writeCondition(squeezeCode(condition), other);
+    this.writeCondition(this.squeeze(condition), other);
     this.branchCount += 1;
     const before = new Set(this.known);
     this.writeBlock(then, isLast && !otherwise.length);
@@ -144,10 +144,10 @@ export class ThreadWriter extends ValueWriter {
    * so that a question can ask how it ended. Throws NoTest if the loop may not be reached, or has more than one load.
    */
   writeWaiting({ condition, assigns }) {
-    const [comparison, another] = parseCondition(squeezeCode(condition)) ?? [];
+    const [comparison, another] = parseCondition(this.squeeze(condition)) ?? [];
     const [value, word] = [comparison?.sides[0], parseConstant(comparison?.sides[1] ?? "")];
     const isAssigned = assigns && assigns.startsWith(`${value}=`);
-    const [, place, load] = AWAITED.exec(isAssigned ? assigns : assigns ? "" : value ?? "") ?? [];
+    const [, place, load] = AWAITED.exec(isAssigned ? this.squeeze(assigns) : assigns ? "" : value ?? "") ?? [];
     const isLoad = load && parseConstant(load) === null && !this.locals.has(load) && (!place || this.locals.has(place));
     if (another || word === null || !isLoad) this.refuseStatement(OF_LOOPS);
     if (this.branchCount || this.exits.length) this.refuseStatement(OF_BRANCHES);
@@ -177,6 +177,7 @@ export class ThreadWriter extends ValueWriter {
 
   /** Writes a statement that has no statements in it: a declaration, a fence, a `return`, or an operation. */
   writeSimple(statement, isLast) {
+    if (defineName(statement, this.names)) return;
     const declared = parseDeclaration(statement);
     for (const variable of declared) {
       if (variable.isPointer) this.refuseStatement();

@@ -6,7 +6,7 @@
 // An `Access` has the number of its `thread`, and the `name` of its location. It `isPlain`, `isRead` if its result is used, and `isWrite`, or not, and
 // the location `isBool`, or not.
 
-import { parseConstant, refusePart, squeezeCode } from "./c_reader.js";
+import { parseConstant, refusePart, replaceNames, squeezeCode } from "./c_reader.js";
 import { explainCondition, explainStatement, removeOuterParentheses, splitTerms } from "./c_statements.js";
 import { REGISTERS, WORD } from "./token_reader.js";
 
@@ -68,12 +68,13 @@ export function parseStep(code) {
 /** Writes the instructions of values and operations of a thread. Which variables can be used is set from outside. */
 export class ValueWriter {
   /**
-   * Makes a writer for a thread, given its number and the shared variables. Nothing is written yet.
+   * Makes a writer for a thread, given its number, the shared variables, and the values of names. Nothing is written yet.
    * @param {number} number
    * @param {Map<string, Declaration>} variables
+   * @param {Map<string, string>} names
    */
-  constructor(number, variables) {
-    Object.assign(this, { number, variables });
+  constructor(number, variables, names) {
+    Object.assign(this, { number, variables, names: new Map(names) });
     this.instructions = [];
     this.accesses = [];
     // The labels of the next instruction.
@@ -92,7 +93,12 @@ export class ValueWriter {
   /** Throws NoTest for the statement, with the end of a sentence. */
   refuseStatement(why) {
     const { code, condition } = this.statement;
-    refusePart(this.statement, why ?? (condition === undefined ? explainStatement(squeezeCode(code)) : explainCondition(squeezeCode(condition))));
+    refusePart(this.statement, why ?? (condition === undefined ? explainStatement(this.squeeze(code)) : explainCondition(this.squeeze(condition))));
+  }
+
+  /** Returns squeezed code with the values of names in place of these. */
+  squeeze(code) {
+    return squeezeCode(replaceNames(code, this.names));
   }
 
   /** Writes an instruction, with the labels before it. */

@@ -355,7 +355,9 @@ const REFUSED = [
   ["int d;", "long d;", `\`long d;\`${OF_GLOBALS}`],
   ["int d;", "int d[2];", `\`int d[2];\`${OF_GLOBALS}`],
   ["int d;", "int *d;", `\`int *d;\`${OF_GLOBALS}`],
-  ["int d;", "#define N 1\nint d;", "`#define N 1`: write its text where it is used"],
+  ["int d;", "#define N x + 1\nint d;", "`#define N x + 1`: write its text where it is used"],
+  ["int d;", "#define F(a) 1\nint d;", "`#define F(a) 1`: write its text where it is used"],
+  ["int r0 = y;", "std::atomic_ref<int> rd(d); rd = 1;", "`rd = 1`: `rd` is not declared"],
   ["int d;", "struct s { int a; };", `\`struct s { int a;\`${OF_GLOBALS}`],
   ["int d;", "int d = x;", `\`int d = x;\`${OF_VALUES}`],
   ["int d;", "atomic_short d;", `\`atomic_short d;\`${OF_GLOBALS}`],
@@ -630,6 +632,30 @@ exists (true)
  MOV EAX,$1        ;
  LOCK XADD [x],EAX ;
 exists (x=1)
+`],
+  ["names of constants and orders, and what has no effect here", `#pragma once
+#  define ONE (1)
+#define ACQUIRE memory_order_acquire
+using std::memory_order_relaxed;
+constexpr auto rlx = std::memory_order_relaxed;
+static const int TWO = 2;
+namespace litmus {
+alignas(64) std::atomic<int> x{0};
+extern "C" { alignas(64) atomic_int y = ATOMIC_VAR_INIT(TWO); }
+[[maybe_unused]] int plain;
+void P0() noexcept { x.store(ONE, rlx); int r0 = y.load(ACQUIRE); std::atomic_ref<int>(plain).store(TWO, std::memory_order::release); }
+[[gnu::noinline]] void P1() { constexpr std::memory_order mine = rlx; std::atomic_ref<int> own(plain); while (y.load(rlx) == TWO) ; own.store(ONE, mine); }
+}
+exists (0:r0=1)
+`, `X86 Mine
+(* 0:EAX is r0, 1:EAX is y after its loop *)
+{ x=0; y=2; plain=0; }
+ P0             | P1             ;
+ MOV [x],$1     | MOV EAX,[y]    ;
+ MOV EAX,[y]    | MOV [plain],$1 ;
+ MOV [plain],$2 |                ;
+locations [x; plain]
+exists (~1:EAX=2 /\\ 0:EAX=1)
 `],
   ["two questions", `${PROGRAM}/* lw: exists (x=1) */\n`, "`/* lw: exists (x=1) */`: a second comment says what is asked"],
   ["a function without an end", PROGRAM.split("}")[0], "`void P0(void) {`: its `}` is missing"],
