@@ -12,8 +12,11 @@ const OF_OTHERS = `${HERE} They are of x86 processors, and no tool of lw convert
 const OTHERS = /^(?:AArch64|ARM|PPC|RISCV|MIPS)$/i;
 // The blanks and comments before a program in C, and how it begins.
 const C_COMMENTS = /^(?:\s|\/\/.*|\/\*[^]*?\*\/)*/;
-const C =
-  /^(?:C\s|#\s*(?:include|define)\b|(?:(?:extern|static|volatile|_Atomic)\s+)*(?:(?:atomic_\w+|int|void|unsigned|u?int\d+_t)\s|std::|_Atomic\())/;
+const C = new RegExp(
+  "^(?:C\\s|#[ \\t]*(?:include|define|pragma|if|ifdef|ifndef)\\b|using\\s|(?:inline\\s+)?namespace\\b|extern\\s+\"C|alignas\\b|template\\b|typedef\\s|\\[\\[|" +
+    "(?:(?:extern|static|inline|volatile|const|constexpr|thread_local|_Atomic)\\s+)*" +
+    "(?:(?:atomic_\\w+|int|void|unsigned|bool|auto|struct|u?int\\d+_t)\\s|atomic<|std::|_Atomic\\())",
+);
 const OF_C = "`tools/from_c.py` compiles programs in C, C++ and Rust, and herd's tests in C";
 const OF_PROGRAM = " For that its threads are functions `P0`, `P1` and so on without parameters, and its last line asks, as `// lw: exists (0:r0=0)` does.";
 const OF_FIRST_WORD = " Its first word is `C` then.";
@@ -24,9 +27,12 @@ const OF_BUTTON =
 const OF_WAITING =
   " A loop that waits is one load here: states in which it has not ended are in the list, too, and the question leaves them out.";
 const NOT_ASKED = " The question `true` holds always: look at the list of states.";
-// How a program in Rust begins, what only C++ has, and how a thread in C begins.
-const RUST = /^\s*(?:use|fn|pub|static\s+\w+\s*:|#!?\[)/;
-const CPP = /\bstd::|<atomic>/;
+// How programs in Rust, Java and Go begin, what only C++ has, and how a thread in C begins.
+const RUST = /^\s*(?:use\b|fn\b|pub\b|static\s+\w+\s*:|#!?\[)/;
+const JAVA = /^(?:import\s+(?:static\s+)?java|package\s+[\w.]+;|(?:(?:public|final|abstract)\s+)*class\s+\w+[^;{]{0,80}\{)/;
+const GO = /^(?:package\s+\w+[ \t]*\r?(?:\n|$)|func\s+\w*\()/;
+const CPP = /\bstd::|<atomic>|\batomic<|\busing\s|\bnamespace\b/;
+const IS_READ = "The page reads C, C++ and x86 assembly.";
 const THREAD_IN_C = /^(?:X86|SRC)\s+(?:[^{]*\{[^}]*\})?\s*P0\s*[({]/;
 /** The sentence on the types of initial values. */
 export const NO_TYPES = "The initial values have no types.";
@@ -52,7 +58,7 @@ function explainProgram(words, text, place) {
   const form = first === "C" ? "" : first ? OF_FIRST_WORD : OF_PROGRAM;
   const how = `${OF_C}: save this as \`${file}\`, then \`${command}\` prints a test for this page.${form}${once}`;
   const hint = { more: how, document: "from-c.html", command };
-  if (RUST.test(text)) return { words: `${words} ${HERE}`, ...hint };
+  if (RUST.test(text)) return { words: `${words} ${IS_READ}`, ...hint };
   const { made, isGuess, races, isWaiting, why, index } = rewriteProgram(text);
   if (!made) return { words: explainRefusedProgram(text, why, index), ...hint, at: findPart(place.text, text, index) };
   place.proposeChange(made, 0, place.text.length);
@@ -103,7 +109,10 @@ export function findOtherLanguage(place) {
   if (THREAD_IN_C.test(text)) return explainProgram("The threads are functions in C: the first word is `C` then.", text, place);
   if (blankComments(text.slice(0, index)).trim()) return null;
   const rest = text.slice(index);
-  if (C.test(rest.replace(C_COMMENTS, ""))) return explainProgram("This begins as a program or a test in C does.", rest, place);
+  const code = rest.replace(C_COMMENTS, "");
+  const [other] = [["Java", JAVA], ["Go", GO]].find(([, pattern]) => pattern.test(code) && !CPP.test(code)) ?? [];
+  if (other) return { words: `This begins as a program in ${other} does. ${IS_READ}`, document: "from-c.html" };
+  if (C.test(code)) return explainProgram("This begins as a program or a test in C does.", rest, place);
   if (RUST.test(rest)) return explainProgram("This begins as a program in Rust does.", rest, place);
   if (OTHERS.test(token)) return { words: `\`${token}\` is the language of another processor in herd's tests. ${OF_OTHERS}`, document: "from-herd.html" };
   if (/^X86_64$/i.test(token) && !isRead(rest.replace(/^\w+/, "X86"))) {

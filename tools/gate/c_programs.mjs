@@ -458,6 +458,11 @@ function comparePrograms(page, compare) {
     const made = change && [change.begin, change.end, change.title, isRead(change.text)];
     compare(`the change of ${what}`, place === undefined ? [0, text.length, "Rewrite it as an x86 test", true] : null, made);
   }
+  for (const [language, text] of OTHERS) {
+    const { words } = findHint(page, text);
+    compare(`the hint on ${language}: ${text}`, `This begins as a program in ${language} does. ${IS_READ}`, words);
+  }
+  for (const begin of BEGINS) compare(`a program begins with ${begin}`, BEGIN, findHint(page, `${begin}\n${PROGRAM}`).words.slice(0, BEGIN.length));
   compare("a text that is no program has another hint", null, page.other_tools.findOtherLanguage({ text: "X86 A", index: 0, token: "X86" }));
 }
 
@@ -718,7 +723,14 @@ const GUESS = " The question is a guess: change it to yours.";
 const FIRST = "The threads are functions in C: the first word is `C` then.";
 const WOULD = "The page would rewrite this program in C as an x86 test,";
 const WOULD_IN_CPP = WOULD.replace("in C", "in C++");
-const IN_RUST = "This begins as a program in Rust does. Here only `SRC` and `X86` tests are read.";
+const IS_READ = "The page reads C, C++ and x86 assembly.";
+const IN_RUST = `This begins as a program in Rust does. ${IS_READ}`;
+// Programs in other languages, with the names of these; and how programs in C++ may begin.
+const OTHERS = [
+  ["Java", "public class A { volatile int x; }\n"], ["Java", "// One.\nimport java.util.*;\n"], ["Java", "class A extends Thread {\n"], ["Go", "package main\n"],
+  ["Go", "package main\n\nimport \"sync/atomic\"\n"], ["Go", "func main() {\n"],
+];
+const BEGINS = ["using namespace std;", "namespace a {}", "alignas(8) int x;", "constexpr int N = 1;", "#pragma once", "bool a;", "extern \"C\" {}", "[[maybe_unused]] int a;"];
 const LOCK = PROGRAM.replace("int r0 = y;", "while (y.exchange(1)) ;");
 const OF_LOCKS = `\`while (y.exchange(1))\`${OF_LOOPS}`;
 const WAITS = " A loop that waits is one load here: states in which it has not ended are in the list, too, and the question leaves them out.";
