@@ -8,6 +8,7 @@
 // A `CThread` has a `name`, its `code`, which is a `Part`, the index of its `head`, and the declarations of the shared `variables` that it may use,
 // by their names. It has its `whole` part, and the code of its `parameters`. It `returnsWord`, or not, and `isStarted` by `main`,
 // or not.
+// A member of a structure is a variable, and the name of its object is in its own, as `s_x` for `s.x`.
 // A `Declaration` has the `name` of a variable, and the code of its initial `value`, if it has one. It `isPointer`, or not; if it `isBool`, it holds
 // 0 and 1 only. The `order` is that of the operators on it: seq_cst if it is atomic, relaxed if it is volatile, and otherwise plain.
 
@@ -44,6 +45,11 @@ const NAMED_ORDER = /^(?:static |const |constexpr )*(?:auto|memory_order) (\w+)[
 const REFERENCE = /^(?:static |const )*(?:atomic_ref(?:<[\w ]{0,40}>| )(\w+)|auto (\w+)=atomic_ref(?:<[\w ]{0,40}>)?)[({](\w+)[)}]$/;
 // The begin of a block of declarations.
 const SPACE = /^(?:(?:inline\s+)?namespace(?:\s+[\w:]+)?|extern\s+"C")\s*\{/;
+// The begin of a structure: the groups are `typedef`, and its name. What follows it: the names of objects or of types. And a declaration of objects: the
+// groups are their type, and their names.
+const STRUCTURE = /^(typedef\s+)?(?:static\s+)?struct(?:\s+(\w+))?\s*\{/;
+const OBJECTS = /^\s*([\w\s,]{0,200});/;
+const DECLARED_OBJECTS = /^(?:static\s+)?(?:struct\s+)?(\w+)\s+(\w[\w\s,]{0,200})(?:\{\s*\}|=\s*\{\s*0?\s*\})?\s*;/;
 // What may be a name with a value: a name, or one of a member, of which the groups are both names.
 const NAME_OF_VALUE = /\b([A-Za-z_]\w*)(?:\s{0,9}\.\s{0,9}([A-Za-z_]\w*))?/g;
 const CLOSING = { "(": ")", "{": "}", "[": "]" };
@@ -52,7 +58,7 @@ const STATEMENT = /^[^;]*;/;
 const QUESTION = /^(?:~|exists|forall|locations)/;
 // A declaration in squeezed code: the groups are its type, a `*`, and its variables.
 const DECLARATION =
-  /^((?:(?:static|extern|const|volatile|auto|(?:un)?signed|int|u?int32_t|_?[Bb]ool|_Atomic|atomic(?:_u?int|_bool)?)\b ?|[<>()])+)(\*?)([A-Za-z_].*)$/;
+  /^((?:(?:static|extern|inline|const|volatile|auto|(?:un)?signed|int|u?int32_t|_?[Bb]ool|_Atomic|atomic(?:_u?int|_bool)?)\b ?|[<>()])+)(\*?)([A-Za-z_].*)$/;
 // A variable in a declaration: the groups are its name, and its initial value after `=`, or in braces or parentheses.
 const DECLARATOR = /^(\w+)(?:=(?!\{)(.+)|=?[{(](.*)[})])?$/;
 // A comma between two variables, which is in no parentheses.
@@ -205,6 +211,8 @@ class ProgramReader {
     this.words = new Map();
     this.globals = new Map();
     this.names = new Map();
+    // The code of structures between their braces, by the names of these types.
+    this.types = new Map();
     this.threads = [];
     this.main = null;
   }
@@ -265,7 +273,48 @@ class ProgramReader {
     const [prototype] = (!this.isHerd && PROTOTYPE.exec(this.rest)) || [];
     if (found) this.readFunction(found);
     else if (prototype) this.skipPart(prototype.length);
-    else if (!this.readNamedValue() && !this.readSpace()) this.readVariables();
+    else if (!this.readNamedValue() && !this.readSpace() && !this.readStructure() && !this.readObjects()) this.readVariables();
+  }
+
+  /** Reads a structure with its objects, if one is here. Returns whether it is. */
+  readStructure() {
+    const [head, isType, name] = STRUCTURE.exec(this.rest) ?? [];
+    const end = head ? findClosing(this.rest, head.length - 1) : -1;
+    const [tail, objects] = OBJECTS.exec(this.rest.slice(end + 1)) ?? [];
+    if (end < 0 || tail === undefined) return false;
+    const part = this.cutPart(end + 1 + tail.length);
+    const code = this.rest.slice(head.length, end);
+    const others = objects.split(",").map((it) => it.trim()).filter(Boolean);
+    for (const type of [name, ...(isType ? others : [])]) if (type) this.types.set(type, code);
+    for (const object of isType ? [] : others) this.addObject(object, code, part);
+    this.skipPart(part.code.length);
+    return true;
+  }
+
+  /** Reads a declaration of objects of a structure, if one is here. Returns whether it is. */
+  readObjects() {
+    const [found, type, objects] = DECLARED_OBJECTS.exec(this.rest) ?? [];
+    const code = this.types.get(type);
+    if (code === undefined) return false;
+    for (const object of objects.split(",")) this.addObject(object.trim(), code, this.cutPart(found.length));
+    this.skipPart(found.length);
+    return true;
+  }
+
+  /** Adds the members of an object as variables, whose names are of both. Throws NoTest for the part that is `shown` if one is no variable. */
+  addObject(object, code, shown) {
+    for (const declaration of code.split(";").filter((it) => it.trim())) {
+      const declared = parseDeclaration(squeezeCode(replaceNames(declaration, this.names)));
+      if (!declared.length || declared[0].isPointer) refusePart(shown, OF_GLOBALS);
+      for (const { name, value, ...others } of declared) {
+        const [joined, word] = [`${object}_${name}`, value ? parseConstant(value) : 0];
+        if (word === null || (others.isBool && word > 1)) refusePart(shown, OF_VALUES);
+        if (this.globals.has(joined)) refusePart(shown, ": give it a name that no other variable has");
+        this.words.set(joined, word);
+        this.globals.set(joined, { name: joined, value, ...others });
+        this.names.set(`${object}.${name}`, joined);
+      }
+    }
   }
 
   /** Reads a macro or a constant, if one is here, and returns whether it is. Throws NoTest at a macro that is no constant. */

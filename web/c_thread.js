@@ -2,7 +2,7 @@
 //
 // The records `Program` and `CThread` are those of c_reader.js, and `Statement` is that of c_statements.js.
 
-import { defineName, parseConstant, parseDeclaration, refusePart } from "./c_reader.js";
+import { defineName, parseConstant, parseDeclaration, refusePart, replaceNames } from "./c_reader.js";
 import { OF_CONDITIONS, OF_LOOPS, parseCondition, readStatements } from "./c_statements.js";
 import { isTruth, OF_BOOLS, OF_STEPS, OF_SUBTRACTION, parseStep, SPARE, ValueWriter } from "./c_values.js";
 import { REGISTERS } from "./token_reader.js";
@@ -57,8 +57,9 @@ export class ThreadWriter extends ValueWriter {
     super(number, variables, names);
     Object.assign(this, { name, head, code, parameters, words, returnsWord, isStarted, isHerd });
     // The shared variables that only this thread uses, and that are neither atomic nor volatile. They have registers.
-    const isUsed = (variable, thread) => new RegExp(`\\b${variable}\\b`).test(thread.code.code);
-    const isOwn = (variable) => isUsed(variable, threads[number]) && threads.filter((it) => isUsed(variable, it)).length === 1;
+    const codes = threads.map((it) => replaceNames(it.code.code, names));
+    const isUsed = (variable, text) => new RegExp(`\\b${variable}\\b`).test(text);
+    const isOwn = (variable) => isUsed(variable, codes[number]) && codes.filter((it) => isUsed(variable, it)).length === 1;
     this.own = [...variables.values()].filter((it) => it.order === "plain" && !it.isPointer && isOwn(it.name));
     if (returnsWord) this.locals.add(RESULT);
     // The variables that have a value at each `return`; how many labels there are; and the variable that was loaded last.

@@ -358,7 +358,9 @@ const REFUSED = [
   ["int d;", "#define N x + 1\nint d;", "`#define N x + 1`: write its text where it is used"],
   ["int d;", "#define F(a) 1\nint d;", "`#define F(a) 1`: write its text where it is used"],
   ["int r0 = y;", "std::atomic_ref<int> rd(d); rd = 1;", "`rd = 1`: `rd` is not declared"],
-  ["int d;", "struct s { int a; };", `\`struct s { int a;\`${OF_GLOBALS}`],
+  ["int d;", "struct s { long a; } d;", `\`struct s { long a; } d;\`${OF_GLOBALS}`],
+  ["int d;", "struct s { int a = x; } d;", `\`struct s { int a = x; } d;\`${OF_VALUES}`],
+  ["int d;", "struct s { int a; } d; int d_a; struct s d;", `\`struct s d;\`${OF_LONE}`],
   ["int d;", "int d = x;", `\`int d = x;\`${OF_VALUES}`],
   ["int d;", "atomic_short d;", `\`atomic_short d;\`${OF_GLOBALS}`],
   ["int d;", "atomic_bool d = 2;", `\`atomic_bool d = 2;\`${OF_VALUES}`],
@@ -661,6 +663,26 @@ exists (0:r0=1)
  MOV [plain],$2 |                ;
 locations [x; plain]
 exists (~1:EAX=2 /\\ 0:EAX=1)
+`],
+  ["members of structures, and a reference to a variable that is plain in another thread", `struct { atomic_int x, y; int r; } s;
+struct alignas(64) Padded { std::atomic<bool> on{true}; };
+Padded a, b;
+int d, e;
+std::atomic_ref<int> rd(d);
+void P0() { s.x.store(1, std::memory_order_relaxed); s.r = s.y; a.on = false; rd.store(1, std::memory_order_relaxed); }
+void P1() { atomic_store_explicit(&s.y, 1, memory_order_relaxed); int r0 = b.on.load(); e = s.x; d = 2; }
+exists (e=0)
+`, `X86 Mine
+(* 0:EAX is s_r, 1:EAX is r0, 1:EBX is e *)
+{ s_x=0; s_y=0; a_on=1; b_on=1; d=0; }
+ P0              | P1             ;
+ MOV [s_x],$1    | MOV [s_y],$1   ;
+ MOV EAX,[s_y]   | MOV EAX,[b_on] ;
+ MOV EBX,$0      | MOV EBX,[s_x]  ;
+ XCHG [a_on],EBX | MOV [d],$2     ;
+ MOV [d],$1      |                ;
+locations [a_on; d]
+exists (1:EBX=0)
 `],
   ["two questions", `${PROGRAM}/* lw: exists (x=1) */\n`, "`/* lw: exists (x=1) */`: a second comment says what is asked"],
   ["a function without an end", PROGRAM.split("}")[0], "`void P0(void) {`: its `}` is missing"],
