@@ -23,6 +23,10 @@ const JOIN_LOOP = new RegExp(
   "^for\\((?:(?:const )?auto ?&{0,2}\\w+:(\\w+)|(?:int|size_t|unsigned|auto) (\\w+)=0;\\2(?:<|!=)(\\w+);(?:\\2\\+\\+|\\+\\+\\2))\\)" +
     "\\{?(?:(\\w+)(?:\\[\\2\\])?\\.join\\(\\)|(?:pthread|thrd)_join\\((\\w+)\\[\\2\\],[\\w&]*\\));\\}?$",
 );
+// The head of a loop that counts up to a digit: the groups are its index and the digit. And what starts threads in a loop, and joins them.
+const COUNTING = /^for\((?:int|size_t|unsigned|auto) (\w+)=0;\1(?:<|!=)([1-9]);(?:\1\+\+|\+\+\1)\)$/;
+const STARTING = /\bthread\b|_create\b|_back\b/;
+const JOINING = /\.\s{0,9}join\b|_join\b|\bjthread\b/;
 const JOIN = /^(?:(\w+(?:\[\d+\])?)\.join\(\)|(?:pthread|thrd)_join\((\w+(?:\[\d+\])?),[^,]*\))$/;
 const HANDLES = /^(?:pthread_t|thrd_t) \w/;
 const CONTAINER = /^(?:vector<(j?)thread>|array<(j?)thread,\w+>) ?(\w+)(?:\(\w*\)|\{\})?$/;
@@ -63,16 +67,31 @@ class MainReader extends StatementReader {
     return -1;
   }
 
-  /** Returns the loop here, if it joins threads. Throws NoTest if it does not. */
+  /** Returns the loop here, if it starts or joins the threads of an array. Throws NoTest if it does not. */
   readLoop() {
     const { rest } = this;
     const close = findClosing(rest, Math.max(rest.indexOf("("), 0));
     const body = close + 1 + rest.slice(close + 1).search(/\S|$/);
-    const end = (rest[body] === "{" ? findClosing(rest, body) : rest.indexOf(";", body)) + 1;
+    const end = (rest[body] === "{" ? findClosing(rest, body) + 1 : body + new MainReader({ code: rest.slice(body), index: 0 }).findEnd() + 1) || body;
+    const head = { code: rest.slice(0, close + 1 || rest.search(/[;{]|$/)), index: this.index + this.at };
     const [found, range, , count, called, other] = JOIN_LOOP.exec(squeezeCode(rest.slice(0, end))) ?? [];
-    if (!found) refusePart(this.takePart(close + 1 || rest.search(/[;{]|$/)), OF_RUNS);
-    return { ...this.takePart(end), joined: range ?? called ?? other, count: parseConstant(count ?? "") };
+    const [, index, times] = COUNTING.exec(squeezeCode(head.code)) ?? [];
+    const code = { code: rest.slice(body, end), index: head.index + body };
+    this.takePart(end);
+    if (found) return { ...head, joined: range ?? called ?? other, count: parseConstant(count ?? "") };
+    if (!index || !STARTING.test(code.code) || JOINING.test(code.code)) refusePart(head, OF_RUNS);
+    return { ...head, block: repeatCode(code, index, Number(times)) };
   }
+}
+
+/** Returns the blocks of a loop that runs some times, with the digits of its index in place of this. */
+function repeatCode({ code, index }, name, times) {
+  const place = new RegExp(`([[+]\\s{0,9})${name}\\b`, "g");
+  const digits = Array.from({ length: times }, (_, digit) => digit);
+  return digits.map((digit) => {
+    const part = { code: code.replace(place, (_, before) => `${before}${String(digit).padEnd(name.length)}`), index };
+    return { ...part, block: new MainReader(part).readAll() };
+  });
 }
 
 /** Follows the statements of `main`. */
@@ -85,7 +104,7 @@ class MainFollower {
     this.threads = [];
     this.running = new Map();
     this.hasJoined = false;
-    // Of arrays of threads, whether they join them.
+    // Of handles and arrays of them, whether they join threads at the end of their block.
     this.containers = new Map();
     // What is asserted, whose parts are all of it, and the question.
     this.asserted = [];
@@ -104,9 +123,10 @@ class MainFollower {
 
   /** Follows statements, at whose end some handles join the threads that are started in them. */
   followBlock(statements) {
-    const outer = new Set(this.running.keys());
+    const outer = new Set(this.containers.keys());
     this.followStatements(statements);
-    for (const [handle, isJoining] of [...this.running].filter(([it]) => !outer.has(it))) if (isJoining) this.joinThread(handle);
+    const isInner = (handle) => !outer.has(handle.split("[")[0]);
+    for (const [handle, isJoining] of [...this.running]) if (isJoining && isInner(handle)) this.joinThread(handle);
   }
 
   /** Takes an `if` for a question. What is in its branches does not matter. */

@@ -40,7 +40,9 @@ const PROTOTYPE = /^(?:\w+[\s*]+)+\w+\s*\([^(){};]*\)\s*;/;
 const MACRO = /^#[ \t]*define\b(?:[ \t]+(\w+)(?![\w(])[ \t]*(.*)|.*)/;
 const CONSTANT = /^(?:(?:static|inline)\s+)*(?:constexpr|const)\s+(?:auto|(?:unsigned\s+)?int|u?int32_t|(?:std::)?memory_order)\s+(\w+)\s*[={]\s*([\w:]+)\s*\}?\s*;/;
 const ORDER = /^memory_order_\w+$/;
-// In squeezed code, a name for an order of memory, and a reference by which a variable is atomic: the groups are its name, and what it refers to.
+// What gives names. In squeezed code, a name for an order of memory, and a reference by which a variable is atomic: the groups are its name, and what it
+// refers to.
+const NAMING = /\b(?:atomic_ref|memory_order)/;
 const NAMED_ORDER = /^(?:static |const |constexpr )*(?:auto|memory_order) (\w+)[={](memory_order_\w+)\}?$/;
 const REFERENCE = /^(?:static |const )*(?:atomic_ref(?:<[\w ]{0,40}>| )(\w+)|auto (\w+)=atomic_ref(?:<[\w ]{0,40}>)?)[({](\w+)[)}]$/;
 // The begin of a block of declarations.
@@ -293,7 +295,7 @@ class ProgramReader {
 
   /** Reads a declaration of objects of a structure, if one is here. Returns whether it is. */
   readObjects() {
-    const [found, type, objects] = DECLARED_OBJECTS.exec(this.rest) ?? [];
+    const [found, type, objects] = (this.types.size && DECLARED_OBJECTS.exec(this.rest)) || [];
     const code = this.types.get(type);
     if (code === undefined) return false;
     for (const object of objects.split(",")) this.addObject(object.trim(), code, this.cutPart(found.length));
@@ -321,6 +323,7 @@ class ProgramReader {
   readNamedValue() {
     const [macro, macroName, text = ""] = MACRO.exec(this.rest) ?? [];
     const [constant, constantName, code = ""] = CONSTANT.exec(this.rest) ?? [];
+    if (!macro && !constant) return false;
     const value = parseNamedValue(replaceNames(macro ? text : code, this.names));
     if (macro && (!macroName || value === null)) refusePart(this.cutPart(macro.length), ": write its text where it is used");
     if (value === null) return false;
@@ -345,7 +348,8 @@ class ProgramReader {
     const part = this.cutPart(whole.length);
     if (this.isHerd) refusePart(part, OF_END);
     if (!whole.endsWith(";")) refusePart(part, OF_GLOBALS);
-    if (!defineName(squeezeCode(whole.slice(0, -1)), this.names)) declareVariables(this, this.globals, whole.slice(0, -1), part, OF_GLOBALS);
+    const isName = NAMING.test(whole) && defineName(squeezeCode(whole.slice(0, -1)), this.names);
+    if (!isName) declareVariables(this, this.globals, whole.slice(0, -1), part, OF_GLOBALS);
     this.skipPart(whole.length);
   }
 

@@ -25,7 +25,7 @@ const OF_ELSE = ": an `else` follows the one statement or block of its `if`";
 const COMPARISON = /[=!]=|[^=!]=!|<(?!<)|(?<!>)>(?!>)|&&|\|\|/;
 // Why a statement is refused, by a part of it in squeezed code, unless a rule says so.
 const REASONS = [
-  [/^(?:__)?asm\b|thread_fence/, ": a fence is `atomic_thread_fence(memory_order_seq_cst)`"],
+  [/^(?:__)?asm(?:__)?\b|thread_fence/, ": a fence is `atomic_thread_fence(memory_order_seq_cst)`"],
   [/compare_exchange|cmpxchg/, ": the x86 format has no compare-and-swap. `tools/from_c.py` follows it"],
   [/fetch_(?:or|and|xor)|test_and_set/, ": of locked instructions the x86 format has only exchange and addition"],
   [/\blw_see\b/, ": the question names the variable itself, as `0:r0`"],
@@ -166,9 +166,8 @@ export class StatementReader {
     const { code, end } = isDo ? { ...body, end: close + 1 } : findBody(rest, close + 1);
     const [found, assigns = ""] = WAITING.exec(squeezeCode(code)) ?? [];
     if (found === undefined) return null;
-    const part = this.takePart(close + 1);
-    this.takePart(end - close - 1);
-    return { ...part, condition: part.code.slice(begin + head + 1, -1), assigns };
+    const { index } = this.takePart(end);
+    return { code: rest.slice(0, close + 1), index, condition: rest.slice(begin + head + 1, close), assigns };
   }
 }
 
@@ -196,7 +195,18 @@ export function readStatements(code) {
  * @returns {string}
  */
 export function removeOuterParentheses(code) {
-  return code.startsWith("(") && findClosing(code, 0) === code.length - 1 ? removeOuterParentheses(code.slice(1, -1)) : code;
+  const opening = code.search(/[^(]|$/);
+  let end = code.length;
+  while (code[end - 1] === ")") end -= 1;
+  // The least number of parentheses that are open between the first ones and the last ones.
+  let [depth, least] = [opening, opening];
+  for (let at = opening; at < end; at += 1) {
+    depth += Number(code[at] === "(") - Number(code[at] === ")");
+    least = Math.min(least, depth);
+  }
+  const closing = code.length - end;
+  const count = depth === closing ? Math.max(Math.min(least, closing), 0) : 0;
+  return code.slice(count, code.length - count);
 }
 
 /**

@@ -4,12 +4,14 @@
 
 import { defineName, parseConstant, parseDeclaration, refusePart, replaceNames } from "./c_reader.js";
 import { OF_CONDITIONS, OF_LOOPS, parseCondition, readStatements } from "./c_statements.js";
-import { isTruth, OF_BOOLS, OF_STEPS, OF_SUBTRACTION, parseStep, SPARE, ValueWriter } from "./c_values.js";
+import { isTruth, OF_BOOLS, OF_REGISTERS, OF_STEPS, OF_SUBTRACTION, parseStep, SPARE, ValueWriter } from "./c_values.js";
 import { REGISTERS } from "./token_reader.js";
 
 // The patterns are of squeezed code. First fences, and those of which x86 code has none.
-const FENCE = /^(?:atomic_thread_fence\(memory_order_seq_cst|(?:smp_mb|__sync_synchronize)\()\)$/;
-const NO_FENCE = /^(?:atomic_thread_fence\(memory_order_(?:relaxed|consume|acquire|release|acq_rel)|smp_[rw]mb\()\)$/;
+const FENCE =
+  /^(?:atomic_thread_fence\(memory_order_seq_cst\)|(?:smp_mb|__sync_synchronize|_mm_mfence|__builtin_ia32_mfence)\(\)|(?:__)?asm(?:__)? (?:__)?volatile(?:__)?\("mfence":::"memory"\))$/;
+const NO_FENCE =
+  /^(?:atomic_thread_fence\(memory_order_(?:relaxed|consume|acquire|release|acq_rel)\)|atomic_signal_fence\(memory_order_\w+\)|(?:smp_[rw]mb|barrier)\(\)|(?:__)?asm(?:__)? (?:__)?volatile(?:__)?\("":::"memory"\))$/;
 const RETURN = /^return\b ?(.*)$/;
 // What a thread returns that has no result.
 const NOTHING = /^(?:NULL|nullptr|0|\(void\*\)0)$/;
@@ -85,7 +87,7 @@ export class ThreadWriter extends ValueWriter {
     if (this.instructions.some((it) => it.endsWith(` ${END}`))) this.labels.push(END);
     if (this.labels.length) this.instructions.push(`${this.labels.join(": ")}:`);
     const needed = this.registers.length + Number(this.instructions.some((it) => it.includes(SPARE)));
-    if (needed > REGISTERS.X86.length) refusePart({ code: this.name, index: this.head }, ", which needs more than six registers");
+    if (needed > REGISTERS.X86.length) refusePart({ code: this.name, index: this.head }, OF_REGISTERS);
     this.instructions = this.instructions.map((it) => it.replaceAll(SPARE, REGISTERS.X86[this.registers.length]));
     return this;
   }

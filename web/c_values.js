@@ -26,6 +26,8 @@ const OF_ORDER = ", of which compilers make different code";
 const OF_ASSIGNMENTS = ": write each assignment as a statement of its own";
 const OF_LOADS = ": load each shared variable into one of the thread first, since compilers choose which is first";
 const OF_CONSTANTS = ": a constant is decimal, or `0x` and hexadecimal, of 32 bits";
+/** Why a thread is refused that has more variables than registers, as the end of a sentence. */
+export const OF_REGISTERS = ", which needs more than six registers";
 /** Why a step of a thread's own variable is refused in a value, as the end of a sentence. */
 export const OF_STEPS = ": write `++` and `--` of a thread's own variable in a statement of its own";
 /** Why a difference is refused, as the end of a sentence. */
@@ -107,10 +109,11 @@ export class ValueWriter {
     this.labels = [];
   }
 
-  /** Returns the register of a variable, which has one from here on. */
+  /** Returns the register of a variable, which has one from here on. Throws NoTest if all registers are of others. */
   findRegister(variable) {
     if (!this.registers.includes(variable)) this.registers.push(variable);
-    return REGISTERS.X86[this.registers.indexOf(variable)] ?? SPARE;
+    if (this.registers.length > REGISTERS.X86.length) refusePart({ code: this.name, index: this.head }, OF_REGISTERS);
+    return REGISTERS.X86[this.registers.indexOf(variable)];
   }
 
   /** Returns the site of a variable in a question. */

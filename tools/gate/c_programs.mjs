@@ -128,6 +128,8 @@ const STATEMENTS = [
   ["std::atomic_thread_fence(std::memory_order::seq_cst); smp_mb(); __sync_synchronize();", "MFENCE; MFENCE; MFENCE",
     "smp_mb(); smp_mb(); smp_mb();"],
   ["atomic_thread_fence(memory_order_acq_rel); std::atomic_thread_fence(std::memory_order_release); smp_wmb(); smp_rmb();", "", "smp_wmb();"],
+  ["asm volatile (\"mfence\" ::: \"memory\"); __asm__ __volatile__(\"\" : : : \"memory\"); _mm_mfence(); std::atomic_signal_fence(std::memory_order_seq_cst);",
+    "MFENCE; MFENCE", "asm volatile(\"mfence\":::\"memory\"); barrier(); _mm_mfence();"],
   // A return at the end.
   ["x = 1; return;", "MOV EAX,$1; XCHG [x],EAX", "*x = 1; return ; "],
   ["return;", "", "return;"],
@@ -174,6 +176,10 @@ const MAINS = [
   pthread_join(b, NULL);`, [...STORE_THEN_LOAD].reverse(), BOTH_0],
   [ATOMICS + FUNCTIONS, `x = 0; y.store(3); thrd_t t[2]; thrd_create(&t[0], writer, NULL); thrd_create(&t[1], &reader, 0);
   for (int i = 0; i < 2; ++i) thrd_join(t[i], NULL); if (y == 3) puts("");`, STORE_THEN_LOAD, "exists (y=3)"],
+  ["atomic_int x;\nvoid *f(void *a) { x++; return NULL; }\n", `pthread_t t[2]; for (int i = 0; i < 2; i++) { pthread_create(&t[i], NULL, f, NULL); } for (int i = 0; i < 2; i++)
+  pthread_join(t[i], NULL);`, Array(2).fill("MOV EAX,$1; LOCK XADD [x],EAX"), "exists (true)"],
+  ["std::atomic<int> x;\n", `std::vector<std::thread> ts; for (int n = 0; n != 3; ++n) ts.emplace_back([&] { x++; }); for (auto& t : ts) t.join();`,
+    Array(3).fill("MOV EAX,$1; LOCK XADD [x],EAX"), "exists (true)"],
   ["atomic_int x;\nvoid f() { x++; }\n", `std::thread a(f), b(f); a.join(); b.join(); assert(x == 2);`, Array(2).fill("MOV EAX,$1; LOCK XADD [x],EAX"), "forall (x=2)"],
   [`${ATOMICS}// lw: exists (r1=7)\n`, `${TWO_THREADS} ${JOINS} assert(r1 == 0);`, STORE_THEN_LOAD, "exists (0:EAX=7)"],
 ];
@@ -303,7 +309,7 @@ const REFUSED = [
   ["x = 1;", "x.exchange(1, std::memory_order_relaxed);", `\`x.exchange(1, std::memory_order_relaxed)\`${OF_ORDER}`],
   ["x = 1;", "x.fetch_add(0, std::memory_order_acquire);", `\`x.fetch_add(0, std::memory_order_acquire..\`${OF_ORDER}`],
   ["x = 1;", "atomic_thread_fence(seq_cst);", `\`atomic_thread_fence(seq_cst)\`${OF_FENCES}`],
-  ["x = 1;", "asm volatile(\"mfence\" ::: \"memory\");", `\`asm volatile("mfence" ::: "memory")\`${OF_FENCES}`],
+  ["x = 1;", "asm volatile(\"sfence\" ::: \"memory\");", `\`asm volatile("sfence" ::: "memory")\`${OF_FENCES}`],
   ["x = 1;", "d++;", `\`d++\`${OF_ORDER}`, "y = 1;", "d = 2;"],
   ["int d;", "volatile int d;", `\`d++\`${OF_ORDER}`, "x = 1;", "d++;"],
   ["int d;", "volatile int d;", `\`int r0 = d++\`${OF_ORDER}`, "int r0 = y;", "int r0 = d++;"],
