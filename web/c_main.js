@@ -8,14 +8,12 @@
 
 import { formatAssertion, formatFormula, parseFormula } from "./c_question.js";
 import { declareVariables, defineName, findClosing, parseConstant, parseDeclaration, refusePart, replaceNames, squeezeCode } from "./c_reader.js";
-import { splitOutside, StatementReader } from "./c_statements.js";
+import { OUTPUT, removeStrings, splitOutside, StatementReader } from "./c_statements.js";
 
 // A lambda up to its code: the group is what it captures.
 const LAMBDA = /(?<![\w\])])\[([^\][]*)\]\s*(?:\(\s*(?:void\s*)?\)\s*)?(?:mutable\b\s*|->\s*void\b\s*)*\{/;
 const CAPTURES = /^(?:&\w*(?:,&\w+)*)?$/;
-const STRING = /"(?:[^"\\]|\\.)*"/g;
-// The patterns that follow are of squeezed code. What changes nothing that threads share: output, waiting and ends, unless it has an effect.
-const OUTPUT = /^(?:(?:f?printf|f?puts|putchar|fmt::print|print(?:ln)?|fflush|setvbuf)\(|(?:cout|cerr)<<)/;
+// The patterns that follow are of squeezed code. What changes nothing that threads share, as output does, unless it has an effect.
 const HARMLESS = /^(?:(?:static_assert|\w*sleep\w*|this_thread::\w+|exit|abort|pthread_exit)\(|return\b|\(void\)\w+$|\w+\.(?:reserve|request_stop)\(|$)/;
 const EFFECT = /(?<![=!<>])=(?!=)|\+\+|--|exchange|store|fetch_|lambda/;
 // A loop that joins all threads of an array: the groups are this array, or the index and its end; and again the array.
@@ -164,7 +162,7 @@ class MainFollower {
     if (starts) starts.forEach((it) => this.startThread(it, statement));
     else if (lambda) this.functions.set(lambdaName, this.functions.get(lambda));
     else if (handle ?? other) this.joinThread(handle ?? other, statement);
-    else if (condition) this.ask(statement, () => formatAssertion(joinFormulas(this.asserted)), condition, true);
+    else if (condition) this.ask(statement, () => formatAssertion(this.asserted), condition, true);
     else if (!this.threads.length) this.setWords(code, statement);
     else refusePart(statement, this.running.size ? OF_RUNNING : OF_AFTER);
   }
@@ -263,19 +261,9 @@ class MainFollower {
   }
 }
 
-/** Returns code in which strings are empty, and what follows them is in its place. */
-function removeStrings(code) {
-  return code.replace(STRING, (it) => `"${" ".repeat(it.length - 2)}"`);
-}
-
 /** Returns whether squeezed code without strings changes nothing that threads share. */
 function isHarmless(code) {
   return (OUTPUT.test(code) || HARMLESS.test(code)) && !EFFECT.test(code);
-}
-
-/** Returns the formula that holds if all of some do. */
-function joinFormulas(formulas) {
-  return formulas.length === 1 ? formulas[0] : { sign: "/\\", parts: formulas };
 }
 
 /** Returns a record of a start. */

@@ -5,7 +5,7 @@
 
 import { alignCells } from "./aligned.js";
 import { startThreads } from "./c_main.js";
-import { limitQuestion } from "./c_question.js";
+import { formatAssertion, limitQuestion } from "./c_question.js";
 import { checkThreads, readProgram, refusePart } from "./c_reader.js";
 import { RESULT, ThreadWriter } from "./c_thread.js";
 import { readTest } from "./tests.js";
@@ -14,6 +14,8 @@ import { readTest } from "./tests.js";
 const OF_NOTHING = "nothing sets it";
 const OF_RESULT = "the thread returns a value on some paths only";
 const OF_PATHS = "declare it outside of blocks, with a value, as `int r0 = 0`";
+const OF_ASKED = ": the program asks something else, so leave this out";
+const OF_ENDLESS = ": a loop that waits need not end before this, so assert it at the end of `main`";
 const OF_QUESTION = ": a question is `exists (..)`, `~exists (..)` or `forall (..)`";
 // A name in a question: the groups are the number of a thread before it, and the name. And those that are words of the question itself.
 const NAME = /(?<!\w)(?:P?(\d)\s*:\s*)?([A-Za-z_]\w*)/g;
@@ -53,6 +55,20 @@ function translateQuestion({ words, question: { code, index, source } }, writers
     return site;
   };
   return code.trim().replace(NAME, translateSite).replace(/&&/g, "/\\").replace(/\|\|/g, "\\/").replace(/==/g, "=");
+}
+
+/**
+ * Returns the question of what threads assert, or "" if they assert nothing. Throws NoTest if the program asks besides, or if a loop waits that need not
+ * end before an assertion.
+ */
+function askAssertions({ question }, writers) {
+  const asserting = writers.filter((it) => it.assertion);
+  for (const writer of asserting) {
+    if (question.code) refusePart(writer.assertion, OF_ASKED);
+    const others = writers.filter((it) => it !== writer && it.waits.length);
+    if (others.length || writer.waitCount < writer.waits.length) refusePart(writer.assertion, OF_ENDLESS);
+  }
+  return asserting.length ? formatAssertion(asserting.flatMap((it) => it.asserted)) : "";
 }
 
 /** Returns the header of threads, and their instructions in rows. */
@@ -100,7 +116,7 @@ function writeTest(text) {
   const writers = program.threads.map((_, number) => new ThreadWriter(program, number).writeThread());
   const accesses = writers.flatMap((it) => it.accesses);
   const used = new Set(accesses.map((it) => it.name));
-  const asked = translateQuestion(program, writers, used);
+  const asked = askAssertions(program, writers) || translateQuestion(program, writers, used);
   const sites = writers.flatMap((writer) => writer.registers.map((variable) => ({ site: writer.makeSite(variable), variable })));
   const comment = sites.length ? `(* ${sites.map(({ site, variable }) => `${site} is ${variable}`).join(", ")} *)\n` : "";
   const block = [...program.words].filter(([name]) => used.has(name)).map(([name, word]) => `${name}=${word}; `).join("");

@@ -1,7 +1,7 @@
 // Reads what a program in C or C++ asserts, and writes questions of lw. Not proved.
 //
 // A `Formula` is an atom, or has a `sign`, `/\` or `\/`, and the `parts` that it joins. An atom has the `name` of a variable, and a `word`; `isEqual`
-// says whether the variable is to be this word, or another one.
+// says whether the variable is to be this word, or another one. If it is read from a condition, it has the `code` of its variable, or of a load of it.
 
 import { parseConstant } from "./c_reader.js";
 import { removeOuterParentheses, splitOutside } from "./c_statements.js";
@@ -47,7 +47,7 @@ function parseAtom(code) {
   const [site, constant = "0"] = parseConstant(sides[0]) === null ? sides : sides.reverse();
   const [, name, loaded] = SITE.exec(site) ?? [];
   const word = parseConstant(constant);
-  return (name ?? loaded) && parseConstant(site) === null && word !== null ? { name: name ?? loaded, word, isEqual } : null;
+  return (name ?? loaded) && parseConstant(site) === null && word !== null ? { name: name ?? loaded, code: site, word, isEqual } : null;
 }
 
 /**
@@ -58,6 +58,16 @@ function parseAtom(code) {
 export function negateFormula(formula) {
   if (!formula.sign) return { ...formula, isEqual: !formula.isEqual };
   return { sign: OPPOSITE[formula.sign], parts: formula.parts.map(negateFormula) };
+}
+
+/**
+ * Returns a formula with other names of its variables, which a function returns, from the first to the last.
+ * @param {Formula} formula
+ * @param {function(Formula): string} rename
+ * @returns {Formula}
+ */
+export function renameVariables(formula, rename) {
+  return formula.sign ? { ...formula, parts: formula.parts.map((it) => renameVariables(it, rename)) } : { ...formula, name: rename(formula) };
 }
 
 /**
@@ -77,11 +87,12 @@ function isAllUnequal({ parts, isEqual }) {
 }
 
 /**
- * Returns the question that asks whether a formula always holds: of what never happens if it only says what is not so.
- * @param {Formula} formula
+ * Returns the question that asks whether some formulas always hold: of what never happens if they only say what is not so.
+ * @param {Formula[]} formulas
  * @returns {string}
  */
-export function formatAssertion(formula) {
+export function formatAssertion(formulas) {
+  const formula = formulas.length === 1 ? formulas[0] : { sign: "/\\", parts: formulas };
   return isAllUnequal(formula) ? `~exists (${formatFormula(negateFormula(formula))})` : `forall (${formatFormula(formula)})`;
 }
 

@@ -126,11 +126,11 @@ function blank(text) {
  */
 export function squeezeCode(code) {
   const short = code.replace(/([+-])\s+(?=[+-]|=(?!=))|([=!])\s+(?==)/g, "$&@").replace(/\s+/g, " ").replace(/ ?([^\w ]) ?/g, "$1").trim();
-  return short
-    .replace(/\bstd::/g, "")
+  const words = short.replace(/\bstd::/g, "").replace(/\bmemory_order::/g, "memory_order_");
+  if (!words.includes("(")) return words;
+  return words
     .replace(/\batomic_ref(?:<[\w ]{0,40}>)?[({](\w+)[)}](?=\.)/g, "$1")
     .replace(/\bATOMIC_VAR_INIT\((\w+)\)/g, "$1")
-    .replace(/\bmemory_order::/g, "memory_order_")
     .replace(/\b(\w+)(\.|->)(load|store|exchange|fetch_\w+)\(/g, (_, name, sign, method) => `atomic_${method}(${sign === "." ? "&" : ""}${name},`)
     .replace(/\b(READ|WRITE)_ONCE\((\*?)/g, (_, macro, star) => `atomic_${macro === "READ" ? "load" : "store"}_relaxed(${star ? "" : "&"}`)
     .replace(/\bsmp_(load_acquire|store_release)\(/g, "atomic_$1(")

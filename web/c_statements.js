@@ -22,6 +22,9 @@ const WHILE = /^\s*while\s*(?=\()/;
 export const OF_LOOPS = ": write out each pass of a loop. `tools/from_c.py` follows loops";
 const OF_SWITCH = ": write an `if` for each case";
 const OF_ELSE = ": an `else` follows the one statement or block of its `if`";
+/** What prints, in squeezed code: the groups are a call, and a stream. */
+export const OUTPUT = /^(?:((?:f?printf|f?puts|putchar|fmt::print|print(?:ln)?|fflush|setvbuf)\()|(cout|cerr)<<)/;
+const STRING = /"(?:[^"\\]|\\.)*"/g;
 const COMPARISON = /[=!]=|[^=!]=!|<(?!<)|(?<!>)>(?!>)|&&|\|\|/;
 // Why a statement is refused, by a part of it in squeezed code, unless a rule says so.
 const REASONS = [
@@ -185,6 +188,15 @@ function findBody(code, index) {
  */
 export function readStatements(code) {
   return new StatementReader(code).readAll();
+}
+
+/**
+ * Returns code whose strings are blank, and whose other parts are in their places.
+ * @param {string} code
+ * @returns {string}
+ */
+export function removeStrings(code) {
+  return code.replace(STRING, (it) => `"${" ".repeat(it.length - 2)}"`);
 }
 
 // Values. Their code is squeezed.

@@ -2,9 +2,10 @@
 //
 // The records `Program` and `CThread` are those of c_reader.js, and `Statement` is that of c_statements.js.
 
+import { parseFormula, renameVariables } from "./c_question.js";
 import { defineName, parseConstant, parseDeclaration, refusePart, replaceNames } from "./c_reader.js";
-import { OF_CONDITIONS, OF_LOOPS, parseCondition, readStatements } from "./c_statements.js";
-import { isTruth, OF_BOOLS, OF_REGISTERS, OF_STEPS, OF_SUBTRACTION, parseStep, SPARE, ValueWriter } from "./c_values.js";
+import { OF_CONDITIONS, OF_LOOPS, OUTPUT, parseCondition, readStatements, removeStrings, splitOutside } from "./c_statements.js";
+import { isTruth, OF_BOOLS, OF_LOADS, OF_REGISTERS, OF_STEPS, OF_SUBTRACTION, parseStep, SPARE, ValueWriter } from "./c_values.js";
 import { REGISTERS } from "./token_reader.js";
 
 // The patterns are of squeezed code. First fences, and those of which x86 code has none.
@@ -19,6 +20,9 @@ const NOTHING = /^(?:NULL|nullptr|0|\(void\*\)0)$/;
 const NO_USE = /^\(void\)(\w+)$/;
 // A load in a loop that waits: the groups are the variable that it is assigned to, if there is one, and the load.
 const AWAITED = /^(?:(\w+)=)?(\*?\w+|atomic_load\w{0,20}\([^()]*\))$/;
+const ASSERTION = /^assert\((.*)\)$/;
+// What an output has besides values: strings, letters, streams, and the end of a line.
+const PRINTED = /^(?:" *"|'.*'|std(?:out|err)|endl|flush|)$/;
 // An assignment: the groups are its place, the sign of `+=` or `-=`, and its value.
 const ASSIGNMENT = /^(\*?\w+)([+-]?)=([^=].*)$/;
 // Why a statement is refused.
@@ -28,7 +32,10 @@ const OF_RETURN_IN_HERD = ": a thread of herd returns nothing, so set a variable
 const OF_SIDES = ": compare with a constant or a variable of the thread";
 const OF_ATOMICS = ": a thread's own variable is not atomic, as `int r0`";
 const OF_BRANCHES = ": a loop that waits is in no branch, and after no `return`";
-const OF_AWAITED = ": this variable has the value that ended a loop, so set another one";
+const OF_FIXED = ": a loop or an assertion has the value of this variable, so set another one";
+const OF_OUTPUT = ": a thread prints variables and constants only";
+const OF_ASSERTIONS = ": an assertion compares variables with constants by `==` or `!=`, joined by `&&` and `||`";
+const OF_BRANCHED = ": an assertion is in no branch, and after no `return`";
 const OF_PLAIN_LOOPS = ": a compiler loads a plain variable only once, so make it atomic or volatile";
 const OF_NAMES = ": give it a name that no other variable has";
 // The label at the end of a thread.
@@ -72,6 +79,10 @@ export class ThreadWriter extends ValueWriter {
     // number of branches around a statement.
     this.waits = [];
     this.branchCount = 0;
+    // The formulas that it asserts, of sites; the first statement that does; and the number of loops that wait before it.
+    this.asserted = [];
+    this.assertion = null;
+    this.waitCount = 0;
   }
 
   /** Writes all instructions. Returns this writer. Throws NoTest at a statement that is not rewritten, and if there are too few registers. */
@@ -159,6 +170,7 @@ export class ThreadWriter extends ValueWriter {
     const number = this.waits.length + 1;
     const variable = place ?? `${name} after ${number > 1 ? `loop ${number}` : "its loop"}`;
     this.assignLocal(variable, load);
+    this.fixed.add(variable);
     const { isPlain, isBool } = this.accesses.at(-1);
     if (isPlain) this.refuseStatement(OF_PLAIN_LOOPS);
     // A loop on a `bool` waits for the other one of two words.
@@ -190,9 +202,43 @@ export class ThreadWriter extends ValueWriter {
       this.declareLocal(variable, variable.value);
     }
     const [, result] = RETURN.exec(statement) ?? [];
+    const [, condition] = ASSERTION.exec(statement) ?? [];
     if (FENCE.test(statement)) this.writeInstruction("MFENCE");
+    else if (condition) this.writeAssertion(condition);
+    else if (OUTPUT.test(statement)) this.writeOutput(this.squeeze(removeStrings(this.statement.code)));
     else if (result !== undefined) this.writeReturn(result, isLast);
     else if (!declared.length && !NO_FENCE.test(statement) && !this.isUseOfParameter(statement)) this.writeAssignment(statement);
+  }
+
+  /** Loads a shared variable that has no register, into one of its own, which gets a name that no other one has. Returns this name. */
+  loadShared(load, use) {
+    const { name } = this.parseOperation(load);
+    const variable = [`${name} ${use}`, ...REGISTERS.X86.map((_, number) => `${name} ${use} ${number + 2}`)].find((it) => !this.known.has(it));
+    this.locals.add(variable);
+    this.assignLocal(variable, load);
+    return variable;
+  }
+
+  /** Writes the loads of an assertion, and records what it asserts. Throws NoTest if it may not be reached, or is of more than comparisons. */
+  writeAssertion(condition) {
+    const formula = parseFormula(condition) ?? this.refuseStatement(OF_ASSERTIONS);
+    if (this.branchCount || this.exits.length) this.refuseStatement(OF_BRANCHED);
+    if (!this.assertion) Object.assign(this, { assertion: this.statement, waitCount: this.waits.length });
+    this.asserted.push(renameVariables(formula, ({ name, code }) => {
+      const variable = this.known.has(name) ? name : this.loadShared(code, "as asserted");
+      this.fixed.add(variable);
+      return this.makeSite(variable);
+    }));
+  }
+
+  /** Writes the load of the shared variable that an output prints, if it prints one. */
+  writeOutput(code) {
+    const isCall = OUTPUT.exec(code)[1] !== undefined;
+    const values = isCall ? splitOutside(code.slice(code.indexOf("(") + 1, -1), ",") : splitOutside(code, "<<").slice(1);
+    const others = values.filter((it) => !PRINTED.test(it) && parseConstant(it) === null && !this.known.has(it));
+    if (others.some((it) => !AWAITED.test(it) || it.includes("="))) this.refuseStatement(OF_OUTPUT);
+    if (others.length > 1) this.refuseStatement(OF_LOADS);
+    others.forEach((it) => this.loadShared(it, "as printed"));
   }
 
   /** Returns whether a statement only says that a parameter is not used. */
@@ -230,7 +276,7 @@ export class ThreadWriter extends ValueWriter {
   /** Writes the instructions that set a variable with a register. Throws NoTest if it holds 0 and 1 only, and the value may be another one. */
   assignLocal(name, value) {
     const count = this.accesses.length;
-    if (this.waits.some((it) => it.variable === name)) this.refuseStatement(OF_AWAITED);
+    if (this.fixed.has(name)) this.refuseStatement(OF_FIXED);
     this.writeValue(value, this.findRegister(name));
     this.known.add(name);
     const [access, another] = this.accesses.slice(count);

@@ -24,8 +24,9 @@ const SAME_CODE =
 // Why a statement is refused.
 const OF_ORDER = ", of which compilers make different code";
 const OF_ASSIGNMENTS = ": write each assignment as a statement of its own";
-const OF_LOADS = ": load each shared variable into one of the thread first, since compilers choose which is first";
 const OF_CONSTANTS = ": a constant is decimal, or `0x` and hexadecimal, of 32 bits";
+/** Why two loads in one statement are refused, as the end of a sentence. */
+export const OF_LOADS = ": load each shared variable into one of the thread first, since compilers choose which is first";
 /** Why a thread is refused that has more variables than registers, as the end of a sentence. */
 export const OF_REGISTERS = ", which needs more than six registers";
 /** Why a step of a thread's own variable is refused in a value, as the end of a sentence. */
@@ -88,6 +89,8 @@ export class ValueWriter {
     this.locals = new Set();
     this.bools = new Set();
     this.known = new Set();
+    // Those that are not set again, since a question asks of the value that they have.
+    this.fixed = new Set();
     // What is refused.
     this.statement = null;
   }
@@ -175,8 +178,7 @@ export class ValueWriter {
   /** Writes a step of a variable with a register, whose value before or after it another register gets. */
   writeOwnStep({ place, sign, isBefore }, register) {
     const own = this.findRegister(place);
-    const isAwaited = this.waits.some((it) => it.variable === place);
-    if (own === register || !this.known.has(place) || this.bools.has(place) || isAwaited) this.refuseStatement(OF_STEPS);
+    if (own === register || !this.known.has(place) || this.bools.has(place) || this.fixed.has(place)) this.refuseStatement(OF_STEPS);
     const step = `ADD ${own},$${toWord(Number(`${sign}1`))}`;
     const copy = `MOV ${register},${own}`;
     for (const instruction of isBefore ? [step, copy] : [copy, step]) this.writeInstruction(instruction);

@@ -230,7 +230,7 @@ const OF_VALUES = ": an initial value is one constant, as in `x = 1` or `x{1}`, 
 const OF_LOOPS = ": write out each pass of a loop. `tools/from_c.py` follows loops";
 const OF_PLAIN_LOOPS = ": a compiler loads a plain variable only once, so make it atomic or volatile";
 const OF_BRANCHES = ": a loop that waits is in no branch, and after no `return`";
-const OF_AWAITED = ": this variable has the value that ended a loop, so set another one";
+const OF_FIXED = ": a loop or an assertion has the value of this variable, so set another one";
 const OF_OTHERS = ": a statement is one load, store, exchange, addition or fence, or an `if`";
 const OF_ORDER = ", of which compilers make different code";
 const OF_BOOLS = ": a `bool` is set to `true`, `false`, or another `bool` that is loaded";
@@ -252,6 +252,9 @@ const OF_CONSTANTS = ": a constant is decimal, or `0x` and hexadecimal, of 32 bi
 const OF_ASSIGNMENTS = ": write each assignment as a statement of its own";
 const OF_REGISTERS = ", which needs more than six registers";
 const OF_ENTRIES = ": initial values are entries as `x=1;`";
+const OF_BRANCHED = ": an assertion is in no branch, and after no `return`";
+const OF_ASSERTIONS = ": an assertion compares variables with constants by `==` or `!=`, joined by `&&` and `||`";
+const OF_ENDLESS = ": a loop that waits need not end before this, so assert it at the end of `main`";
 const REFUSED = [
   ["int r0 = y;", "if (y == 1) { int r0 = 1; }", `\`0:r0\`${OF_PATHS}`],
   ["int r0 = y;", "while (y != 1) ;", `\`0:r0\`${UNSET}`],
@@ -264,9 +267,9 @@ const REFUSED = [
   ["int r0 = y;", "while (y.test_and_set()) { }", `\`while (y.test_and_set())\`${OF_LOOPS}`],
   ["int r0 = y;", "do x = y; while (x != 1);", `\`do x = y; while (x != 1)\`${OF_LOOPS}`],
   ["int r0 = y;", "int r0; do r0 = y; while (y != 1);", `\`do r0 = y; while (y != 1)\`${OF_LOOPS}`],
-  ["int r0 = y;", "int r0; do r0 = y; while (r0 != 1); r0++;", `\`r0++\`${OF_AWAITED}`],
+  ["int r0 = y;", "int r0; do r0 = y; while (r0 != 1); r0++;", `\`r0++\`${OF_FIXED}`],
   ["int r0 = y;", "int r0; do r0 = y; while (r0 != 1); int r1 = r0++;", `\`int r1 = r0++\`${OF_STEPS}`],
-  ["int r0 = y;", "{ int r0; do r0 = y; while (r0 != 1); } int r0 = 2;", `\`int r0 = 2\`${OF_AWAITED}`],
+  ["int r0 = y;", "{ int r0; do r0 = y; while (r0 != 1); } int r0 = 2;", `\`int r0 = 2\`${OF_FIXED}`],
   ["int r0 = y;", "int r0 = y; if (r0) while (y != 1) ;", `\`while (y != 1)\`${OF_BRANCHES}`],
   ["int r0 = y;", "int r0 = y; if (r0) return; while (y != 1) ;", `\`while (y != 1)\`${OF_BRANCHES}`],
   ["int r0 = y;", "while (d != 1) ;", `\`while (d != 1)\`${OF_PLAIN_LOOPS}`, "y = 1;", "d = 1;"],
@@ -356,6 +359,16 @@ const REFUSED = [
   ["int r0 = y;", "do { x = 1; y = 2; } while (y != 1);", `\`do\`${OF_LOOPS}`],
   ["int r0 = y;", "while (y != 1) x = 2;", `\`while (y != 1)\`${OF_LOOPS}`],
   ["int r0 = y;", "while (y.load() != 1) { cpu_relax(); x = 1; }", `\`while (y.load() != 1)\`${OF_LOOPS}`],
+  ["int r0 = y;", "if (y) assert(x == 1);", `\`assert(x == 1)\`${OF_BRANCHED}`],
+  ["int r0 = y;", "if (y) return; assert(x == 1);", `\`assert(x == 1)\`${OF_BRANCHED}`],
+  ["int r0 = y;", "assert(x < 1);", `\`assert(x < 1)\`${OF_ASSERTIONS}`],
+  ["int r0 = y;", "int r0 = y; assert(r0 == 1);", "`assert(r0 == 1)`: the program asks something else, so leave this out"],
+  ["int r0 = y;", "int r0 = y; assert(r0 == 1); r0 = 2;", `\`r0 = 2\`${OF_FIXED}`],
+  ["// lw: exists (0:r0=0 /\\ 1:r0=0)", "", `\`assert(r0 == 1)\`${OF_ENDLESS}`, "int r0 = y;", "int r0 = y; assert(r0 == 1); while (x) ;"],
+  ["// lw: exists (0:r0=0 /\\ 1:r0=0)", "", `\`assert(r0 == 1)\`${OF_ENDLESS}`, "int r0 = y; }\nvoid P1(void) {",
+    "int r0 = y; assert(r0 == 1); }\nvoid P1(void) { while (x) ; "],
+  ["int r0 = y;", "printf(\"%d\", x + 1);", "`printf(\"%d\", x + 1)`: a thread prints variables and constants only"],
+  ["int r0 = y;", "printf(\"%d %d\", x, y);", `\`printf("%d %d", x, y)\`${OF_LOADS}`],
   ["int r0 = y;", "goto L;", "`goto L`: `goto` and labels are not rewritten"],
   ["// lw", "x = 1;\n// lw", `\`x = 1;\`${OF_GLOBALS}`],
   ["int d;", "long d;", `\`long d;\`${OF_GLOBALS}`],
@@ -689,6 +702,71 @@ exists (e=0)
  MOV [d],$1      |                ;
 locations [a_on; d]
 exists (1:EBX=0)
+`],
+  ["an assertion after a loop that waits, before a new line and a block", `#include <atomic>
+int data = 0; std::atomic<bool> ready(false);
+void producer() { data = 42; ready.store(true, std::memory_order_release); }
+void consumer() {
+  while (!ready.load(std::memory_order_acquire))
+    ;
+  { int seen = data; assert(seen != 0 && data == 42); }
+}
+int main() { std::thread a(producer), b(consumer); a.join(); b.join(); }
+`, `X86 Mine
+(* 1:EAX is ready after its loop, 1:EBX is seen, 1:ECX is data as asserted *)
+{ data=0; ready=0; }
+ P0             | P1              ;
+ MOV [data],$42 | MOV EAX,[ready] ;
+ MOV [ready],$1 | MOV EBX,[data]  ;
+                | MOV ECX,[data]  ;
+forall (~1:EAX=1 \\/ ~1:EBX=0 /\\ 1:ECX=42)
+`],
+  ["no question, and output of threads", "volatile int x, y;\nvoid P0() { x = 1; y = 1; }\nvoid P1() { int a = y; std::cout << a << \";\" << x << std::endl; puts(\"x\"); printf(\"(%d)\", x); }\n",
+    `X86 Mine
+(* 1:EAX is a, 1:EBX is x as printed, 1:ECX is x as printed 2 *)
+${BLOCK} P0         | P1          ;
+ MOV [x],$1 | MOV EAX,[y] ;
+ MOV [y],$1 | MOV EBX,[x] ;
+            | MOV ECX,[x] ;
+locations [1:EAX; 1:EBX]
+exists (1:ECX=0)
+`],
+  ["independent reads of independent writes, with loops that wait (cppreference.com)", `#include <thread>
+#include <atomic>
+#include <cassert>
+std::atomic<bool> x = {false};
+std::atomic<bool> y = {false};
+std::atomic<int> z = {0};
+void write_x() { x.store(true, std::memory_order_seq_cst); }
+void write_y() { y.store(true, std::memory_order_seq_cst); }
+void read_x_then_y() {
+  while (!x.load(std::memory_order_seq_cst))
+    ;
+  if (y.load(std::memory_order_seq_cst)) ++z;
+}
+void read_y_then_x() {
+  while (!y.load(std::memory_order_seq_cst))
+    ;
+  if (x.load(std::memory_order_seq_cst)) ++z;
+}
+int main() {
+  std::thread a(write_x); std::thread b(write_y);
+  std::thread c(read_x_then_y); std::thread d(read_y_then_x);
+  a.join(); b.join(); c.join(); d.join();
+  assert(z.load() != 0); // will never happen
+}
+`, `X86 Mine
+(* 2:EAX is x after its loop, 3:EAX is y after its loop *)
+{ x=0; y=0; z=0; }
+ P0           | P1           | P2                | P3                ;
+ MOV EAX,$1   | MOV EAX,$1   | MOV EAX,[x]       | MOV EAX,[y]       ;
+ XCHG [x],EAX | XCHG [y],EAX | MOV EBX,[y]       | MOV EBX,[x]       ;
+              |              | CMP EBX,$0        | CMP EBX,$0        ;
+              |              | JE END            | JE END            ;
+              |              | MOV EBX,$1        | MOV EBX,$1        ;
+              |              | LOCK XADD [z],EBX | LOCK XADD [z],EBX ;
+              |              | END:              | END:              ;
+~exists (2:EAX=1 /\\ 3:EAX=1 /\\ z=0)
 `],
   ["two questions", `${PROGRAM}/* lw: exists (x=1) */\n`, "`/* lw: exists (x=1) */`: a second comment says what is asked"],
   ["a function without an end", PROGRAM.split("}")[0], "`void P0(void) {`: its `}` is missing"],
