@@ -26,6 +26,9 @@ const COUNTING = /^for\((?:int|size_t|unsigned|auto) (\w+)=0;\1(?:<|!=)([1-9]);(
 const STARTING = /\bthread\b|_create\b|_back\b/;
 const JOINING = /\.\s{0,9}join\b|_join\b|\bjthread\b/;
 const JOIN = /^(?:(\w+(?:\[\d+\])?)\.join\(\)|(?:pthread|thrd)_join\((\w+(?:\[\d+\])?),[^,]*\))$/;
+// A call that starts or joins a thread, in a condition: the group is the call. And what its result is assigned to.
+const CHECKED = /^((?:pthread|thrd)_(?:create|join)\s*\([^()]*\))\s*(?:[!=<>]=?\s*\w+)?$/;
+const RESULT = /^(?:int )?\w+=(?=(?:pthread|thrd)_(?:create|join)\()/;
 const HANDLES = /^(?:pthread_t|thrd_t) \w/;
 const CONTAINER = /^(?:vector<(j?)thread>|array<(j?)thread,\w+>) ?(\w+)(?:\(\w*\)|\{\})?$/;
 const THREADS = /^(j?)thread (.*)$/;
@@ -127,10 +130,12 @@ class MainFollower {
     for (const [handle, isJoining] of [...this.running]) if (isJoining && isInner(handle)) this.joinThread(handle);
   }
 
-  /** Takes an `if` for a question. What is in its branches does not matter. */
+  /** Takes an `if` for a question, unless it asks whether a thread was started or joined. What is in its branches does not matter. */
   followBranch(statement) {
     for (const it of [...statement.then, ...statement.otherwise]) this.checkHarmless(it);
-    this.ask(statement, (formula) => `exists (${formatFormula(formula)})`, statement.condition);
+    const [, call] = CHECKED.exec(statement.condition.trim()) ?? [];
+    if (call) this.followSimple({ code: call, index: statement.index + statement.code.indexOf(call) });
+    else this.ask(statement, (formula) => `exists (${formatFormula(formula)})`, statement.condition);
   }
 
   /** Throws NoTest unless a statement, and all statements in it, change nothing that threads share. */
@@ -155,6 +160,11 @@ class MainFollower {
   followSimple(statement) {
     const code = this.squeeze(this.takeLambdas({ code: removeStrings(statement.code), index: statement.index }));
     if (isHarmless(code)) return;
+    this.followCode(code.replace(RESULT, ""), statement);
+  }
+
+  /** Follows the squeezed code of a statement. */
+  followCode(code, statement) {
     const starts = this.parseStarts(code);
     const [, lambdaName, lambda] = NAMED_LAMBDA.exec(code) ?? [];
     const [, handle, other] = JOIN.exec(code) ?? [];

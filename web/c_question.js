@@ -26,8 +26,10 @@ export function parseFormula(code) {
   for (const [mark, sign] of SIGNS) {
     const codes = splitOutside(inner, mark);
     if (codes.length === 1) continue;
-    const parts = codes.map(parseFormula);
-    return parts.includes(null) ? null : { sign, parts };
+    // A string says what is asserted.
+    const parts = codes.filter((it) => mark === "||" || !/^"[^"]*"$/.test(it)).map(parseFormula);
+    if (parts.length === 1) return parts[0];
+    return !parts.length || parts.includes(null) ? null : { sign, parts };
   }
   return /^!(?!=)/.test(inner) ? parseNegation(inner.slice(1)) : parseAtom(inner);
 }

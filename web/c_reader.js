@@ -40,10 +40,11 @@ const PROTOTYPE = /^(?:\w+[\s*]+)+\w+\s*\([^(){};]*\)\s*;/;
 const MACRO = /^#[ \t]*define\b(?:[ \t]+(\w+)(?![\w(])[ \t]*(.*)|.*)/;
 const CONSTANT = /^(?:(?:static|inline)\s+)*(?:constexpr|const)\s+(?:auto|(?:unsigned\s+)?int|u?int32_t|(?:std::)?memory_order)\s+(\w+)\s*[={]\s*([\w:]+)\s*\}?\s*;/;
 const ORDER = /^memory_order_\w+$/;
-// What gives names. In squeezed code, a name for an order of memory, and a reference by which a variable is atomic: the groups are its name, and what it
-// refers to.
+// What gives names. In squeezed code, a name for an order of memory, for a constant, and for a reference by which a variable is atomic: the groups are
+// its name, and what it is of.
 const NAMING = /\b(?:atomic_ref|memory_order)/;
 const NAMED_ORDER = /^(?:static |const |constexpr )*(?:auto|memory_order) (\w+)[={](memory_order_\w+)\}?$/;
+const NAMED_WORD = /^(?:static |const )*constexpr (?:const )?(?:auto|int|unsigned(?: int)?|u?int32_t) (\w+)[={](\w+)\}?$/;
 const REFERENCE = /^(?:static |const )*(?:atomic_ref(?:<[\w ]{0,40}>| )(\w+)|auto (\w+)=atomic_ref(?:<[\w ]{0,40}>)?)[({](\w+)[)}]$/;
 // The begin of a block of declarations.
 const SPACE = /^(?:(?:inline\s+)?namespace(?:\s+[\w:]+)?|extern\s+"C")\s*\{/;
@@ -153,18 +154,21 @@ export function replaceNames(code, names) {
 }
 
 /**
- * Adds to `names` what squeezed code names: an order of memory, or a reference by which a variable is atomic. Returns whether it names one.
+ * Adds to `names` what squeezed code names: an order of memory, a constant, or a reference by which a variable is atomic. Returns whether it names one.
  * @param {string} code
  * @param {Map<string, string>} names
  * @returns {boolean}
  */
 export function defineName(code, names) {
   const [, name, order] = NAMED_ORDER.exec(code) ?? [];
+  const [, constant, word] = NAMED_WORD.exec(code) ?? [];
   const [, first, second, variable] = REFERENCE.exec(code) ?? [];
+  const isWord = constant !== undefined && parseConstant(word) !== null;
   if (order) names.set(name, order);
+  if (isWord) names.set(constant, word);
   // Only its methods are atomic without a word that says so.
   if (variable) names.set(`${first ?? second}.`, variable);
-  return Boolean(order || variable);
+  return Boolean(order || isWord || variable);
 }
 
 /**

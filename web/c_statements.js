@@ -15,7 +15,7 @@ const LOOP = /^(?:else|while|for|do|switch)\b/;
 const SWITCH = /^switch\b/;
 const HEAD = /^\w+\s*(?=\()/;
 // The body of a loop that only waits, in squeezed code: the group is what it assigns.
-const WAITING = /^\{?(?:;|(\w+=[^;{}]+);)?(?:(?:this_thread::)?\w{0,40}(?:pause|relax|yield|sleep)\w{0,40}\([^();]*\);)*\}?$/;
+const WAITING = /^\{?(?:;|(\w+=[^;{}]+);)?(?:(?:this_thread::)?\w{0,40}(?:pause|relax|yield|sleep)\w{0,40}\((?:[^();]|\([^();]*\))*\);)*\}?$/;
 const DO = /^do\b/;
 const WHILE = /^\s*while\s*(?=\()/;
 /** Why a loop is refused, as the end of a sentence. */

@@ -13,7 +13,7 @@ const FENCE =
   /^(?:atomic_thread_fence\(memory_order_seq_cst\)|(?:smp_mb|__sync_synchronize|_mm_mfence|__builtin_ia32_mfence)\(\)|(?:__)?asm(?:__)? (?:__)?volatile(?:__)?\("mfence":::"memory"\))$/;
 const NO_FENCE =
   /^(?:atomic_thread_fence\(memory_order_(?:relaxed|consume|acquire|release|acq_rel)\)|atomic_signal_fence\(memory_order_\w+\)|(?:smp_[rw]mb|barrier)\(\)|(?:__)?asm(?:__)? (?:__)?volatile(?:__)?\("":::"memory"\))$/;
-const RETURN = /^return\b ?(.*)$/;
+const RETURN = /^(?:return\b ?(.*)|pthread_exit\((?:NULL|nullptr|0)\))$/;
 // What a thread returns that has no result.
 const NOTHING = /^(?:NULL|nullptr|0|\(void\*\)0)$/;
 // A statement without an effect, in squeezed code: the group is the name of a parameter.
@@ -201,12 +201,12 @@ export class ThreadWriter extends ValueWriter {
       if (this.variables.has(variable.name) || this.locals.has(variable.name)) this.refuseStatement(OF_NAMES);
       this.declareLocal(variable, variable.value);
     }
-    const [, result] = RETURN.exec(statement) ?? [];
+    const [isReturn, result = ""] = RETURN.exec(statement) ?? [];
     const [, condition] = ASSERTION.exec(statement) ?? [];
     if (FENCE.test(statement)) this.writeInstruction("MFENCE");
     else if (condition) this.writeAssertion(condition);
     else if (OUTPUT.test(statement)) this.writeOutput(this.squeeze(removeStrings(this.statement.code)));
-    else if (result !== undefined) this.writeReturn(result, isLast);
+    else if (isReturn) this.writeReturn(result, isLast);
     else if (!declared.length && !NO_FENCE.test(statement) && !this.isUseOfParameter(statement)) this.writeAssignment(statement);
   }
 

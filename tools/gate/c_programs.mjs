@@ -167,6 +167,8 @@ const MAINS = [
     "forall (x=1 /\\ (0:EAX=1 \\/ 1:EAX=1) /\\ y=1)"],
   [ATOMICS, `${TWO_THREADS} ${JOINS} assert(r1 != 2); assert(!(r2 == 2 || r2 == 3));`, STORE_THEN_LOAD, "~exists (0:EAX=2 \\/ 1:EAX=2 \\/ 1:EAX=3)"],
   [ATOMICS, `${TWO_THREADS} ${JOINS} assert(!(r1 == 0 && r2 != 0));`, STORE_THEN_LOAD, "forall (~0:EAX=0 \\/ 1:EAX=0)"],
+  ["std::atomic<int> x;\n", `constexpr int N = 2; x = N; std::thread a([&] { constexpr auto M = 3; x.store(M, std::memory_order_relaxed); }); a.join(); assert(x != N);`,
+    ["MOV [x],$3"], "~exists (x=2)"],
   [ATOMICS, `{ std::jthread a(${FIRST_LAMBDA}), b{${SECOND_LAMBDA}}; } assert(r1 == 1 || r2 == 1);`, STORE_THEN_LOAD, "forall (0:EAX=1 \\/ 1:EAX=1)"],
   [ATOMICS, `std::jthread a(${FIRST_LAMBDA}); auto f = ${SECOND_LAMBDA}; std::jthread b(f);`, STORE_THEN_LOAD, BOTH_0],
   [ATOMICS, `std::thread a, b; b = std::thread(${SECOND_LAMBDA}); a = std::thread(${FIRST_LAMBDA}); a.join(); b.join();`, [...STORE_THEN_LOAD].reverse(), BOTH_0],
@@ -178,6 +180,8 @@ const MAINS = [
   for (int i = 0; i < 2; ++i) thrd_join(t[i], NULL); if (y == 3) puts("");`, STORE_THEN_LOAD, "exists (y=3)"],
   ["atomic_int x;\nvoid *f(void *a) { x++; return NULL; }\n", `pthread_t t[2]; for (int i = 0; i < 2; i++) { pthread_create(&t[i], NULL, f, NULL); } for (int i = 0; i < 2; i++)
   pthread_join(t[i], NULL);`, Array(2).fill("MOV EAX,$1; LOCK XADD [x],EAX"), "exists (true)"],
+  ["atomic_int x;\nvoid *f(void *a) { x++; pthread_exit(NULL); }\n", `pthread_t a; int status; if (pthread_create(&a, NULL, f, NULL) != 0) return 1;
+  status = pthread_join(a, NULL); assert(x == 1 && "once; (1)");`, ["MOV EAX,$1; LOCK XADD [x],EAX"], "forall (x=1)"],
   ["std::atomic<int> x;\n", `std::vector<std::thread> ts; for (int n = 0; n != 3; ++n) ts.emplace_back([&] { x++; }); for (auto& t : ts) t.join();`,
     Array(3).fill("MOV EAX,$1; LOCK XADD [x],EAX"), "exists (true)"],
   ["atomic_int x;\nvoid f() { x++; }\n", `std::thread a(f), b(f); a.join(); b.join(); assert(x == 2);`, Array(2).fill("MOV EAX,$1; LOCK XADD [x],EAX"), "forall (x=2)"],
@@ -708,7 +712,9 @@ int data = 0; std::atomic<bool> ready(false);
 void producer() { data = 42; ready.store(true, std::memory_order_release); }
 void consumer() {
   while (!ready.load(std::memory_order_acquire))
-    ;
+  {
+    std::this_thread::sleep_for(std::chrono::milliseconds(1));
+  }
   { int seen = data; assert(seen != 0 && data == 42); }
 }
 int main() { std::thread a(producer), b(consumer); a.join(); b.join(); }
