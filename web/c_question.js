@@ -1,7 +1,7 @@
 // Reads what a program in C or C++ asserts, and writes questions of lw. Not proved.
 //
 // A `Formula` is an atom, or has a `sign`, `/\` or `\/`, and the `parts` that it joins. An atom has the `name` of a variable, and a `word`; `isEqual`
-// says whether the variable is to be this word, or another one. If it is read from a condition, it has the `code` of its variable, or of a load of it.
+// says whether the variable is to be this word, or another one. If it is read from a condition, its `code` is its variable, or a load of it.
 
 import { parseConstant } from "./c_reader.js";
 import { removeOuterParentheses, splitOutside } from "./c_statements.js";

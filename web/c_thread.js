@@ -9,10 +9,15 @@ import { isTruth, OF_BOOLS, OF_LOADS, OF_REGISTERS, OF_STEPS, OF_SUBTRACTION, pa
 import { REGISTERS } from "./token_reader.js";
 
 // The patterns are of squeezed code. First fences, and those of which x86 code has none.
-const FENCE =
-  /^(?:atomic_thread_fence\(memory_order_seq_cst\)|(?:smp_mb|__sync_synchronize|_mm_mfence|__builtin_ia32_mfence)\(\)|(?:__)?asm(?:__)? (?:__)?volatile(?:__)?\("mfence":::"memory"\))$/;
-const NO_FENCE =
-  /^(?:atomic_thread_fence\(memory_order_(?:relaxed|consume|acquire|release|acq_rel)\)|atomic_signal_fence\(memory_order_\w+\)|(?:smp_[rw]mb|barrier)\(\)|(?:__)?asm(?:__)? (?:__)?volatile(?:__)?\("":::"memory"\))$/;
+const ASSEMBLY = "(?:__)?asm(?:__)? (?:__)?volatile(?:__)?";
+const FENCE = new RegExp(
+  "^(?:atomic_thread_fence\\(memory_order_seq_cst\\)|(?:smp_mb|__sync_synchronize|_mm_mfence|__builtin_ia32_mfence)\\(\\)|" +
+    `${ASSEMBLY}\\("mfence":::"memory"\\))$`,
+);
+const NO_FENCE = new RegExp(
+  "^(?:atomic_thread_fence\\(memory_order_(?:relaxed|consume|acquire|release|acq_rel)\\)|atomic_signal_fence\\(memory_order_\\w+\\)|" +
+    `(?:smp_[rw]mb|barrier)\\(\\)|${ASSEMBLY}\\("":::"memory"\\))$`,
+);
 const RETURN = /^(?:return\b ?(.*)|pthread_exit\((?:NULL|nullptr|0)\))$/;
 // What a thread returns that has no result.
 const NOTHING = /^(?:NULL|nullptr|0|\(void\*\)0)$/;

@@ -400,6 +400,17 @@ const REFUSED = [
   ["int d;", "atomic_int eax;", "eax is reserved", "x = 1", "eax = 1"],
 ];
 
+// Long texts, the places of a program where they are put, as what is before and after them, and the most milliseconds for each.
+const LONG = [" ".repeat(60000), "a".repeat(60000), "(".repeat(60000), "int x;\n".repeat(10000), "{".repeat(60000), "(".repeat(30000) + ")".repeat(30000)];
+const STARTED = "int main() { std::thread t([&] { x = 1; }); t.join(); ";
+const PLACES = [
+  ["", ""], ["int main() { ", " }"], ["int main() { std::thread t([&] { ", " }); t.join(); }"], ["int main() { std::thread t([&", "] { x = 1; }); t.join(); }"],
+  [`${STARTED}assert(`, "); }"], [`${STARTED}if (`, ") puts(\"\"); }"], ["void f(", ") { x = 1; }"], ["void f() { ", " }"], ["void f() { while (", ") ; }"],
+  ["void f() { while (x) { yield(", "); } }"], ["void f() { do ", " while (x == 0); }"], ["void f() { printf(", "); }"], ["using ", ""], ["#define N ", "\n"],
+  ["constexpr int N = ", ";\n"], ["struct { ", " } s;\n"], ["void f() { while (x) ; }\nexists (", ""],
+];
+const SLOWEST = 2000;
+
 /** Returns the instructions of a thread of a test, joined by `; `. */
 function listInstructions(text, thread) {
   const rows = text.split("\n").filter((it) => /;$/.test(it) && !/^ P0|locations/.test(it));
@@ -437,6 +448,33 @@ function isAt(program, { why, index }) {
   return part === undefined ? index === undefined : program.slice(index).replace(/\s+/g, " ").startsWith(part);
 }
 
+/** Compares programs with a `main`, and what is refused in it. */
+function compareMains(page, compare) {
+  const { rewriteProgram } = page.c_program;
+  for (const [before, code, threads, question] of MAINS) {
+    const { made, why } = rewriteProgram(`${before}int main() { ${code} }\n`);
+    compare(`main: ${code}`, [...threads, question, true], made ? [...threads.map((_, at) => listInstructions(made, at)), findQuestion(made), page.other_tools.isRead(made)] : [why]);
+  }
+  for (const [part, wrong, why] of REFUSED_MAINS) {
+    const program = MAIN.replace(part, () => wrong);
+    const found = rewriteProgram(program);
+    compare(`what is refused in main: ${wrong}`, [why, true], [found.why ?? found.made, isAt(program, found)]);
+  }
+}
+
+/** Compares the time that long texts take, in each place of a program, with what is bearable on a slow machine. */
+function compareTimes(page, compare) {
+  const begin = "std::atomic<int> x;\nint r;\n";
+  for (const [before, after] of PLACES) {
+    for (const long of LONG) {
+      const start = performance.now();
+      const { why = "" } = page.c_program.rewriteProgram(`${begin}${before}${long}${after}`);
+      const isFast = performance.now() - start < SLOWEST;
+      compare(`the time of ${long.slice(0, 10)}.. in ${before}`, [true, false], [isFast, /call stack/.test(why)]);
+    }
+  }
+}
+
 /** Compares statements in both forms, refusals, whole programs, and hints. `compare` takes what is compared, and the expected and the found value. */
 function comparePrograms(page, compare) {
   const { rewriteProgram } = page.c_program;
@@ -458,15 +496,8 @@ function comparePrograms(page, compare) {
     const found = rewriteProgram(program);
     compare(`what is refused in ${wrong}`, [why, true], [found.why ?? found.made, isAt(program, found)]);
   }
-  for (const [before, code, threads, question] of MAINS) {
-    const { made, why } = rewriteProgram(`${before}int main() { ${code} }\n`);
-    compare(`main: ${code}`, [...threads, question, true], made ? [...threads.map((_, at) => listInstructions(made, at)), findQuestion(made), isRead(made)] : [why]);
-  }
-  for (const [part, wrong, why] of REFUSED_MAINS) {
-    const program = MAIN.replace(part, () => wrong);
-    const found = rewriteProgram(program);
-    compare(`what is refused in main: ${wrong}`, [why, true], [found.why ?? found.made, isAt(program, found)]);
-  }
+  compareMains(page, compare);
+  compareTimes(page, compare);
   for (const [what, program, expected] of WHOLE) {
     const found = rewriteProgram(program);
     compare(what, expected, found.made ?? found.why);
