@@ -5,7 +5,7 @@
 
 import { alignCells } from "./aligned.js";
 import { startThreads } from "./c_main.js";
-import { formatAssertion, limitQuestion } from "./c_question.js";
+import { formatAssertion, formatFormula, limitQuestion } from "./c_question.js";
 import { checkThreads, readProgram, refusePart } from "./c_reader.js";
 import { RESULT, ThreadWriter } from "./c_thread.js";
 import { readTest } from "./tests.js";
@@ -91,20 +91,46 @@ function listWritten(accesses, question) {
   return [...new Set(accesses.map((it) => it.name))].filter((it) => isListed(it) && !new RegExp(`\\b${it}\\b`).test(question));
 }
 
-/** Returns a question for a test that has none: whether all variables that threads loaded last can be 0. It is `true` if no thread loads. */
+/**
+ * Returns a question for a test that has none: whether all variables that threads loaded last can be 0, if these loads are reached. It is `true` if no
+ * thread loads.
+ */
 function guessQuestion(writers) {
-  const asked = writers.filter((it) => it.known.has(it.loaded)).map((it) => `${it.makeSite(it.loaded)}=0`);
-  return `exists (${asked.join(" /\\ ") || "true"})`;
+  const asked = writers.filter(isAskedOf).flatMap((writer) => {
+    const branches = writer.loadedBranches.flatMap((it) => it.comparisons);
+    const atoms = [...branches, { variable: writer.loaded, word: 0, isEqual: true }];
+    return atoms.map(({ variable, word, isEqual }) => formatFormula({ name: writer.makeSite(variable), word, isEqual }));
+  });
+  return `exists (${[...new Set(asked)].join(" /\\ ") || "true"})`;
+}
+
+/** Returns whether a question can ask of the variable that a thread loaded last: it has a value, or it is known in which states it has one. */
+function isAskedOf({ loaded, known, loadedBranches }) {
+  const comparisons = loadedBranches.flatMap((it) => it.comparisons);
+  if (comparisons.some(({ variable, word }) => variable === null || word === null)) return false;
+  return comparisons.length > 0 || known.has(loaded);
+}
+
+/** Returns the writer of a thread, in which the conditions before the last load have registers if a question is to be guessed and there are enough. */
+function writeThread(program, number) {
+  const writer = new ThreadWriter(program, number).writeThread();
+  if (program.question.code || !writer.loadedBranches.length) return writer;
+  try {
+    return new ThreadWriter(program, number, writer.loadedBranches.map((it) => it.index)).writeThread();
+  } catch {
+    return writer;
+  }
 }
 
 /**
  * Returns the list of sites that a question does not name, as the line before it; "" if there is none. If the question is a guess, these are also
- * registers, and all locations if it is of nothing.
+ * registers, and all locations if no thread only loads.
  */
 function formatList(question, isGuess, accesses, sites) {
   if (question.startsWith("locations")) return "";
   const registers = isGuess ? sites.filter((it) => !question.includes(it)) : [];
-  const names = isGuess && question.endsWith("(true)") ? [...new Set(accesses.map((it) => it.name))] : listWritten(accesses, question);
+  const isOfStores = isGuess && question.endsWith("(true)") && !accesses.some((it) => it.isRead && !it.isWrite);
+  const names = isOfStores ? [...new Set(accesses.map((it) => it.name))] : listWritten(accesses, question);
   const listed = [...registers, ...names];
   return listed.length ? `locations [${listed.join("; ")}]\n` : "";
 }
@@ -113,7 +139,7 @@ function formatList(question, isGuess, accesses, sites) {
 function writeTest(text) {
   const program = startThreads(readProgram(text));
   checkThreads(program);
-  const writers = program.threads.map((_, number) => new ThreadWriter(program, number).writeThread());
+  const writers = program.threads.map((_, number) => writeThread(program, number));
   const accesses = writers.flatMap((it) => it.accesses);
   const used = new Set(accesses.map((it) => it.name));
   const asked = askAssertions(program, writers) || translateQuestion(program, writers, used);

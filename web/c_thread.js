@@ -54,6 +54,11 @@ function convertStep(statement) {
   return step ? `${step.place}${step.sign}=1` : statement;
 }
 
+/** Returns the comparisons of which all hold if some do not all hold: of no variable, if this is more than one comparison. */
+function negateComparisons([only, another]) {
+  return another ? [{ variable: null, word: null, isEqual: false }] : [{ ...only, isEqual: !only.isEqual }];
+}
+
 /** Returns the variables that are known after two paths; each is null if no run comes to its end. */
 function joinPaths(one, other) {
   return one && other ? new Set([...one].filter((it) => other.has(it))) : one ?? other;
@@ -62,14 +67,15 @@ function joinPaths(one, other) {
 /** Writes the instructions of a thread, and records what they access. */
 export class ThreadWriter extends ValueWriter {
   /**
-   * Makes a writer of a thread, given its number. Nothing is written yet.
+   * Makes a writer of a thread, given its number, and the indices of each `if` whose loads have registers of their own. Nothing is written yet.
    * @param {Program} program
    * @param {number} number
+   * @param {number[]} [kept]
    */
-  constructor({ words, names, threads, isHerd }, number) {
+  constructor({ words, names, threads, isHerd }, number, kept = []) {
     const { name, head, code, parameters, variables, returnsWord, isStarted } = threads[number];
     super(number, variables, names);
-    Object.assign(this, { name, head, code, parameters, words, returnsWord, isStarted, isHerd });
+    Object.assign(this, { name, head, code, parameters, words, returnsWord, isStarted, isHerd, kept });
     // The shared variables that only this thread uses, and that are neither atomic nor volatile. They have registers.
     const codes = threads.map((it) => replaceNames(it.code.code, names));
     const isUsed = (variable, text) => new RegExp(`\\b${variable}\\b`).test(text);
@@ -80,10 +86,11 @@ export class ThreadWriter extends ValueWriter {
     this.exits = [];
     this.labelCount = 0;
     this.loaded = null;
-    // Of each loop that waits, the variable with a register that it loads, and the word of which this variable is, or is not, while it waits. And the
-    // number of branches around a statement.
+    // Of each loop that waits, the variable with a register that it loads, and the word of which this variable is, or is not, while it waits.
     this.waits = [];
-    this.branchCount = 0;
+    // The branches around a statement, and around the last load: the index of their `if`, and the comparisons that hold in them.
+    this.branches = [];
+    this.loadedBranches = [];
     // The formulas that it asserts, of sites; the first statement that does; and the number of loops that wait before it.
     this.asserted = [];
     this.assertion = null;
@@ -141,18 +148,25 @@ export class ThreadWriter extends ValueWriter {
   writeBranch({ condition, then, otherwise }, isLast) {
     const other = isLast && !otherwise.length ? END : this.makeLabel();
     const end = isLast ? END : otherwise.length ? this.makeLabel() : other;
-    this.writeCondition(this.squeeze(condition), other);
-    this.branchCount += 1;
+    const { index } = this.statement;
+    const depth = this.branches.length;
+    const comparisons = this.writeCondition(this.squeeze(condition), other);
+    const negated = { index, comparisons: negateComparisons(comparisons) };
+    this.branches.push({ index, comparisons });
     const before = new Set(this.known);
     this.writeBlock(then, isLast && !otherwise.length);
+    this.branches.length = depth;
     const after = this.known;
     this.known = before;
     if (otherwise.length) {
       if (after) this.writeInstruction(`JMP ${end}`);
       this.labels.push(other);
+      this.branches.push(negated);
       this.writeBlock(otherwise, isLast);
+      this.branches.length = depth;
     }
-    this.branchCount -= 1;
+    // What follows is as in the other branch if the first one returns.
+    if (!after && !otherwise.length) this.branches.push(negated);
     this.known = joinPaths(after, this.known);
     const isTarget = this.instructions.some((it) => it.endsWith(` ${end}`));
     if (!isLast && isTarget) this.labels.push(end);
@@ -169,7 +183,7 @@ export class ThreadWriter extends ValueWriter {
     const [, place, load] = AWAITED.exec(isAssigned ? this.squeeze(assigns) : assigns ? "" : value ?? "") ?? [];
     const isLoad = load && parseConstant(load) === null && !this.locals.has(load) && (!place || this.locals.has(place));
     if (another || word === null || !isLoad) this.refuseStatement(OF_LOOPS);
-    if (this.branchCount || this.exits.length) this.refuseStatement(OF_BRANCHES);
+    if (this.branches.length || this.exits.length) this.refuseStatement(OF_BRANCHES);
     const { loaded } = this;
     const { name } = this.parseOperation(load);
     const number = this.waits.length + 1;
@@ -184,15 +198,27 @@ export class ThreadWriter extends ValueWriter {
     this.loaded = loaded;
   }
 
-  /** Writes the instructions that jump to a label if a condition is false. */
+  /**
+   * Writes the instructions that jump to a label if a condition is false. Returns its comparisons: of a variable that has a register, or null, with a
+   * word, or null.
+   */
   writeCondition(condition, label) {
-    for (const { sides: [value, other], isEqual } of parseCondition(condition) ?? this.refuseStatement(OF_CONDITIONS)) {
+    return (parseCondition(condition) ?? this.refuseStatement(OF_CONDITIONS)).map(({ sides: [value, other], isEqual }) => {
       if (this.locals.has(other) && parseStep(value)?.place === other) this.refuseStatement(OF_STEPS);
-      const register = this.known.has(value) ? this.findRegister(value) : SPARE;
+      const variable = this.known.has(value) ? value : this.kept.includes(this.statement.index) && AWAITED.test(value) ? this.keepLoad(value) : null;
+      const register = variable === null ? SPARE : this.findRegister(variable);
       if (register === SPARE) this.writeValue(value, SPARE);
       this.writeInstruction(`CMP ${register},${this.findOperand(other) ?? this.refuseStatement(OF_SIDES)}`);
       this.writeInstruction(`${isEqual ? "JNE" : "JE"} ${label}`);
-    }
+      return { variable, word: parseConstant(other), isEqual };
+    });
+  }
+
+  /** Loads a shared variable of a condition into one of its own, which is not that which is loaded last. Returns its name. */
+  keepLoad(load) {
+    const { loaded, loadedBranches } = this;
+    const variable = this.loadShared(load, "in its condition");
+    return Object.assign(this, { loaded, loadedBranches }) && variable;
   }
 
   /** Writes a statement that has no statements in it: a declaration, a fence, a `return`, or an operation. */
@@ -227,7 +253,7 @@ export class ThreadWriter extends ValueWriter {
   /** Writes the loads of an assertion, and records what it asserts. Throws NoTest if it may not be reached, or is of more than comparisons. */
   writeAssertion(condition) {
     const formula = parseFormula(condition) ?? this.refuseStatement(OF_ASSERTIONS);
-    if (this.branchCount || this.exits.length) this.refuseStatement(OF_BRANCHED);
+    if (this.branches.length || this.exits.length) this.refuseStatement(OF_BRANCHED);
     if (!this.assertion) Object.assign(this, { assertion: this.statement, waitCount: this.waits.length });
     this.asserted.push(renameVariables(formula, ({ name, code }) => {
       const variable = this.known.has(name) ? name : this.loadShared(code, "as asserted");
@@ -287,6 +313,6 @@ export class ThreadWriter extends ValueWriter {
     const [access, another] = this.accesses.slice(count);
     const isLoaded = access?.isBool && !another && !/^(?:\w+: )*ADD\b/.test(this.instructions.at(-1));
     if (this.bools.has(name) && !isLoaded && !isTruth(value)) this.refuseStatement(OF_BOOLS);
-    if (access && !access.isWrite) this.loaded = name;
+    if (access && !access.isWrite) Object.assign(this, { loaded: name, loadedBranches: [...this.branches] });
   }
 }

@@ -122,7 +122,7 @@ const STATEMENTS = [
     "MOV EBX,[x]; CMP EBX,$0; JE L1; L1: MOV EAX,[y]; MOV [v],EAX; MOV EBX,[x]; ADD EBX,$1; CMP EBX,$2; JNE L2; JMP L3; L2: MOV [v],$2; " +
     "L3: MOV EAX,$1", "if (*x) ; { int r0 = *y; *v = r0; } if (*x + 1 == 2) { } else *v = 2; { int r0 = 1; }"],
   ["if (x) p = 1; else p = y; if (p == 1) v = p;",
-    "MOV EBX,[x]; CMP EBX,$0; JE L1; MOV EAX,$1; JMP L2; L1: MOV EAX,[y]; L2: CMP EAX,$1; JNE END; MOV [v],EAX; END:", null],
+    "MOV EAX,[x]; CMP EAX,$0; JE L1; MOV EBX,$1; JMP L2; L1: MOV EBX,[y]; L2: CMP EBX,$1; JNE END; MOV [v],EBX; END:", null],
   // Fences.
   ["atomic_thread_fence(memory_order_seq_cst);", "MFENCE", "atomic_thread_fence(memory_order_seq_cst);"],
   ["std::atomic_thread_fence(std::memory_order::seq_cst); smp_mb(); __sync_synchronize();", "MFENCE; MFENCE; MFENCE",
@@ -679,6 +679,35 @@ ${BLOCK} P0         | P1          ;
  MOV [y],$1 | MOV [x],$1  ;
 locations [x]
 exists (1:EAX=1)
+`],
+  ["no question, and a load in a branch", `std::atomic<bool> flag; int data, r;
+void P0() { data = 42; flag.store(true, std::memory_order_release); }
+void P1() { if (flag.load(std::memory_order_acquire)) r = data; }
+`, `X86 Mine
+(* 1:EAX is flag in its condition, 1:EBX is r *)
+{ flag=0; data=0; }
+ P0             | P1             ;
+ MOV [data],$42 | MOV EAX,[flag] ;
+ MOV [flag],$1  | CMP EAX,$0     ;
+                | JE END         ;
+                | MOV EBX,[data] ;
+                | END:           ;
+exists (~1:EAX=0 /\\ 1:EBX=0)
+`],
+  ["no question, and a load after a return", `std::atomic<int> flag; int data;
+void P0() { data = 42; flag.store(1, std::memory_order_release); }
+void P1() { int f = flag; if (f != 1) return; int r = data; }
+`, `X86 Mine
+(* 1:EAX is f, 1:EBX is r *)
+{ flag=0; data=0; }
+ P0             | P1                 ;
+ MOV [data],$42 | MOV EAX,[flag]     ;
+ MOV [flag],$1  | CMP EAX,$1         ;
+                | JE L1              ;
+                | JMP END            ;
+                | L1: MOV EBX,[data] ;
+                | END:               ;
+exists (1:EAX=1 /\\ 1:EBX=0)
 `],
   ["no question, and only stores", "volatile int x, y;\nvoid P0() { x = 1; y = 2; }\nvoid P1() { y = 1; x = 2; }\n", `X86 Mine
 ${BLOCK} P0         | P1         ;
