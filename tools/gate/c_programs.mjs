@@ -152,9 +152,10 @@ const TWO_THREADS = `std::thread t1(${FIRST_LAMBDA}); std::thread t2(${SECOND_LA
 const JOINS = "t1.join(); t2.join();";
 const FUNCTIONS = `void *writer(void *);
 void *writer(void *arg) { (void)arg; x.store(1, std::memory_order_relaxed); r1 = y.load(std::memory_order_relaxed); return NULL; }
-static int reader(void* unused) { y.store(1, std::memory_order_relaxed); r2 = x.load(std::memory_order_relaxed); return 0; }
+static void* reader(void* unused) { y.store(1, std::memory_order_relaxed); r2 = x.load(std::memory_order_relaxed); return 0; }
 void left_out(int i) { x = i; }
 `;
+const FUNCTIONS_OF_C11 = FUNCTIONS.replace(/void ?\* ?(?=writer|reader)/g, "int ").replace("return NULL", "return 0");
 const BOTH_0 = "exists (0:EAX=0 /\\ 1:EAX=0)";
 const NEVER = `~${BOTH_0}`;
 const MAINS = [
@@ -176,7 +177,7 @@ const MAINS = [
     STORE_THEN_LOAD, BOTH_0],
   [ATOMICS + FUNCTIONS, `pthread_t a, b; pthread_create(&a, NULL, reader, NULL); pthread_create(&b, NULL, writer, (void *)1); pthread_join(a, NULL);
   pthread_join(b, NULL);`, [...STORE_THEN_LOAD].reverse(), BOTH_0],
-  [ATOMICS + FUNCTIONS, `x = 0; y.store(3); thrd_t t[2]; thrd_create(&t[0], writer, NULL); thrd_create(&t[1], &reader, 0);
+  [ATOMICS + FUNCTIONS_OF_C11, `x = 0; y.store(3); thrd_t t[2]; thrd_create(&t[0], writer, NULL); thrd_create(&t[1], &reader, 0);
   for (int i = 0; i < 2; ++i) thrd_join(t[i], NULL); if (y == 3) puts("");`, STORE_THEN_LOAD, "exists (y=3)"],
   ["atomic_int x;\nvoid *f(void *a) { x++; return NULL; }\n", `pthread_t t[2]; for (int i = 0; i < 2; i++) { pthread_create(&t[i], NULL, f, NULL); } for (int i = 0; i < 2; i++)
   pthread_join(t[i], NULL);`, Array(2).fill("MOV EAX,$1; LOCK XADD [x],EAX"), "exists (true)"],
