@@ -141,7 +141,13 @@ class MainFollower {
   /** Throws NoTest unless a statement, and all statements in it, change nothing that threads share. */
   checkHarmless(statement) {
     for (const it of statement.block ?? [...(statement.then ?? []), ...(statement.otherwise ?? [])]) this.checkHarmless(it);
-    if (!statement.block && !statement.then && !isHarmless(squeezeCode(removeStrings(statement.code)))) refusePart(statement, OF_AFTER);
+    if (!statement.block && !statement.then && !this.isHarmless(squeezeCode(removeStrings(statement.code)))) refusePart(statement, OF_AFTER);
+  }
+
+  /** Returns whether squeezed code without strings changes nothing that threads share. A function of the program may do so. */
+  isHarmless(code) {
+    const isOfProgram = this.program.functions.has(/^\w+(?=\()/.exec(code)?.[0]);
+    return (OUTPUT.test(code) || HARMLESS.test(code)) && !EFFECT.test(code) && !isOfProgram;
   }
 
   /** Sets the question to what `format` makes of a condition in a statement. Throws NoTest if threads run, or `main` has asked something else. */
@@ -159,7 +165,7 @@ class MainFollower {
   /** Follows a statement that has no statements in it, except in lambdas. */
   followSimple(statement) {
     const code = this.squeeze(this.takeLambdas({ code: removeStrings(statement.code), index: statement.index }));
-    if (isHarmless(code)) return;
+    if (this.isHarmless(code)) return;
     this.followCode(code.replace(RESULT, ""), statement);
   }
 
@@ -269,11 +275,6 @@ class MainFollower {
     if (!globals.has(name) || word === null || (globals.get(name).isBool && word > 1)) refusePart(statement, OF_BEFORE);
     words.set(name, word);
   }
-}
-
-/** Returns whether squeezed code without strings changes nothing that threads share. */
-function isHarmless(code) {
-  return (OUTPUT.test(code) || HARMLESS.test(code)) && !EFFECT.test(code);
 }
 
 /** Returns a record of a start. */

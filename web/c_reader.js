@@ -1,8 +1,8 @@
 // Reads a program in C or C++, or a test of herd in C: its shared variables, its threads, which are functions, and its question. Not proved.
 //
 // A `Program` has its `text`, a `name`, the initial `words` of its shared variables by their names, the declarations of those outside of functions in
-// `globals`, the values of its constants by their `names`, its `threads`, and its `question`. It `isHerd`, or not. If it has a `main`, this is a
-// `Part`, and its threads are all other functions until c_main.js has followed it.
+// `globals`, the values of its constants by their `names`, the names of its `functions`, its `threads`, and its `question`. It `isHerd`, or not. If it
+// has a `main`, this is a `Part`, and its threads are all other functions until c_main.js has followed it.
 // A `Part` has its `code`, as the program has it, or "", and its `index` in the text. A question is one; if `main` asks it, it has also the `source`
 // in `main`, which is a part.
 // A `CThread` has a `name`, its `code`, which is a `Part`, the index of its `head`, and the declarations of the shared `variables` that it may use,
@@ -246,7 +246,7 @@ class ProgramReader {
     while (this.rest && !QUESTION.test(this.rest)) this.readDefinition();
     const question = this.rest ? this.cutPart(this.rest.length) : asked;
     const { text, name, isHerd, words, globals, names, threads, main } = this;
-    return { text, name, isHerd, words, globals, names, threads, main, question };
+    return { text, name, isHerd, words, globals, names, functions: new Set(threads.map((it) => it.name)), threads, main, question };
   }
 
   /** Takes the comments out of the text. Returns the question in them. Throws NoTest if a program asks twice. */

@@ -2,7 +2,8 @@
 // refused. Not proved.
 //
 // A `Statement` is a `Part` of a program. That of an `if` has its `condition`, and the statements of its branches, `then` and `otherwise`; one in
-// braces has the statements of its `block`. A loop that only waits has its `condition`, and the code of what it `assigns`, or "".
+// braces has the statements of its `block`. A loop that only waits has its `condition`, the code of what it `assigns`, or "",
+// and the names of functions that it `calls`.
 
 import { findClosing, parseConstant, refusePart, squeezeCode } from "./c_reader.js";
 
@@ -26,6 +27,8 @@ const OF_ELSE = ": an `else` follows the one statement or block of its `if`";
 export const OUTPUT = /^(?:((?:f?printf|f?puts|putchar|fmt::print|print(?:ln)?|fflush|setvbuf)\()|(cout|cerr)<<)/;
 const STRING = /"(?:[^"\\]|\\.)*"/g;
 const COMPARISON = /[=!]=|[^=!]=!|<(?!<)|(?<!>)>(?!>)|&&|\|\|/;
+/** Why a call of a function is refused, as the end of a sentence. */
+export const OF_FUNCTIONS = ": write what the function does in its place";
 // Why a statement is refused, by a part of it in squeezed code, unless a rule says so.
 const REASONS = [
   [/^(?:__)?asm(?:__)?\b|thread_fence/, ": a fence is `atomic_thread_fence(memory_order_seq_cst)`"],
@@ -38,7 +41,7 @@ const REASONS = [
   [/^\w+ ?\*|&(?=\w+$)|\w\[/, ": threads have no pointers and arrays of their own"],
   [/^\w+:|^goto\b/, ": `goto` and labels are not rewritten"],
   [/[\w)][*\/%&|^]|~|<<|>>/, ": the x86 format has sums only"],
-  [/^\w+\([^]*\)$|[=(,]\w+\(/, ": write what the function does in its place"],
+  [/^\w+\([^]*\)$|[=(,]\w+\(/, OF_FUNCTIONS],
 ];
 // What is in no side of a comparison.
 const OPERATOR = /\|\||&&|[<>]|[=!]=|^!/;
@@ -157,7 +160,7 @@ export class StatementReader {
     return refusePart(this.takePart(length), why);
   }
 
-  /** Returns the loop here with its `condition` and what it `assigns`, which is "" if it assigns nothing; null if it does more than to wait. */
+  /** Returns the loop here with its `condition` and what it `assigns` and `calls`; null if it does more than to wait. */
   readWaiting() {
     const { rest } = this;
     const isDo = DO.test(rest);
@@ -169,8 +172,9 @@ export class StatementReader {
     const { code, end } = isDo ? { ...body, end: close + 1 } : findBody(rest, close + 1);
     const [found, assigns = ""] = WAITING.exec(squeezeCode(code)) ?? [];
     if (found === undefined) return null;
+    const calls = code.match(/\b\w+(?=\s{0,9}\()/g) ?? [];
     const { index } = this.takePart(end);
-    return { code: rest.slice(0, close + 1), index, condition: rest.slice(begin + head + 1, close), assigns };
+    return { code: rest.slice(0, close + 1), index, condition: rest.slice(begin + head + 1, close), assigns, calls };
   }
 }
 

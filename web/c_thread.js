@@ -4,7 +4,7 @@
 
 import { parseFormula, renameVariables } from "./c_question.js";
 import { defineName, parseConstant, parseDeclaration, refusePart, replaceNames } from "./c_reader.js";
-import { OF_CONDITIONS, OF_LOOPS, OUTPUT, parseCondition, readStatements, removeStrings, splitOutside } from "./c_statements.js";
+import { OF_CONDITIONS, OF_FUNCTIONS, OF_LOOPS, OUTPUT, parseCondition, readStatements, removeStrings, splitOutside } from "./c_statements.js";
 import { isTruth, OF_BOOLS, OF_LOADS, OF_REGISTERS, OF_STEPS, OF_SUBTRACTION, parseStep, SPARE, ValueWriter } from "./c_values.js";
 import { REGISTERS } from "./token_reader.js";
 
@@ -72,10 +72,10 @@ export class ThreadWriter extends ValueWriter {
    * @param {number} number
    * @param {number[]} [kept]
    */
-  constructor({ words, names, threads, isHerd }, number, kept = []) {
+  constructor({ words, names, functions, threads, isHerd }, number, kept = []) {
     const { name, head, code, parameters, variables, returnsWord, isStarted } = threads[number];
     super(number, variables, names);
-    Object.assign(this, { name, head, code, parameters, words, returnsWord, isStarted, isHerd, kept });
+    Object.assign(this, { name, head, code, parameters, words, returnsWord, isStarted, isHerd, functions, kept });
     // The shared variables that only this thread uses, and that are neither atomic nor volatile. They have registers.
     const codes = threads.map((it) => replaceNames(it.code.code, names));
     const isUsed = (variable, text) => new RegExp(`\\b${variable}\\b`).test(text);
@@ -176,7 +176,8 @@ export class ThreadWriter extends ValueWriter {
    * Writes one load in place of a loop that only waits, since loads change nothing: the loop ends as its last load does. Its register is not set again,
    * so that a question can ask how it ended. Throws NoTest if the loop may not be reached, or has more than one load.
    */
-  writeWaiting({ condition, assigns }) {
+  writeWaiting({ condition, assigns, calls }) {
+    if (calls.some((it) => this.functions.has(it))) this.refuseStatement(OF_LOOPS);
     const [comparison, another] = parseCondition(this.squeeze(condition)) ?? [];
     const [value, word] = [comparison?.sides[0], parseConstant(comparison?.sides[1] ?? "")];
     const isAssigned = assigns && assigns.startsWith(`${value}=`);
@@ -224,6 +225,7 @@ export class ThreadWriter extends ValueWriter {
   /** Writes a statement that has no statements in it: a declaration, a fence, a `return`, or an operation. */
   writeSimple(statement, isLast) {
     if (defineName(statement, this.names)) return;
+    if (this.functions.has(/^\w+(?=\()/.exec(statement)?.[0])) this.refuseStatement(OF_FUNCTIONS);
     const declared = parseDeclaration(statement);
     for (const variable of declared) {
       if (variable.isPointer) this.refuseStatement();

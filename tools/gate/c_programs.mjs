@@ -195,6 +195,7 @@ const MAIN = `${ATOMICS}int main() {
   assert(r1 == 1 || r2 == 1);
 }
 `;
+const OF_LOOPS = ": write out each pass of a loop. `tools/from_c.py` follows loops";
 const OF_RUNNING = ": while threads run, `main` only starts others and joins them, so give this to a thread of its own";
 const OF_BEFORE = ": before its threads, `main` only declares variables, and sets them to constants, as `x = 0;`";
 const OF_RUNS = ": one run is enough, since the page lists all final states";
@@ -208,6 +209,9 @@ const REFUSED_MAINS = [
   ["  t1.join();", "  x = 2; t1.join();", `\`x = 2\`${OF_RUNNING}`],
   ["  t1.join();", "  printf(\"%d\", x++); t1.join();", `\`printf("%d", x++)\`${OF_RUNNING}`],
   ["  t1.join();", "  t1.join(); std::thread t3([] { x = 2; });", "`std::thread t3([] { x = 2; })`: `main` starts all threads before it joins one"],
+  ["int main", "void sleep_well() { x = 3; }\nint main", `\`sleep_well()\`${OF_RUNNING}`, "t1.join();", "sleep_well(); t1.join();"],
+  ["int main", "void cpu_relax() { x = 3; }\nint main", `\`while (x == 0)\`${OF_LOOPS}`, "[&] {", "[&] { while (x == 0) { cpu_relax(); }"],
+  ["int main", "void barrier() { x = 3; }\nint main", "`barrier()`: write what the function does in its place", "[&] {", "[&] { barrier();"],
   ["  t1.join();", "  t1.join(); t1.join();", "`t1.join()`: no thread that runs has this name"],
   ["  t1.join();", "", "`assert(r1 == 1 || r2 == 1)`: `main` joins all threads before"],
   ["t2.join();\n  assert(r1 == 1 || r2 == 1);", "", "`}`: `main` joins each thread, and not `t2`"],
@@ -232,7 +236,6 @@ void P1(void) { y = 1; int r0 = x; }
 `;
 const OF_GLOBALS = ": outside of threads are only declarations of 32-bit integers and `bool`, as `atomic_int x = 1;`";
 const OF_VALUES = ": an initial value is one constant, as in `x = 1` or `x{1}`, and of a `bool` 0 or 1";
-const OF_LOOPS = ": write out each pass of a loop. `tools/from_c.py` follows loops";
 const OF_PLAIN_LOOPS = ": a compiler loads a plain variable only once, so make it atomic or volatile";
 const OF_BRANCHES = ": a loop that waits is in no branch, and after no `return`";
 const OF_FIXED = ": a loop or an assertion has the value of this variable, so set another one";
@@ -456,8 +459,8 @@ function compareMains(page, compare) {
     const { made, why } = rewriteProgram(`${before}int main() { ${code} }\n`);
     compare(`main: ${code}`, [...threads, question, true], made ? [...threads.map((_, at) => listInstructions(made, at)), findQuestion(made), page.other_tools.isRead(made)] : [why]);
   }
-  for (const [part, wrong, why] of REFUSED_MAINS) {
-    const program = MAIN.replace(part, () => wrong);
+  for (const [part, wrong, why, second, third] of REFUSED_MAINS) {
+    const program = MAIN.replace(part, () => wrong).replace(second ?? "", () => third ?? "");
     const found = rewriteProgram(program);
     compare(`what is refused in main: ${wrong}`, [why, true], [found.why ?? found.made, isAt(program, found)]);
   }
