@@ -15,6 +15,7 @@ const LAMBDA = /(?<![\w\])])\[([^\][]*)\]\s*(?:\(\s*(?:void\s*)?\)\s*)?(?:mutabl
 const CAPTURES = /^(?:&\w*(?:,&\w+)*)?$/;
 // The patterns that follow are of squeezed code. What changes nothing that threads share, as output does, unless it has an effect.
 const HARMLESS = /^(?:(?:static_assert|\w*sleep\w*|this_thread::\w+|exit|abort|pthread_exit)\(|return\b|\(void\)\w+$|\w+\.(?:reserve|request_stop)\(|$)/;
+const ENDING = /^(?:return\b|exit\(|abort\()/;
 const EFFECT = /(?<![=!<>])=(?!=)|\+\+|--|exchange|store|fetch_|lambda/;
 // A loop that joins all threads of an array: the groups are this array, or the index and its end; and again the array.
 const JOIN_LOOP = new RegExp(
@@ -165,6 +166,7 @@ class MainFollower {
   /** Follows a statement that has no statements in it, except in lambdas. */
   followSimple(statement) {
     const code = this.squeeze(this.takeLambdas({ code: removeStrings(statement.code), index: statement.index }));
+    if (ENDING.test(code) && [...this.running.values()].includes(false)) refusePart(statement, OF_RUNNING);
     if (this.isHarmless(code)) return;
     this.followCode(code.replace(RESULT, ""), statement);
   }

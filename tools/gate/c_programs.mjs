@@ -212,6 +212,7 @@ const REFUSED_MAINS = [
   ["int main", "void sleep_well() { x = 3; }\nint main", `\`sleep_well()\`${OF_RUNNING}`, "t1.join();", "sleep_well(); t1.join();"],
   ["int main", "void cpu_relax() { x = 3; }\nint main", `\`while (x == 0)\`${OF_LOOPS}`, "[&] {", "[&] { while (x == 0) { cpu_relax(); }"],
   ["int main", "void barrier() { x = 3; }\nint main", "`barrier()`: write what the function does in its place", "[&] {", "[&] { barrier();"],
+  ["  t1.join();", "  exit(0); t1.join();", `\`exit(0)\`${OF_RUNNING}`],
   ["  t1.join();", "  t1.join(); t1.join();", "`t1.join()`: no thread that runs has this name"],
   ["  t1.join();", "", "`assert(r1 == 1 || r2 == 1)`: `main` joins all threads before"],
   ["t2.join();\n  assert(r1 == 1 || r2 == 1);", "", "`}`: `main` joins each thread, and not `t2`"],
