@@ -7,8 +7,8 @@
  * @returns {string[] | null}
  */
 function splitCells(line) {
-  const row = /^\s*(.*?)\s*;\s*$/.exec(line);
-  return row && row[1].split("|").map((cell) => cell.trim());
+  const row = line.trim();
+  return row.endsWith(";") ? row.slice(0, -1).split("|").map((cell) => cell.trim()) : null;
 }
 
 /**

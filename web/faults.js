@@ -1,12 +1,13 @@
 // Explains a fault of a text in a sentence for beginners: what is at its place, what lw expects there, and what may be meant, which a button puts
 // into the text. The sentence depends on the fault's name and on the token at its place; lw's own line is shown beside it. Not proved.
 
-import { alignCells } from "./aligned.js";
+import { explainAssembly, formatNames } from "./assembly.js";
+import { rewriteEntries } from "./initial_values.js";
 import { explainLacked, explainSpareFence, NO_CAS } from "./instead.js";
 import { findNearest } from "./nearest.js";
 import { CONSTANT, findRewriting, NEGATIVE, rewriteWhole } from "./notation.js";
 import { convertRegister, explainCode, explainOtherFirstWord, isAllIn, parseCells } from "./other_language.js";
-import { explainComment, explainMissingFront, findOtherLanguage } from "./other_tools.js";
+import { explainComment, explainMissingFront, findOtherLanguage, isRead } from "./other_tools.js";
 import { explainRaggedRows } from "./ragged.js";
 import { TEMPLATE } from "./template.js";
 import { readTest } from "./tests.js";
@@ -26,19 +27,6 @@ const HEADS = ["SRC", "X86"];
 // The labels before an instruction in its cell.
 const LABELS = /^(?:\w+\s*:\s*)*$/;
 const QUESTION_OR_LIST = /(?:(?:[~!]|\bnot\b)\s*)?\b(?:exists|forall|locations|filter)\b|\b(?:forbidden|never|allowed|required|always)\s*\(/i;
-// The line before the code of a thread, as in `P0:`, or of a function, as compilers write it; and how a question begins, or the list of locations before it.
-const HEADING = /^[ \t]*(?:(?:#|\/\/|;)[ \t]*)?(?:P|T|CPU|core|processor|thread)[ \t_]*\d[ \t]*(?::|$)/im;
-const FUNCTION = /^[ \t]*([A-Za-z_~][\w$]*(?:::[A-Za-z_~][\w$]*)*(?:\([^()\n]*\))?)[ \t]*:[ \t]*$/gm;
-// A comment of a compiler, and an instruction on a function's frame on the stack.
-const COMPILER_COMMENT = /(?<![ \t])[ \t]+#(?![0-9]).*$/gm;
-const FRAME = /^(?:push|pop|leave)\w*\b|^(?:mov|sub|add)\w*\s.*\b[er][sb]p\b/i;
-const QUESTION = /^[ \t]*(?:locations\b|filter\b|forall\b|(?:(?:[~!]|not\b)[ \t]*)?exists\b)/m;
-// A line of assembly: labels, an instruction, or both.
-const ASSEMBLY = /^(?:[.\w]+:\s*)+$|^(?:[.\w]+:\s*)*(?:(?:lock|rep)\s+)?(?:mov|x?add|sub|cmp|xchg|inc|dec|test|x?or|and|j[nmez]|[mls]fence|nop|pause)\w*(?:\s[^;|{}=]*)?$/i;
-// A load, with its register, which is first, or last in AT&T's order; and a register that is an operand.
-const LOAD = /^(?:[.\w]+:\s*)*mov[lq]?\s+(?:[re]([abcd]x|[sd]i)\s*,.*\[.*|[^$%,][^,]*,\s*%[re]([abcd]x|[sd]i))$/i;
-const OPERAND = /(?<!\[|\(%|\w)%?[er]([abcd]x|[sd]i)\b/gi;
-const MAX_THREADS = 4;
 // An instruction with the first of its two operands.
 const ONE_OPERAND = /\b(?:MOV|ADD|CMP|XCHG|XADD)\s+[\w[\]]+$/i;
 
@@ -123,7 +111,7 @@ function findCellBefore(text, index) {
 function findQuestion(text) {
   const code = blankComments(text);
   const end = code.slice(code.lastIndexOf(";") + 1);
-  return /^(?:\s*locations\s*\[[^\]]*\]|[^\][]*\])?\s*~?\s*(?:exists|forall)\b([^]*)$/.exec(end)?.[1] ?? null;
+  return /^(?:\s*locations\s*\[[^\]]*\]|[^\][]*\])?\s*(?:~\s*)?(?:exists|forall)\b([^]*)$/.exec(end)?.[1] ?? null;
 }
 
 /**
@@ -132,7 +120,7 @@ function findQuestion(text) {
  * @returns {string | null}
  */
 function findMisspeltQuestion(text) {
-  const begin = /;\s*~?\s*([A-Za-z]+)\s*\([^;]*$/.exec(text)?.[1];
+  const begin = /;\s*(?:~\s*)?([A-Za-z]+)\s*\([^;]*$/.exec(text)?.[1];
   return begin && findNearest(begin, QUESTIONS) ? begin : null;
 }
 
@@ -171,11 +159,6 @@ function explainMissingInQuestion(place) {
   if (missing < 1) return "";
   place.markMissing(end, ")".repeat(missing));
   return `The question lacks ${missing === 1 ? "a `)`" : `${missing} \`)\``} at its end.`;
-}
-
-/** Returns words with commas between them, and `and` before the last one. */
-function formatNames(words) {
-  return words.length === 1 ? words[0] : `${words.slice(0, -1).join(", ")} and ${words.at(-1)}`;
 }
 
 /** Returns a sentence that says that the test has no thread of the number at a place, or "" if that is not so. */
@@ -218,9 +201,21 @@ function explainNotation(place) {
   const { token, text, index } = place;
   const front = text.slice(0, index);
   if (findQuestion(front) === null && !isInBlock(front)) return "";
-  const negated = token === "!=" && /(?:\d\s*:\s*)?\[?\w+\]?\s*$/.exec(front);
+  const negated = token === "!=" && /(?:\d\s*:\s*)?\[?\b\w+\]?\s*$/.exec(front);
   if (negated) return `A question has no \`!=\`: \`~x=1\` asks for another word than 1.${place.propose(`~${negated[0].trim()}=`, negated.index, index + token.length)}`;
-  return /^(?:&|and)/i.test(token) && isInBlock(front) ? `Initial values have a \`;\` between them.${place.propose(";")}` : "";
+  return isInBlock(front) ? explainEntries(place) : "";
+}
+
+/** Returns a sentence that says how initial values are written, and proposes those of a text; or "" if they are written so, or are something else. */
+function explainEntries(place) {
+  const { text, index } = place;
+  const begin = text.lastIndexOf("{", index);
+  const end = text.indexOf("}", begin) + 1;
+  const block = end ? rewriteEntries(blankComments(text).slice(begin + 1, end - 1)) : null;
+  if (block === null) return "";
+  place.proposeChange(block, begin, end);
+  place.change.title = "Rewrite them";
+  return "Initial values have a `;` between them: `{ x=0; y=1; }`.";
 }
 
 /**
@@ -238,8 +233,9 @@ function explainFirstWord(place) {
 function explainOpenBlock(place) {
   const code = blankComments(place.text);
   if (!isInBlock(code)) return "";
-  const front = /^([^]*\{[^]*?)\s*^[ \t]*P0\b/m.exec(code)?.[1];
-  if (front) place.markMissing(front.length);
+  const begin = code.lastIndexOf("{");
+  const length = code.slice(begin).search(/^[ \t]*P0\b/m);
+  if (length >= 0) place.markMissing(code.slice(0, begin + length).trimEnd().length);
   return "The initial values lack a `}` at their end.";
 }
 
@@ -284,7 +280,7 @@ function findLineWithoutEnd({ row }, text) {
   const front = blankComments(text).split("\n", row - 1).join("\n");
   const rows = front.split(QUESTION_OR_LIST)[0].trimEnd();
   const hasEnd = /(?:;|\(\*|\*\)).*$/.test(rows);
-  return !/^\s*P0\b/m.test(rows) || hasEnd || findMisspeltQuestion(text) ? null : rows.split("\n").length;
+  return !/^[ \t]*P0\b/m.test(rows) || hasEnd || findMisspeltQuestion(text) ? null : rows.split("\n").length;
 }
 
 /**
@@ -307,7 +303,7 @@ export function explainMissingRowEnd(fault, text) {
 function listMissingEnds(fault, text) {
   if (findLineWithoutEnd(fault, text) === null) return [];
   const code = blankComments(text).split(QUESTION_OR_LIST, 1)[0];
-  const first = code.slice(0, code.search(/^\s*P0\b/m)).trimEnd().split("\n").length;
+  const first = code.slice(0, code.search(/^[ \t]*P0\b/m)).trimEnd().split("\n").length;
   let begin = 0;
   return code.split("\n").flatMap((line, at) => {
     const end = begin + line.trimEnd().length;
@@ -328,16 +324,15 @@ function explainRowsWithoutEnd(fault, text) {
   if (!ends.length) return null;
   const [begin, end] = [ends[0], ends.at(-1)];
   const withEnds = ends.map((it, at) => `${text.slice(ends[at - 1] ?? begin, it)} ;`).join("");
-  try {
-    readTest(text.slice(0, begin) + withEnds + text.slice(end));
-  } catch {
-    return null;
-  }
+  const mended = text.slice(0, begin) + withEnds + text.slice(end);
+  const { text: whole, words: others } = isRead(mended) ? { text: mended, words: "" } : rewriteWhole(mended);
+  if (!isRead(whole)) return null;
   const front = text.slice(0, begin).split("\n");
-  const others = ends.length === 2 ? "another one" : `${ends.length - 1} others`;
-  const words = ends.length === 1 ? "This row has no `;` at its end." : `This row and ${others} have no \`;\` at their ends.`;
+  const further = ends.length === 2 ? "another one" : `${ends.length - 1} others`;
+  const words = ends.length === 1 ? "This row has no `;` at its end." : `This row and ${further} have no \`;\` at their ends.`;
   const title = ends.length === 1 ? "Put in the ;" : `Put in ${ends.length} ;`;
   const at = { row: front.length, column: [...front.at(-1)].length + 1, index: begin };
+  if (others) return { words: `${words} ${others}`, change: { begin: 0, end: text.length, text: whole, title: "Rewrite all" }, at };
   return { words, change: { begin, end, text: withEnds, title }, at };
 }
 
@@ -348,80 +343,6 @@ function explainSpareEnds(name, text) {
   const mended = rest.replace(/\b(lock|rep)\s*;/gi, "$1").replace(/;(?=[ \t]*[|;])/g, "");
   if (!/^(?:Ragged|Unterminated)$/.test(name) || mended === rest || blankComments(text) !== text) return null;
   return { words: "Only a row's end has a `;`.", change: { begin, end: text.length, text: mended, title: "Take out the others" } };
-}
-
-/** The sentence on code that is not optimized. */
-const UNOPTIMIZED = "These are instructions of a compiler without optimization, which keep variables on the stack: compile with `-O2`.";
-
-/** Returns the labels to which instructions jump. */
-const listTargets = (text) => [...text.matchAll(/\bj\w+\s+([.\w]+)/gi)].map(([, label]) => label);
-
-/** Returns instructions in which a compiler's labels have no dot; those to which nothing jumps are left out. */
-function rewriteLabels(text) {
-  const code = text.replace(/(\bj\w+\s+)\.(\w+)/gi, "$1$2");
-  const targets = listTargets(code);
-  return code.replace(/^([ \t]*)\.(\w+):/gm, (_, blanks, label) => (targets.includes(label) ? `${blanks}${label}:` : blanks));
-}
-
-/** Returns instructions in which each line with the name of a function is `P0:`, as before the code of a thread; labels of jumps stay. */
-function markFunctions(text) {
-  const targets = listTargets(text);
-  return text.replace(FUNCTION, (line, name) => (targets.includes(name) || HEADING.test(line) ? line : "P0:"));
-}
-
-/**
- * Returns the code of the threads in a text of instructions, each a list of lines, and whether they are named: a line such as `P1:`, `Thread 1` or
- * `writer():` begins a thread. If there is none, a blank line begins the next one, unless a jump leaves its thread then, or there are more threads than a
- * test has. A name without instructions, as that of a variable, is left out.
- * @param {string} text
- * @returns {{threads: string[][], areNamed: boolean}}
- */
-function splitThreads(text) {
-  const listLines = (part) => part.split("\n").map((it) => it.trim()).filter((it) => it && !/^(?:ret\w*|endbr64|\..*)$/.test(it));
-  const split = (code, mark) => code.replace(/;[ \t]*$/gm, "").split(mark).map(listLines);
-  const [front, ...named] = split(markFunctions(text), HEADING);
-  const filled = named.filter((it) => it.length);
-  if (!front.length && filled.length && filled.length <= MAX_THREADS) return { threads: filled, areNamed: true };
-  const threads = split(text, /\n\s*\n/).filter((it) => it.length);
-  const listLabels = (code, pattern) => code.flatMap((it) => [...it.matchAll(pattern)].map(([, label]) => label));
-  const isLeft = (code) => listLabels(code, /\bj\w+\s+([.\w]+)$/gi).some((it) => !listLabels(code, /([.\w]+)\s*:/g).includes(it));
-  return { threads: threads.length > MAX_THREADS || threads.some(isLeft) ? [threads.flat()] : threads, areNamed: false };
-}
-
-/**
- * Returns the end of a test of some threads of instructions: it asks for 0 in the registers that the last loads write, if each thread ends with a load, and
- * lists the other registers; locations, if there are none.
- * @param {string[][]} threads
- * @returns {{list: string, question: string, isAsked: boolean}}
- */
-function makeQuestion(threads) {
-  const loads = threads.map((it) => LOAD.exec(it.at(-1)));
-  const asked = loads.every(Boolean) ? loads.map(([, first, last], thread) => `${thread}:E${(first ?? last).toUpperCase()}`) : [];
-  const registers = threads.flatMap((it, thread) => [...it.join("\n").matchAll(OPERAND)].map(([, register]) => `${thread}:E${register.toUpperCase()}`));
-  const locations = registers.length ? [] : [...threads.join("\n").matchAll(/\[(?:\s*rip\s*\+)?\s*(\w+)\s*\]/g)].map(([, it]) => it);
-  const listed = [...new Set([...registers, ...locations])].filter((it) => !asked.includes(it));
-  const question = asked.length ? asked.map((it) => `${it}=0`).join(" /\\ ") : "true";
-  return { list: listed.length ? `locations [${listed.map((it) => `${it};`).join(" ")}]\n` : "", question, isAsked: asked.length > 0 };
-}
-
-/** Returns a sentence that says that a text has only instructions, with a question or without one, and proposes to make a test of them; or "". */
-function explainAssembly(place) {
-  const end = place.text.search(QUESTION);
-  const code = rewriteLabels((end < 0 ? place.text : place.text.slice(0, end)).replace(COMPILER_COMMENT, ""));
-  const { threads, areNamed } = splitThreads(code);
-  const lines = threads.flat();
-  if (lines.some((it) => FRAME.test(it)) && lines.every((it) => FRAME.test(it) || ASSEMBLY.test(it))) return UNOPTIMIZED;
-  if (!threads.length || !lines.every((it) => ASSEMBLY.test(it))) return "";
-  const names = threads.map((_, thread) => `P${thread}`);
-  const rows = Array.from({ length: Math.max(...threads.map((it) => it.length)) }, (_, row) => threads.map((it) => it[row] ?? ""));
-  const { list, question, isAsked } = makeQuestion(threads);
-  const tail = end < 0 ? `${list}exists (${question})\n` : place.text.slice(end);
-  const { text, words } = rewriteWhole(`X86 Mine\n{}\n${[names, ...rows].map((it) => ` ${it.join(" | ")} ;\n`).join("")}${tail}`);
-  place.proposeChange(threads.length > 1 ? alignCells(text) : text, 0, place.text.length);
-  place.change.title = threads.length > 1 ? `Make ${formatNames(names)} of them` : "Make it P0 of a test";
-  const division = threads.length < 2 || areNamed ? "" : " A blank line begins the next thread.";
-  const guess = isAsked ? " The question is a guess: change it to yours." : " The question `true` holds always: look at the list of states.";
-  return `These are instructions without a test around them.${division}${end < 0 ? guess : ""} ${words}`.trim();
 }
 
 /** Returns a sentence that says that a text is empty, and proposes a small test in its place; or "" if that is not so. */
@@ -549,7 +470,7 @@ const SENTENCES = {
 export function explainFault(fault, text) {
   const { kind, name, index } = fault;
   const place = new FaultPlace(text, index);
-  const rewriting = findRewriting(text, index);
+  const rewriting = name === "TooManyRows" ? null : findRewriting(text, index);
   const other = kind === "text" && findOtherLanguage(place);
   const choice = rewriting?.also ? " The other button makes x86 code of the rows, which may have more states." : "";
   if (rewriting?.isWhole && (rewriting.count > 1 || other)) return { ...rewriting, words: rewriting.words + choice };

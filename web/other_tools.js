@@ -2,6 +2,7 @@
 // proved.
 
 import { rewriteProgram } from "./c_program.js";
+import { findBareEntries } from "./initial_values.js";
 import { isAllIn } from "./other_language.js";
 import { readTest } from "./tests.js";
 import { blankComments } from "./tokens.js";
@@ -33,7 +34,7 @@ const JAVA = /^(?:import\s+(?:static\s+)?java|package\s+[\w.]+;|(?:(?:public|fin
 const GO = /^(?:package\s+\w+[ \t]*\r?(?:\n|$)|func\s+\w*\()/;
 const CPP = /\bstd::|<atomic>|\batomic<|\busing\s|\bnamespace\b/;
 const IS_READ = "The page reads C, C++ and x86 assembly.";
-const THREAD_IN_C = /^(?:X86|SRC)\s+(?:[^{]*\{[^}]*\})?\s*P0\s*[({]/;
+const THREAD_IN_C = /^(?:X86|SRC)\s(?:[^{]*\{[^}]*\})?\s*P0\s*[({]/;
 /** The sentence on the types of initial values. */
 export const NO_TYPES = "The initial values have no types.";
 // Words that declare the type of a location.
@@ -186,6 +187,12 @@ export function explainMissingFront(place) {
     return `The test has no name: it is after \`${word}\`.`;
   }
   if (!hasThreads || front.includes("{")) return "";
+  const bare = findBareEntries(blankComments(text), begin);
+  if (bare) {
+    place.proposeChange(`${bare.block}\n`, bare.begin, begin);
+    place.change.title = "Put them in braces";
+    return "Initial values are in braces, each with a `;` after it.";
+  }
   place.proposeChange("{}\n", begin, begin);
   place.change.title = "Put in {}";
   return "The initial values are missing before the threads: they are `{}` if all are 0.";

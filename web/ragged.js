@@ -5,8 +5,8 @@ import { rewriteWhole } from "./notation.js";
 import { isRead } from "./other_tools.js";
 import { beginsWithX86, blankComments } from "./tokens.js";
 
-const QUESTION = /^\s*(?:locations|filter|[~!]?\s*exists|forall|not\s+exists)\b/;
-const HEADER = /^\s*P0\b(?:[\s,|]*P\d\b)*\s*;?\s*$/;
+const QUESTION = /^\s*(?:locations|filter|(?:[~!]\s*)?exists|forall|not\s+exists)\b/;
+const HEADER = /^\s*P0\b(?:[\s,|]*P\d\b)*\s*(?:;\s*)?$/;
 const RIGHT_HEADER = /^\s*P0(?:\s*\|\s*P\d)*\s*;\s*$/;
 // Cells that two blanks or a tab separate.
 const APART = /\S+(?: \S+)*/g;
@@ -51,7 +51,7 @@ function parseRows(line, threads, begins, columns) {
 
 /** Returns the matches of the cells of a line that blanks separate. */
 function findCellsApart(line) {
-  return [...line.replace(/\s*;?\s*$/, "").matchAll(APART)];
+  return [...line.trimEnd().replace(/;$/, "").trimEnd().matchAll(APART)];
 }
 
 /** Returns the threads by the columns at which the cells of some lines begin, of those lines that have a cell for each of so many threads. */

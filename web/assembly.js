@@ -1,0 +1,198 @@
+// Makes an x86 test of instructions that have none around them, as a compiler prints them or as somebody writes them below the names of threads. Not
+// proved.
+//
+// The record `AssemblyBlock` is that of assembly_reader.js. A `Renaming` maps the names of variables to those of locations.
+
+import { alignCells } from "./aligned.js";
+import { readBlocks, rewriteReturns } from "./assembly_reader.js";
+import { rewriteWhole } from "./notation.js";
+import { isReserved } from "./token_reader.js";
+
+const MAX_THREADS = 4;
+// More instructions of a thread than this are not rewritten.
+const MAX_LINES = 64;
+// What a text of instructions may begin with: the front of a test. And how a question begins, or the list of locations before it.
+const FRONT = /^\s*X86[^{|;]*\{[^}|]*\}/;
+const QUESTION = /^[ \t]*(?:locations\b|filter\b|forall\b|(?:(?:[~!]|not\b)[ \t]*)?exists\b)/m;
+// An instruction on a variable in a function's frame on the stack.
+const FRAME = /^(?!lock\b).*(?:\[[er][sb]p\s*[-+]|\d\(%[er][sb]p\))/i;
+// A line of assembly: labels, an instruction, or both. And instructions that no test has.
+const ASSEMBLY = /^(?:\w+:\s*)+$|^(?:\w+:\s*)*(?:(?:lock|rep)\s+)?(?:mov|x?add|sub|cmp|xchg|inc|dec|test|x?or|and|j[nmez]|[mls]fence|nop|pause)\w*(?:\s[^;|{}=]*)?$/i;
+const OTHER_INSTRUCTION = /^(?:\w+:\s*)*(?:lock\s+)?(?:call|lea|cdqe?|cltq|imul|set\w+|cmov\w+|cmpxchg|bt[src]?|sh[lr]|sa[lr]|neg|not|j\w+|push|pop|leave)\w*(?:\s[^;|{}=]*)?$/i;
+// A load, with its register, which is first, or last in AT&T's order; and a register that is an operand.
+const LOAD = /^(?:\w+:\s*)*mov[lq]?\s+(?:[re]([abcd]x|[sd]i)\s*,.*\[.*|[^$%,][^,]*,\s*%[re]([abcd]x|[sd]i))$/i;
+const OPERAND = /(?<!\[|\(%|\w)%?[er]([abcd]x|[sd]i)\b/gi;
+// A variable in an instruction, perhaps with a number of bytes after it: relative to the next instruction, in brackets, or after its size. The groups are
+// what is before it, its name, and the number.
+const VARIABLES = [
+  /(?<![\w.$])()([A-Za-z_][\w.$]*)(?:\+(\d+))?(?=\(%rip\)|\[rip\])/gi,
+  /(\[(?:rip\s*\+\s*|rel\s+)?)([A-Za-z_][\w.$]*)(?:\s*\+\s*(\d+))?(?=\s*\])/gi,
+  /(\b[dq]?word\s+ptr\s+)([A-Za-z_][\w.$]*)(?:\+(\d+))?(?=\s*(?:,|$))/gi,
+];
+const REGISTER = /^(?:[re]?(?:[abcd]x|[sd]i|[bs]p|ip)|r(?:[89]|1[0-5])[dwb]?)$/i;
+const IS_WIDE = /\bqword\b|\bmov(?:abs)?q\b|\br(?:[abcd]x|[sd]i)\b/i;
+// A location in an instruction, in brackets or relative to the next instruction.
+const LOCATION = /\[\s*(?:rip\s*\+\s*|rel\s+)?(\w+)\s*\]|(?<![\w.$])([A-Za-z_]\w*)(?:\(%rip\)|\[rip\])/gi;
+// Functions that are no threads: they start these, or set variables before them.
+const NO_THREAD = /^(?:main|_start|_GLOBAL__sub_I_.*|__cxx_global_var_init.*)(?:\(.*\))?$/;
+/** The sentence on code that is not optimized. */
+const UNOPTIMIZED = "These are instructions of a compiler without optimization, which keep variables on the stack: compile with `-O2`.";
+const BEGIN = "These are instructions without a test around them";
+
+/**
+ * Returns words with commas between them, and `and` before the last one.
+ * @param {string[]} words
+ * @returns {string}
+ */
+export function formatNames(words) {
+  return words.length === 1 ? words[0] : `${words.slice(0, -1).join(", ")} and ${words.at(-1)}`;
+}
+
+/** Returns the codes of threads that a blank line separates; one, if there are too many, or if a jump leaves its thread then. */
+function splitAtBlankLines(lines) {
+  const threads = [[]];
+  for (const line of lines) {
+    if (line) threads.at(-1).push(line);
+    else if (threads.at(-1).length) threads.push([]);
+  }
+  const filled = threads.filter((it) => it.length);
+  const isLeft = (code) => {
+    const labels = new Set(code.map((it) => /^([.\w$@]+):/.exec(it)?.[1]));
+    return code.some((it) => [...it.matchAll(/\bj\w+\s+([.\w$@]+)$/gi)].some(([, label]) => !labels.has(label)));
+  };
+  return filled.length > MAX_THREADS || filled.some(isLeft) ? [filled.flat()] : filled;
+}
+
+/** Returns whether blocks have the numbers of threads, each another one, from a first number on without a gap. */
+function areNumbered(blocks, first) {
+  return blocks.every((it) => it.number !== null && blocks.length > it.number - first && it.number >= first) && new Set(blocks.map((it) => it.number)).size === blocks.length;
+}
+
+/**
+ * Returns the codes of the threads of a text of instructions, as lists of lines; the `first` number that their names have; whether they are `named`; the
+ * names of the functions that are `leftOut`; and the variables, as blocks. Without names a blank line begins the next thread.
+ */
+function readThreads(text) {
+  const [front, ...others] = readBlocks(text);
+  const all = others.filter((it) => it.lines.some(Boolean));
+  const kept = all.filter((it) => !NO_THREAD.test(it.name));
+  const [blocks, leftOut] = kept.length ? [kept, all.filter((it) => !kept.includes(it)).map((it) => it.name)] : [all, []];
+  const variables = others.filter((it) => it.words.length);
+  if (!blocks.length || front.lines.some(Boolean)) {
+    const threads = all.length ? [front, ...all].filter((it) => it.lines.some(Boolean)).map((it) => it.lines) : splitAtBlankLines(front.lines);
+    return { threads, names: all.map((it) => it.name), first: 0, leftOut: [], variables };
+  }
+  const first = areNumbered(blocks, 1) ? 1 : 0;
+  const sorted = first || areNumbered(blocks, 0) ? [...blocks].sort((one, other) => one.number - other.number) : blocks;
+  return { threads: sorted.map((it) => it.lines), names: sorted.map((it) => it.name), first, leftOut, variables };
+}
+
+/** Returns the name of the location of a variable, or of the part of it that begins so many bytes after its begin. */
+function formatLocation(variable, offset) {
+  const name = variable.replace(/\W/g, "_") + (Number(offset) ? `_${Number(offset)}` : "");
+  return isReserved(name) ? `${name}_` : name;
+}
+
+/** Returns an instruction in which variables have names of locations, and adds those that change to a map of names. */
+function rewriteVariables(line, renamed) {
+  const rewrite = (whole, before, variable, offset) => {
+    if (REGISTER.test(variable)) return whole;
+    const name = formatLocation(variable, offset);
+    if (name !== variable) renamed.set(Number(offset) ? `${variable}+${offset}` : variable, name);
+    return before + name;
+  };
+  return VARIABLES.reduce((code, pattern) => code.replace(pattern, rewrite), line.replace(/\[rip\s*\+\s*(\d+)\]/i, "+$1[rip]"));
+}
+
+/** Returns the initial values that variables have, if code names them, as entries of a block. */
+function formatWords(variables, lines) {
+  const entries = variables.flatMap(({ name, words }) => words.map(({ offset, word }) => ({ name: formatLocation(name, offset), word })));
+  const code = lines.join("\n");
+  const isUsed = ({ name, word }) => word && new RegExp(`(?<![\\w.$])${name}\\b`).test(code);
+  return entries.filter(isUsed).map(({ name, word }) => `${name}=${((word % 2 ** 32) + 2 ** 32) % 2 ** 32};`).join(" ");
+}
+
+/** Returns the locations in lines that are before a comma (`isFirst`), or after one, in AT&T's order or not. */
+function listLocations(lines, isFirst) {
+  const found = lines.flatMap((line) => [...line.matchAll(LOCATION)].map(({ 1: bare, 2: relative, index }) => ({ name: bare ?? relative, isFirst: line.indexOf(",") > index })));
+  return found.filter((it) => it.isFirst === isFirst && !REGISTER.test(it.name)).map((it) => it.name);
+}
+
+/** Returns the locations that threads store, and of which no register tells the last word: no thread loads them, or several store them. */
+function listStoredLocations(threads) {
+  const isAtt = /%e?[a-z]{2}\b|\$\w/.test(threads.flat().join("\n"));
+  const stored = threads.map((it) => listLocations(it.filter((line) => /\b(?:mov|xchg|xadd|add|inc|dec|sub)/i.test(line)), !isAtt));
+  const loaded = new Set(threads.flatMap((it) => listLocations(it, isAtt)));
+  return [...new Set(stored.flat())].filter((name) => !loaded.has(name) || stored.filter((it) => it.includes(name)).length > 1);
+}
+
+/**
+ * Returns the end of a test of some threads of instructions: it asks for 0 in the registers that the last loads write, if each thread ends with a load, and
+ * lists the other registers, and the locations of which no register tells the last word; all locations, if there are no registers.
+ * @param {string[][]} threads
+ * @returns {{list: string, question: string, isAsked: boolean}}
+ */
+function makeQuestion(threads) {
+  const loads = threads.map((it) => LOAD.exec(it.at(-1)));
+  const asked = loads.every(Boolean) ? loads.map(([, first, last], thread) => `${thread}:E${(first ?? last).toUpperCase()}`) : [];
+  const registers = threads.flatMap((it, thread) => [...it.join("\n").matchAll(OPERAND)].map(([, register]) => `${thread}:E${register.toUpperCase()}`));
+  const locations = registers.length ? listStoredLocations(threads) : [true, false].flatMap((it) => listLocations(threads.flat(), it));
+  const listed = [...new Set([...registers, ...locations])].filter((it) => !asked.includes(it));
+  const question = asked.length ? asked.map((it) => `${it}=0`).join(" /\\ ") : "true";
+  return { list: listed.length ? `locations [${listed.map((it) => `${it};`).join(" ")}]\n` : "", question, isAsked: asked.length > 0 };
+}
+
+/** Returns a sentence that refuses the lines of a text of instructions, or null: "" says that they are no instructions. */
+function refuseLines(threads, names) {
+  const lines = threads.flat();
+  const others = lines.filter((it) => !ASSEMBLY.test(it));
+  if (others.length === lines.length || !others.every((it) => OTHER_INSTRUCTION.test(it))) return "";
+  if (lines.some((it) => FRAME.test(it))) return UNOPTIMIZED;
+  if (threads.length > MAX_THREADS) return `${BEGIN}, in ${threads.length} parts${names.length ? `, as \`${names[0]}\` and \`${names[1]}\`` : ""}: a test has four threads at most.`;
+  if (threads.some((it) => it.length > MAX_LINES)) return `${BEGIN}: a thread has 32 at most.`;
+  return others.length ? `${BEGIN}, of which the page does not rewrite \`${others[0]}\`.` : null;
+}
+
+/** Returns the question of a text of instructions from its place on, in which threads have the numbers of a test. */
+function numberThreads(question, first) {
+  const isShifted = first && !/\b(?:P|T)?0\s*:/.test(question);
+  return isShifted ? question.replace(/\b([PT]?)([1-4])(?=\s*:)/g, (_, letter, digit) => `${letter}${digit - 1}`) : question;
+}
+
+/** Returns what is said of the threads of a text of instructions. */
+function describeThreads({ threads, names, first, leftOut }, renamed) {
+  const others = leftOut.map((it) => `\`${it}\``);
+  return [
+    threads.length > 1 && !names.length && "A blank line begins the next thread.",
+    first && `\`${names[0]}\` is P0 here, since the first thread has the number 0.`,
+    others.length && `${formatNames(others)} ${others.length === 1 ? "is" : "are"} left out.`,
+    ...[...renamed].slice(0, 2).map(([from, to]) => `The location of \`${from}\` is \`${to}\`.`),
+  ].filter(Boolean);
+}
+
+/**
+ * Returns a sentence that says that a text has only instructions, with a question or without one, and proposes to make a test of them; or "".
+ * @param {FaultPlace} place
+ * @returns {string}
+ */
+export function explainAssembly(place) {
+  const { text } = place;
+  const [front = ""] = FRONT.exec(text) ?? [];
+  const end = text.search(QUESTION);
+  const read = readThreads(text.slice(front.length, end < front.length ? text.length : end));
+  const renamed = new Map();
+  const threads = read.threads.map((it) => rewriteReturns(it).map((line) => rewriteVariables(line, renamed)));
+  const refused = refuseLines(threads, read.names);
+  const isOdd = [...renamed.keys()].some((it) => Number(/\+(\d+)$/.exec(it)?.[1] ?? 0) % (IS_WIDE.test(text) ? 8 : 4));
+  if (refused !== null || isOdd) return refused ?? "";
+  const names = threads.map((_, thread) => `P${thread}`);
+  const rows = Array.from({ length: Math.max(...threads.map((it) => it.length)) }, (_, row) => threads.map((it) => it[row] ?? ""));
+  const { list, question, isAsked } = makeQuestion(threads);
+  const tail = end < front.length ? `${list}exists (${question})\n` : numberThreads(text.slice(end), read.first);
+  const head = front || `X86 Mine\n{${formatWords(read.variables, threads.flat()).replace(/.+/, " $& ")}}`;
+  const { text: made, words } = rewriteWhole(`${head}\n${[names, ...rows].map((it) => ` ${it.join(" | ")} ;\n`).join("")}${tail}`);
+  place.proposeChange(threads.length > 1 ? alignCells(made) : made, 0, text.length);
+  place.change.title = threads.length > 1 ? `Make ${formatNames(names)} of them` : "Make it P0 of a test";
+  const guess = isAsked ? "The question is a guess: change it to yours." : "The question `true` holds always: look at the list of states.";
+  return [`${BEGIN}.`, ...describeThreads(read, renamed), end < front.length && guess, words].filter(Boolean).join(" ").trim();
+}

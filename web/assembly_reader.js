@@ -1,0 +1,158 @@
+// Reads instructions without a test around them, as a compiler prints them or as somebody writes them below the names of threads: the code of each
+// function, and the words of variables. Not proved.
+//
+// An `AssemblyBlock` has the `name` in the line that begins it, or "", the `number` of the thread that this line names, or null, its `lines`, each an
+// instruction, a label with a colon, or "" for a blank line, and the `words` of a variable, each with its `offset` in bytes.
+
+// A line before the code of a thread, as `P0:` or `// Thread 1`: the groups are its name, the number in it, and the code after the colon.
+const HEADING = /^(?:(?:#|\/\/|;)\s*)?((?:P|T|CPU|core|processor|thread)[\s_]*(\d+))\s*(?:\(\)\s*)?(?::(?!:)(.*))?$/i;
+// Where a comment begins. (`#1` may be a constant.)
+const COMMENT = /(?:^|[ \t])(?:#(?!\d)|;|\/\/).*$/;
+// The name of a function in C++ has blanks only if it has one of these.
+const OF_FUNCTION = /\(|::/;
+// A label before more in its line.
+const LABEL_BEFORE = /^([.\w$@]+)\s*:(?!:)\s*(?=\S)/;
+const JUMP = /\bj\w+\s+(?:short\s+)?([.\w$@]+)/gi;
+// What reserves memory: the groups are its directive, and what is in it. And a variable with it in a line, as in NASM.
+const DATA = /^(?:\.(long|int|4byte|quad|8byte|value|short|2byte|byte|zero|space|skip)|(d[bwdq]))\b\s*(.*)$/i;
+const VARIABLE = /^([A-Za-z_]\w*)\s+(?=d[bwdq]\s)/i;
+const BYTES = { long: 4, int: 4, "4byte": 4, quad: 8, "8byte": 8, value: 2, short: 2, "2byte": 2, byte: 1, db: 1, dw: 2, dd: 4, dq: 8 };
+// Directives, lines of compilers for Windows, and instructions without effect.
+const IGNORED = /^(?:\.|(?:section|segment|global|extern|bits|default|align|public|extrn|include\w*|comm|end)\b|\S+\s+(?:segment|ends|endp)\b|endbr(?:32|64)$|(?:data16\s+|cs\s+)*nop\w*(?:\s|$))/i;
+const PROCEDURE = /^(\S+)\s+proc\b/i;
+// What says that a name is one of a function or of a variable.
+const DECLARED = /^\.?(?:globl|global|type)\s+([^\s,]+)/;
+const RETURN = /^(?:(?:rep|bnd)\s+)?ret[lqnf]?\b/i;
+// After what a label begins a function: a return or a jump.
+const LEAVES = /^(?:(?:rep|bnd)\s+)?(?:ret|jmp|ud2|hlt)/i;
+
+/** Returns the statements of a line without its comment, which `;` may separate. */
+function splitStatements(line) {
+  const code = line.replace(COMMENT, "").trim().replace(/\block\s*;\s*/gi, "lock ");
+  return code.includes(";") ? code.split(";").map((it) => it.trim()).filter(Boolean) : [code];
+}
+
+/** Returns the label that a line has alone; undefined if there is none. */
+function parseLabelLine(line) {
+  const name = line.endsWith(":") ? line.slice(0, -1).trimEnd() : "";
+  return name && (!/\s/.test(name) || OF_FUNCTION.test(name)) ? name : undefined;
+}
+
+/** Returns the words that a directive gives a variable, each with its offset. */
+function parseWords(directive, list) {
+  const isZero = /^(?:zero|space|skip)$/i.test(directive);
+  const numbers = isZero ? ["0"] : list.split(",").map((it) => it.trim());
+  return numbers.map((it, at) => ({ offset: at * (BYTES[directive.toLowerCase()] ?? 0), word: Number(it.replace(/^0?([\da-f]+)h$/i, "0x$1")) }));
+}
+
+/** Reads the lines of a text, from first to last. */
+class AssemblyReader {
+  /** @param {string} text */
+  constructor(text) {
+    this.lines = text.split("\n").map((it) => it.trim());
+    const code = this.lines.map((it) => it.replace(COMMENT, "")).join("\n");
+    this.targets = new Set([...code.matchAll(JUMP)].map(([, label]) => label));
+    // Whether what is no function is told by returns, or by the threads' names.
+    this.hasEnds = /^(?:\w+:\s*)?(?:(?:rep|bnd)\s+)?ret/im.test(code) || this.lines.some((it) => HEADING.test(it));
+    this.declared = new Set(this.lines.flatMap((it) => DECLARED.exec(it)?.[1] ?? []));
+    this.blocks = [{ name: "", number: null, lines: [], words: [] }];
+  }
+
+  /** Returns the block that is read. */
+  get block() {
+    return this.blocks.at(-1);
+  }
+
+  /** Begins a block. */
+  beginBlock(name, number = null) {
+    this.blocks.push({ name, number, lines: [], words: [] });
+  }
+
+  /** Returns all blocks; the first one has what is before all names. */
+  readAll() {
+    for (const [at, line] of this.lines.entries()) {
+      const [heading, name, number, code = ""] = HEADING.exec(line) ?? [];
+      if (heading !== undefined) this.beginBlock(name, Number(number));
+      const statements = splitStatements(heading === undefined ? line : code);
+      if (!line) this.block.lines.push("");
+      for (const it of statements.filter(Boolean)) this.readStatement(it, at);
+    }
+    return this.blocks;
+  }
+
+  /** Reads a statement of the line that has an index. */
+  readStatement(statement, at) {
+    const [, procedure] = PROCEDURE.exec(statement) ?? [];
+    const label = procedure ?? parseLabelLine(statement) ?? LABEL_BEFORE.exec(statement)?.[1] ?? VARIABLE.exec(statement)?.[1];
+    const rest = procedure ? "" : statement.slice(label ? statement.indexOf(label) + label.length : 0).replace(/^\s*:/, "").trim();
+    if (label) this.readLabel(label, rest, at);
+    const [, directive, other, list] = DATA.exec(rest) ?? [];
+    if (directive ?? other) this.addWords(parseWords(directive ?? other, list));
+    else if (rest && !IGNORED.test(rest)) this.block.lines.push(rest.replace(/\s+/g, " "));
+  }
+
+  /** Reads a label, before the rest of its line: it is that of a jump, or a name that begins a block, or one to which nothing jumps. */
+  readLabel(label, rest, at) {
+    if (this.targets.has(label)) this.block.lines.push(`${label}:`);
+    else if (!label.startsWith(".") && this.beginsBlock(label, rest, at)) this.beginBlock(label, /^P(\d)(?:\(.*\))?$/.exec(label)?.[1] ?? null);
+  }
+
+  /** Returns whether a label begins a block: it is declared, data is after it, or a return or a jump before it, unless only names tell the threads. */
+  beginsBlock(label, rest, at) {
+    const code = this.block.lines.filter(Boolean);
+    const next = rest || this.lines.slice(at + 1).map((it) => it.replace(COMMENT, "").trim()).find((it) => it && (DATA.test(it) || !it.startsWith(".")));
+    const isNamed = !this.hasEnds && !this.blocks[0].lines.some(Boolean);
+    return isNamed || this.declared.has(label) || !code.length || LEAVES.test(code.at(-1)) || DATA.test(next ?? "");
+  }
+
+  /** Adds the words of a directive to those of the block, at their places after these. */
+  addWords(words) {
+    const last = this.block.words.at(-1);
+    const begin = last ? last.offset + last.bytes : 0;
+    const bytes = words.length > 1 ? words[1].offset : 4;
+    this.block.words.push(...words.map(({ offset, word }) => ({ offset: begin + offset, word, bytes })));
+  }
+}
+
+/**
+ * Returns the blocks of a text of instructions. The first one has no name.
+ * @param {string} text
+ * @returns {AssemblyBlock[]}
+ */
+export function readBlocks(text) {
+  return new AssemblyReader(text).readAll();
+}
+
+/** Returns a label of a compiler as a name of lw. */
+function rewriteLabel(label) {
+  return label.replace(/^\.+/, "").replace(/\W/g, "_");
+}
+
+/**
+ * Returns lines of a function with its labels before instructions, in which each return but the last one jumps to a label at the end, and so does what
+ * jumps to a return.
+ * @param {string[]} lines
+ * @returns {string[]}
+ */
+export function rewriteReturns(lines) {
+  const steps = [];
+  let labels = [];
+  for (const line of lines.filter(Boolean)) {
+    if (line.endsWith(":")) labels.push(line.slice(0, -1));
+    else {
+      steps.push({ labels, code: line });
+      labels = [];
+    }
+  }
+  const names = new Set(steps.flatMap((it) => it.labels).concat(labels).map(rewriteLabel));
+  let end = "END";
+  while (names.has(end)) end += "_";
+  const isReturn = (it) => RETURN.test(it.code);
+  const ends = new Set([...steps.filter(isReturn).flatMap((it) => it.labels), ...labels]);
+  const rewriteJump = (code) => code.replace(JUMP, (jump, label) => jump.slice(0, -label.length) + (ends.has(label) ? end : rewriteLabel(label)));
+  const written = steps.map((it) => ({ labels: isReturn(it) ? [] : it.labels, code: isReturn(it) ? `jmp ${end}` : rewriteJump(it.code) }));
+  const isLast = ({ labels: before, code }) => !before.length && new RegExp(`^jmp\\s+(?:short\\s+)?${end}$`, "i").test(code);
+  while (written.length && isLast(written.at(-1))) written.pop();
+  const code = written.map((it) => [...it.labels.map((label) => `${rewriteLabel(label)}:`), it.code].join(" "));
+  return written.some((it) => it.code.endsWith(` ${end}`)) ? [...code, `${end}:`] : code;
+}
