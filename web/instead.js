@@ -3,6 +3,7 @@
 import { findCell, parseCells } from "./other_language.js";
 import { isReserved, REGISTERS, WORD } from "./token_reader.js";
 
+const LOCATION = "(?!E\\w\\w\\b|R\\w+\\b|[XYZ]?MM\\d|[A-D][XHL]\\b|[SD]IL?\\b|[BSI]PL?\\b|(?:TRUE|FALSE|NULL|NULLPTR)\\b)[A-Z_]\\w*";
 // Patterns of instructions, in which INC, DEC and SUB are written as ADD; and what does the same, in which T is a register that the thread does not use.
 const SAME = [
   [/^LOCK X?ADD (\[\w+\]),(\$?\w+)$/i, "MOV T,$2;LOCK XADD $1,T"],
@@ -12,9 +13,9 @@ const SAME = [
   [/^(ADD \w+,\$\d+)$/i, "$1"],
   [/^MOV (\$\w+),(E[A-D]X|E[SD]I|\[\w+\])$/i, "MOV $2,$1"],
   [/^MOV (\$\w+),(\w+)$/i, "MOV [$2],$1"],
-  // Two locations, of which no word looks like a register.
-  [/^MOV \[(\w+)\],\[?((?!E\w\w\b|R\w+\b)[A-Z_]\w*)\]?$/i, "MOV T,[$2];MOV [$1],T"],
-  [/^MOV ((?!E\w\w\b|R\w+\b)[A-Z_]\w*),((?!E\w\w\b|R\w+\b)[A-Z_]\w*)$/i, "MOV T,[$2];MOV [$1],T"],
+  // Two locations, of which no word looks like a register or a constant.
+  [new RegExp(`^MOV \\[(\\w+)\\],\\[?(${LOCATION})\\]?$`, "i"), "MOV T,[$2];MOV [$1],T"],
+  [new RegExp(`^MOV (${LOCATION}),(${LOCATION})$`, "i"), "MOV T,[$2];MOV [$1],T"],
   [/^XADD (\[\w+\]),(E\w\w)$/i, "MOV T,$1;ADD $2,T;MOV $1,$2;MOV $2,T"],
   // As tools/herd/rewrite.py: what changes no word, and what gives 0, with the flag that they leave.
   [/^LOCK (?:X?OR (\[\w+\]),\$?0|AND (\[\w+\]),\$?4294967295)$/i, "MOV T,$0;LOCK XADD $1$2,T"],

@@ -7,6 +7,7 @@
 // put in, the `begin` and the `end` of what it replaces (`from`), and the `kinds` of what is changed, of which SENTENCES has one for each.
 
 import { alignCells } from "./aligned.js";
+import { rewriteEntries } from "./initial_values.js";
 import { findNearest } from "./nearest.js";
 import { convertRegister, convertToX86, isAllIn, parseCells, SAID_OF_ALL } from "./other_language.js";
 import { explainCall, isRead, NO_TYPES, rewriteTypes } from "./other_tools.js";
@@ -26,11 +27,11 @@ const IDLE = new RegExp(`^${LABELS}(?:pause|(?:rep\\s+)?nop)$`, "i");
 const STACK = "(?:(?:[dq]word\\s+ptr\\s*)?\\[\\s*[re]sp\\s*(?:[+-]\\s*\\w+\\s*)?\\]\\s*,\\s*\\$?0|\\$0\\s*,\\s*-?\\w*\\(\\s*%?[re]sp\\s*\\))";
 const STACK_FENCE = new RegExp(`^${LABELS}lock\\s+(?:add|x?or|sub)[lq]?\\s+${STACK}$`, "i");
 // Registers that lw lacks: others of 64 and 32 bits, and parts of 8 bits.
-const LACKED = /^%?(?:[re]?[bsi]p|r(?:[89]|1[0-5])[dwb]?|[abcd][hl]|[sd]il)$/i;
+const LACKED = /^%?(?:[re]?[bsi]p|r(?:[89]|1[0-5])[dwb]?|[abcd][hl]|[sd]il|[xyz]?mm\d+)$/i;
 const NUMBER = /^([$#]?)(-?)\s*(0x[\da-f]+|\d+)$/i;
 const SIZE = /^(byte|word|dword|qword)(?:\s+ptr)?(?=[\s[])\s*/i;
 // What says that an address is relative to the next instruction, which a location is not.
-const RELATIVE = /\s*[([]%?rip[)\]]$|(?<=^\[)\s*(?:rel\s+|rip\s*\+)/gi;
+const RELATIVE = /(?<!\s)\s*[([]%?rip[)\]]$|(?<=^\[)\s*(?:rel\s+|rip\s*\+)/gi;
 const LOCATION = /^([[(]?)\s*([A-Za-z_]\w*)\s*[\])]?$/;
 // A register in brackets or in parentheses.
 const ADDRESS = /[[(][^\])]*(?<!\w)%?(?:[re](?:[abcd]x|[sd]i|[sb]p)|r\d+)(?!\w)/i;
@@ -41,7 +42,7 @@ const IN_QUESTION = [
   ["quantifier", /^\s*(not\s+exists|!\s*exists|forbidden|never)\b/gi, "~exists"], ["quantifier", /^\s*(allowed)\b/gi, "exists"],
   ["quantifier", /^\s*(required|always)\b/gi, "forall"], ["connective", /(&&?|\band\b)/gi, "/\\"], ["connective", /(\|\|?|\bor\b)/gi, "\\/"],
   ["connective", /(!)(?![=\s]|\s*exists)/g, "~"], ["equals", /(==)/g, "="],
-  ["unequal", /((?:\d\s*:\s*)?\[?\w+\]?\s*!=\s*)/g, (it) => `~${it.replace(/\s*!=\s*/, "=")}`],
+  ["unequal", /((?:\d\s*:\s*)?\[?\b\w+\]?\s*!=\s*)/g, (it) => `~${it.split("!=").map((part) => part.trim()).join("=")}`],
   ["negative", /=\s*(-\s*\d+)\b/g, (it) => String(negate(it.slice(1)))],
 ];
 const SITE = /\b(P?)(\d)\s*:\s*(%?[A-Za-z]\w*)(\s*=\s*&?[A-Za-z]\w*)?/g;
@@ -53,7 +54,7 @@ const FENCE = /^((?:\w+\s*:(?!=)\s*)*)((?:[mls]?fence|smp_mb|atomic_thread_fence
 const BRANCH = /^((?:\w+\s*:\s*)*)if\s*\(\s*(r\d)\s*(==?|!=)\s*(\w+)\s*\)\s*goto\s+(\w+)$/;
 const COMPARED = /^((?:\w+\s*:\s*)*if\b[^=]*)==/;
 // A negative number after an operator, or one that is subtracted from a register.
-const MINUS = /(?<=([=+])\s*|\br\d\s*)-\s*(\d+)\b/g;
+const MINUS = /-(?<=(?:([=+])|\br\d)\s*-)\s*(\d+)\b/g;
 // A store, a load and a fence in C.
 const IN_C = new RegExp(`^${LABELS}(?:WRITE_ONCE\\s*\\(\\s*[*&]?(\\w+)\\s*,\\s*(\\w+)\\s*\\)|(?:int\\s+)?\\*?(\\w+)\\s*=\\s*(?:READ_ONCE\\s*\\(\\s*[*&]?(\\w+)\\s*\\)|\\*?(\\w+))|smp_mb\\(\\))$`);
 // A call, as of a program.
@@ -82,6 +83,7 @@ const SENTENCES = {
   idle: "`PAUSE` and `NOP` change no state.",
   stack: "A locked instruction on the stack is a fence.",
   sum: "lw has sums only.",
+  entries: "Initial values have a `;` between them: `{ x=0; y=1; }`.",
   types: NO_TYPES,
   set: "A statement sets a location or a register by `:=`.",
   compared: "A branch compares with one `=`.",
@@ -95,12 +97,14 @@ const SENTENCES = {
   unequal: "A question has no `!=`: `~x=1` asks for another word than 1.",
 };
 const ORDER_IS_OPEN = "A suffix is usual in AT&T's order, with the destination last; nothing else here says so. lw has no suffixes, and the destination first.";
-const SIZES_DIFFER = "Some instructions access 32 bits and some 64: all words and registers of lw have 32.";
+const SIZES_DIFFER = "An instruction has operands of 32 bits or of 64: all words and registers of lw have 32.";
 /** What a constant is. */
 export const CONSTANT = "A constant is a whole number from 0 to 4294967295.";
 const MAY_BE_LARGE = "A result of 64 bits may not fit into the 32 bits of a word of lw.";
 // The kinds of edits of which more is said here than of their faults in general.
 const BETTER = ["first", "clear", "stack", "register", "source", "negative", "unequal"];
+// The cells of the largest test.
+const MAX_CELLS = 256;
 // How many changes are named at most, and how many letters each has.
 const [MAX_NAMED, MAX_LETTERS] = [2, 32];
 
@@ -120,16 +124,17 @@ function explainOtherThread(site, other, thread) {
 }
 
 /**
- * Returns an operand of an instruction of a thread. `isLocation` says whether a name without brackets is that of a location.
+ * Returns an operand of an instruction of a thread. `isLocation` says whether a name without brackets is that of a location, and `rename` is as
+ * `makeX86Renaming` returns it.
  * @param {string} operand
  * @param {number} thread
- * @param {function(string): boolean} isLocation
+ * @param {{isLocation: function(string): boolean, rename: function(number, string): string}} names
  * @returns {Operand}
  */
-function parseOperand(operand, thread, isLocation) {
+function parseOperand(operand, thread, { isLocation, rename }) {
   const [prefix, owner] = /^(\d)\s*:\s*(?=%?\w)/.exec(operand) ?? [];
   if (prefix) {
-    const rest = parseOperand(operand.slice(prefix.length), thread, isLocation);
+    const rest = parseOperand(operand.slice(prefix.length), thread, { isLocation, rename });
     if (rest.kind !== "register") return { kind: "word", written: operand, kinds: [] };
     return Number(owner) === thread ? { ...rest, kinds: [...rest.kinds, "own"] } : { why: explainOtherThread(operand, owner, thread) };
   }
@@ -141,7 +146,11 @@ function parseOperand(operand, thread, isLocation) {
     const kinds = [isWide && "register", given.startsWith("%") && "percent"].filter(Boolean);
     return { kind: "register", written: `E${letters.toUpperCase()}`, bits: isWide ? 64 : 32, kinds };
   }
-  if (letters || (!size && LACKED.test(given))) return { why: explainLackedRegister(given) };
+  if (letters) return { why: explainLackedRegister(given) };
+  if (!size && LACKED.test(given)) {
+    const written = rename(thread, given.replace("%", ""));
+    return LACKED.test(written) ? { why: explainLackedRegister(given) } : { kind: "register", written, bits: /d$/i.test(given) ? 32 : 64, kinds: ["register"] };
+  }
   const [, mark, sign, digits] = (!size && NUMBER.exec(given)) || [];
   if (digits && !(sign && Number(digits) >= WORD)) {
     const value = sign ? negate(digits) : Number(digits);
@@ -184,11 +193,11 @@ function convertFromC(code) {
 /**
  * Returns the instruction of a cell, or null if it is none that is rewritten here. `isFlagRead` says that a later branch may read its flag.
  * @param {CodeCell} cell
- * @param {function(string): boolean} isLocation
+ * @param {object} names as of parseOperand
  * @param {boolean} isFlagRead
  * @returns {Instruction | null}
  */
-function parseInstruction({ code, thread }, isLocation, isFlagRead) {
+function parseInstruction({ code, thread }, names, isFlagRead) {
   const same = convertFromC(code);
   if (same) return { code, labels: "", lock: "", name: "", operands: [], same, kinds: ["c"], thread };
   const [, idle] = IDLE.exec(code) ?? [];
@@ -200,7 +209,7 @@ function parseInstruction({ code, thread }, isLocation, isFlagRead) {
   if (Object.hasOwn(JUMPS, upper)) return { code, labels, lock, name: JUMPS[upper], operands: [], rest, kinds: ["jump"], thread };
   const name = [upper, upper.slice(0, -1)].find((it) => NAMES.includes(it));
   if (!name || (name !== upper && !BITS[upper.at(-1)])) return null;
-  const operands = rest.split(",").map((it) => parseOperand(it.trim(), thread, isLocation));
+  const operands = rest.split(",").map((it) => parseOperand(it.trim(), thread, names));
   const bits = name === upper ? undefined : BITS[upper.at(-1)];
   const instruction = { code, labels, lock, name, bits, operands, kinds: bits ? ["size"] : [], thread };
   if (!BITWISE.includes(name)) return instruction;
@@ -266,9 +275,8 @@ function explainSizes(instructions, numbers) {
   const sizes = new Set(instructions.flatMap(({ bits, operands }) => [bits, ...operands.map((it) => it.bits)]).filter(Boolean));
   if (sizes.has(8) || sizes.has(16)) return "lw has words of 32 bits, and none of 8 or 16.";
   if (!sizes.has(64)) return "";
-  const accessed = instructions.filter(({ operands }) => operands.some((it) => it.kind === "location"));
-  const findBits = ({ bits, operands }) => bits ?? operands.find((it) => it.bits)?.bits;
-  if (accessed.some((it) => findBits(it) === 64) && accessed.some((it) => findBits(it) === 32)) return SIZES_DIFFER;
+  // Words below 2 to the 32 are the same in 64 bits: the upper half of each of them is 0.
+  if (instructions.some(({ bits, operands }) => new Set([bits, ...operands.map((it) => it.bits)].filter(Boolean)).size > 1)) return SIZES_DIFFER;
   const sums = instructions.filter(({ name }) => ["ADD", "XADD", "INC"].includes(name)).length;
   const isLess = instructions.some(({ name, operands }) => ["SUB", "DEC"].includes(name) || operands.some((it) => it.kinds.includes("negative")));
   return isLess || Math.max(1, ...numbers) * 2 ** sums >= WORD ? MAY_BE_LARGE : "";
@@ -301,12 +309,12 @@ function rewriteSum(formatted) {
 /**
  * Returns the edits of the code; or why it can't be rewritten, with the cells at whose faults that is said. `numbers` are those of the initial values.
  * @param {CodeCell[]} cells
- * @param {function(string): boolean} isLocation
+ * @param {object} names as of parseOperand
  * @param {number[]} numbers
  * @returns {{edits?: Edit[], why?: string, places?: CodeCell[]}}
  */
-function listCodeEdits(cells, isLocation, numbers) {
-  const instructions = cells.map((it, at) => parseInstruction(it, isLocation, canFlagBeRead(cells, at)));
+function listCodeEdits(cells, names, numbers) {
+  const instructions = cells.map((it, at) => parseInstruction(it, names, canFlagBeRead(cells, at)));
   const known = instructions.filter(Boolean);
   const isAtt = areInAttOrder(known);
   const apart = explainOrders(known);
@@ -351,8 +359,8 @@ function listSiteEdits(part, begin, isX86, isOther, rename = null) {
     const from = whole.slice(0, whole.length - value.length);
     const [, wide, letters] = (isX86 && REGISTER.exec(register)) || [];
     if (letters && value) return { why: explainAddress(whole) };
-    if ((isX86 && LACKED.test(register)) || (letters && !wide)) return { why: explainLackedRegister(from) };
     const name = rewriteRegister(register, Number(thread), isX86, isOther, rename);
+    if ((isX86 && LACKED.test(name)) || (letters && !wide)) return { why: explainLackedRegister(from) };
     const isSource = name.startsWith("r");
     if (name !== register) edits.push(makeEdit(begin + index, from, `${thread}:${name}`, isSource ? "source" : register.startsWith("%e") ? "percent" : "register"));
     else if (letter) edits.push(makeEdit(begin + index, from, `${thread}:${name}`, "thread"));
@@ -384,13 +392,31 @@ function listQuestionEdits(code, begin) {
  * each of these; of others itself.
  */
 function makeRenaming(cells, code) {
-  const sites = [...code.matchAll(/\b(\d)\s*:\s*(r\d+)\b/g)].map(([, thread, name]) => ({ thread: Number(thread), code: name }));
-  return (thread, register) => {
-    const used = [...cells, ...sites].flatMap((it) => (it.thread === thread ? (it.code.match(/\br\d+\b/g) ?? []) : []));
-    const lacked = [...new Set(used)].filter((it) => !REGISTERS.SRC.includes(it));
-    const free = REGISTERS.SRC.filter((it) => !used.includes(it));
-    return (lacked.length <= free.length && free[lacked.indexOf(register)]) || register;
-  };
+  const threads = listUsedNames(cells, code, /\br\d+\b/g).map((used) => mapLacked(used, REGISTERS.SRC));
+  return (thread, register) => threads[thread]?.get(register) ?? register;
+}
+
+/** Returns what makeRenaming does, of an x86 test: of `R8` to `R15`, in whatever letters, a register that the thread does not use. */
+function makeX86Renaming(cells, code) {
+  const normalize = (name) => name.toUpperCase().replace(/^(R\d+)D$/, "$1").replace(/^R?([A-D]X|[SD]I)$/, "E$1");
+  const threads = listUsedNames(cells, code, /\b(?:[re]?(?:[abcd]x|[sd]i)|r(?:[89]|1[0-5])d?)\b/gi);
+  const maps = threads.map((used) => mapLacked(used.map(normalize), REGISTERS.X86));
+  return (thread, register) => maps[thread]?.get(normalize(register)) ?? register;
+}
+
+/** Returns, for each thread, the names in its cells and at its sites in a text that a pattern matches. */
+function listUsedNames(cells, code, pattern) {
+  const sites = [...code.matchAll(/\b(\d)\s*:\s*(%?\w+)/g)].map(([, thread, name]) => ({ thread: Number(thread), code: name }));
+  const threads = [[], [], [], []];
+  for (const { thread, code: it } of [...cells, ...sites]) threads[thread]?.push(...(it.match(pattern) ?? []));
+  return threads;
+}
+
+/** Returns a map from the used names that a language lacks to those of its registers that are not used; an empty one, if there are too few. */
+function mapLacked(used, registers) {
+  const lacked = [...new Set(used)].filter((it) => !registers.includes(it));
+  const free = registers.filter((it) => !used.includes(it));
+  return new Map(lacked.length <= free.length ? lacked.map((it, at) => [it, free[at]]) : []);
 }
 
 /**
@@ -454,7 +480,10 @@ function listBlockEdits(text, begin, end, isX86, rename) {
   const block = blankComments(text).slice(begin, end);
   const { edits, why } = listSiteEdits(block, begin, isX86, false, rename);
   if (why) return { why };
-  const types = rewriteTypes(applyEdits(block, edits.map((it) => ({ ...it, begin: it.begin - begin, end: it.end - begin }))));
+  const renamed = applyEdits(block, edits.map((it) => ({ ...it, begin: it.begin - begin, end: it.end - begin })));
+  const entries = block === text.slice(begin, end) ? rewriteEntries(renamed.slice(1, -1)) : null;
+  if (entries) return { edits: [makeEdit(begin, block, entries, "entries")] };
+  const types = rewriteTypes(renamed);
   if (types === null) return { edits };
   return types && block === text.slice(begin, end) ? { edits: [makeEdit(begin, block, types, "types")] } : { why: NO_TYPES };
 }
@@ -472,12 +501,12 @@ function findEdits(text) {
   const isX86 = /^x86(?:[_-]64)?$/i.test(word);
   const code = blankComments(text);
   const [opens, closes] = [code.indexOf("{"), code.indexOf("}")];
-  if (!(isX86 || word === "SRC") || !cells.length || opens < 0 || closes > cells[0].begin) return null;
+  if (!(isX86 || word === "SRC") || !cells.length || all.length > MAX_CELLS || opens < 0 || closes > cells[0].begin) return null;
   const end = all.at(-1).end + 1;
   const heading = isX86 && word !== "X86" ? [makeEdit(offset, word, "X86", "heading")] : [];
   const numbers = [...code.slice(opens, closes).matchAll(/=\s*(\d\w*)/g)].map(([, it]) => Number(it));
-  const rename = isX86 ? null : makeRenaming(cells, code);
-  const ofCode = isX86 ? listCodeEdits(cells, makeLocationTest(text, cells), numbers) : listStatementEdits(cells, rename);
+  const rename = isX86 ? makeX86Renaming(cells, code) : makeRenaming(cells, code);
+  const ofCode = isX86 ? listCodeEdits(cells, { isLocation: makeLocationTest(text, cells), rename }, numbers) : listStatementEdits(cells, rename);
   if (ofCode.why) return ofCode;
   const isOther = isX86 ? !ofCode.edits.length && isAllIn("SRC", text) : isAllIn("X86", text);
   const sites = listSiteEdits(code.slice(end), end, isX86, isOther, rename);
