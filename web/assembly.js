@@ -153,8 +153,13 @@ function refuseLines(threads, names) {
   return others.length ? `${BEGIN}, of which the page does not rewrite \`${others[0]}\`.` : null;
 }
 
-/** Returns the question of a text of instructions from its place on, in which threads have the numbers of a test. */
-function numberThreads(question, first) {
+/**
+ * Returns a question in which threads have the numbers of a test, given the number of the first thread in it.
+ * @param {string} question
+ * @param {number} first
+ * @returns {string}
+ */
+export function numberThreads(question, first) {
   const isShifted = first && !/\b(?:P|T)?0\s*:/.test(question);
   return isShifted ? question.replace(/\b([PT]?)([1-4])(?=\s*:)/g, (_, letter, digit) => `${letter}${digit - 1}`) : question;
 }

@@ -2,8 +2,11 @@
 // into the text. The sentence depends on the fault's name and on the token at its place; lw's own line is shown beside it. Not proved.
 
 import { explainAssembly, formatNames } from "./assembly.js";
+import { makeChange } from "./change.js";
+import { explainName, explainThreadNames } from "./headers.js";
 import { rewriteEntries } from "./initial_values.js";
 import { explainLacked, explainSpareFence, NO_CAS } from "./instead.js";
+import { explainMissingQuestion } from "./missing_question.js";
 import { findNearest } from "./nearest.js";
 import { CONSTANT, findRewriting, NEGATIVE, rewriteWhole } from "./notation.js";
 import { convertRegister, explainCode, explainOtherFirstWord, isAllIn, parseCells } from "./other_language.js";
@@ -12,6 +15,7 @@ import { explainRaggedRows } from "./ragged.js";
 import { TEMPLATE } from "./template.js";
 import { readTest } from "./tests.js";
 import { REGISTERS, WORD } from "./token_reader.js";
+import { explainTypography } from "./typography.js";
 import { beginsWithX86, blankComments, findToken } from "./tokens.js";
 
 const STATEMENTS =
@@ -27,6 +31,8 @@ const HEADS = ["SRC", "X86"];
 // The labels before an instruction in its cell.
 const LABELS = /^(?:\w+\s*:\s*)*$/;
 const QUESTION_OR_LIST = /(?:(?:[~!]|\bnot\b)\s*)?\b(?:exists|forall|locations|filter)\b|\b(?:forbidden|never|allowed|required|always)\s*\(/i;
+// Signs of print, and what lines around a test begin with.
+const ODD = /^(?:[^\x00-\x7f]|[`><]|~~)/;
 // An instruction with the first of its two operands.
 const ONE_OPERAND = /\b(?:MOV|ADD|CMP|XCHG|XADD)\s+[\w[\]]+$/i;
 
@@ -34,6 +40,7 @@ const ONE_OPERAND = /\b(?:MOV|ADD|CMP|XCHG|XADD)\s+[\w[\]]+$/i;
 function describeToken(token) {
   if (token === "") return "the end of the text";
   if (token === "\n") return "the end of the line";
+  if (token === "`") return "a backquote";
   return `\`${token}\``;
 }
 
@@ -153,7 +160,8 @@ function explainMissingInQuestion(place) {
     place.change.title = "Take out the *";
     return "`(*` opens a comment: a location has no `*`.";
   }
-  if (question === null || question.includes("(*")) return "";
+  if (question === null) return explainMissingQuestion(place);
+  if (question.includes("(*")) return "";
   const missing = question.split("(").length - question.split(")").length;
   if (!/(?:=\s*\w+|\)|\btrue|\bfalse)\s*$/.test(question)) return "The question is not complete. It is for instance `exists (x=1)`.";
   if (missing < 1) return "";
@@ -203,7 +211,15 @@ function explainNotation(place) {
   if (findQuestion(front) === null && !isInBlock(front)) return "";
   const negated = token === "!=" && /(?:\d\s*:\s*)?\[?\b\w+\]?\s*$/.exec(front);
   if (negated) return `A question has no \`!=\`: \`~x=1\` asks for another word than 1.${place.propose(`~${negated[0].trim()}=`, negated.index, index + token.length)}`;
-  return isInBlock(front) ? explainEntries(place) : "";
+  if (isInBlock(front)) return explainEntries(place);
+  return /^[;.?,]$/.test(token) && !place.after.trim() ? `The question is the end of a test.${takeOut(place)}` : "";
+}
+
+/** Proposes to take the token out. Returns "". */
+function takeOut(place) {
+  place.proposeChange("");
+  place.change.title = `Take out the ${place.token}`;
+  return "";
 }
 
 /** Returns a sentence that says how initial values are written, and proposes those of a text; or "" if they are written so, or are something else. */
@@ -239,13 +255,6 @@ function explainOpenBlock(place) {
   return "The initial values lack a `}` at their end.";
 }
 
-/** Returns a sentence that says that the threads' names are in small letters, and proposes capital letters; or "" if that is not so. */
-function explainThreadNames(place) {
-  const { text, index, token } = place;
-  const header = /^p\d$/.test(token) && /[^;\n]*/.exec(text.slice(index))[0].trimEnd();
-  return header ? `The threads are \`P0\`, \`P1\` and so on.${place.propose(header.toUpperCase(), index, index + header.length)}` : "";
-}
-
 /**
  * Returns a sentence that says that the list of locations before the question has no end, or "" if that is not so. `place.at` is then where the list
  * should end, and `]` is proposed there.
@@ -279,7 +288,7 @@ function explainConstant(place) {
 function findLineWithoutEnd({ row }, text) {
   const front = blankComments(text).split("\n", row - 1).join("\n");
   const rows = front.split(QUESTION_OR_LIST)[0].trimEnd();
-  const hasEnd = /(?:;|\(\*|\*\)).*$/.test(rows);
+  const hasEnd = /(?:;|\(\*|\*\)).*$|\n\s*(?:\(|\d\s*:).*$/.test(rows);
   return !/^[ \t]*P0\b/m.test(rows) || hasEnd || findMisspeltQuestion(text) ? null : rows.split("\n").length;
 }
 
@@ -332,7 +341,7 @@ function explainRowsWithoutEnd(fault, text) {
   const words = ends.length === 1 ? "This row has no `;` at its end." : `This row and ${further} have no \`;\` at their ends.`;
   const title = ends.length === 1 ? "Put in the ;" : `Put in ${ends.length} ;`;
   const at = { row: front.length, column: [...front.at(-1)].length + 1, index: begin };
-  if (others) return { words: `${words} ${others}`, change: { begin: 0, end: text.length, text: whole, title: "Rewrite all" }, at };
+  if (others) return { words: `${words} ${others}`, change: { ...makeChange(text, whole), title: "Rewrite all" }, at };
   return { words, change: { begin, end, text: withEnds, title }, at };
 }
 
@@ -403,6 +412,7 @@ function proposeBrackets(place) {
   return isLocation ? place.propose(`[${token}]`) : "";
 }
 
+const FILTER = "lw has no `filter`: its condition is a part of the question, as in `exists ((1:EAX=1) /\\ (x=1))`.";
 // Of each fault, by its kind and name, what is wrong and what is expected. `tokenWords` is the token in words.
 const SENTENCES = {
   "text NotUtf8": () => "The text is not UTF-8 from here on.",
@@ -416,11 +426,12 @@ const SENTENCES = {
     explainComment(place) ||
     explainOpenBlock(place) ||
     explainAssembly(place) ||
+    explainName(place) ||
+    explainThreadNames(place) ||
     explainMissingFront(place) ||
     explainLacked(place) ||
     explainConstant(place) ||
     explainMisspeltQuestion(place) ||
-    explainThreadNames(place) ||
     explainNotation(place) ||
     explainFirstWord(place) ||
     `${place.tokenWords} is not expected here. A test is \`SRC\` or \`X86\` and a name, the initial values in \`{ }\`, the row \`P0 | P1 ;\`, ` +
@@ -438,6 +449,7 @@ const SENTENCES = {
   "text TooManyRows": () => "A test has 64 rows at most.",
   "text TooManyLocations": () => "A test has eight locations at most.",
   "text Condition": (place) =>
+    (place.token === "filter" && FILTER) ||
     explainOpenList(place) ||
     explainNotation(place) ||
     `${place.tokenWords} does not fit into the question. It is \`exists\`, \`~exists\` or \`forall\`, and then for instance \`(x=1 /\\ 0:r0=0)\`, ` +
@@ -470,6 +482,8 @@ const SENTENCES = {
 export function explainFault(fault, text) {
   const { kind, name, index } = fault;
   const place = new FaultPlace(text, index);
+  const typography = ODD.test(place.token) || ODD.test(text[0]) ? explainTypography(place) : "";
+  if (typography) return { words: typography, change: place.change };
   const rewriting = name === "TooManyRows" ? null : findRewriting(text, index);
   const other = kind === "text" && findOtherLanguage(place);
   const choice = rewriting?.also ? " The other button makes x86 code of the rows, which may have more states." : "";

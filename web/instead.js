@@ -17,6 +17,9 @@ const SAME = [
   [new RegExp(`^MOV \\[(\\w+)\\],\\[?(${LOCATION})\\]?$`, "i"), "MOV T,[$2];MOV [$1],T"],
   [new RegExp(`^MOV (${LOCATION}),(${LOCATION})$`, "i"), "MOV T,[$2];MOV [$1],T"],
   [/^XADD (\[\w+\]),(E\w\w)$/i, "MOV T,$1;ADD $2,T;MOV $1,$2;MOV $2,T"],
+  [/^XCHG (\[\w+\]),(\$?\d+)$/i, "MOV T,$2;XCHG $1,T"],
+  [/^XCHG (\$?\d+),(\[\w+\])$/i, "MOV T,$1;XCHG $2,T"],
+  [/^XCHG (E\w\w),(E\w\w)$/i, "MOV T,$1;MOV $1,$2;MOV $2,T"],
   // As tools/herd/rewrite.py: what changes no word, and what gives 0, with the flag that they leave.
   [/^LOCK (?:X?OR (\[\w+\]),\$?0|AND (\[\w+\]),\$?4294967295)$/i, "MOV T,$0;LOCK XADD $1$2,T"],
   [/^(?:(?:TEST|AND|OR) (E\w\w),(?:\1|\$?4294967295)|OR (E\w\w),\$?0)$/i, "CMP $1$2,$0"],
@@ -34,6 +37,9 @@ export const NO_CAS = { X86: explainCas("XCHG", "it sets no flag, so `CMP`"), SR
 // A source statement that sets a location or a register to a sum or a difference, without blanks.
 const SUM = /^(\w+)(?::=(\w+)([+-])|([+-])=)(\w+)$/;
 
+// A source statement that exchanges a constant, or adds it: the groups are what is before the constant, and it.
+const EXCHANGE = /^(r\d\s*:=\s*(?:swap|fetchadd)\s+[A-Za-z_]\w*)\s+(\d+)$/;
+
 /** Returns code with one blank between its words, in which INC, DEC and SUB are written as ADD. */
 function rewriteAsAdd(code) {
   const short = code.replace(/\s+/g, " ").replace(/ ?, ?/g, ",");
@@ -49,10 +55,12 @@ function rewriteAsAdd(code) {
 const isLocation = (operand) => /^(?!r\d+$)[A-Za-z_]/.test(operand);
 
 /**
- * Returns source statements that do what one with `++`, `+=`, `-`, a location in a sum or a copied location does, with a free register; none if it is no such
- * statement, has words without a sign between them, or is a difference of registers.
+ * Returns source statements that do what one with `++`, `+=`, `-`, a location in a sum, a copied location or an exchanged constant does, with a free
+ * register; none if it is no such statement, has words without a sign between them, or is a difference of registers.
  */
 function listSumSteps(code, register) {
+  const [, exchange, word] = EXCHANGE.exec(code) ?? [];
+  if (exchange) return [`${register} := ${word}`, `${exchange.replace(/\s+/g, " ")} ${register}`];
   if (/\w\s+\w/.test(code)) return [];
   const short = code.replace(/\s/g, "").replace(/^([+-])\1(\w+)$|^(\w+)([+-])\4$/, "$2$3$1$4=1");
   const copied = /^(\w+):=(\w+)$/.exec(short)?.slice(1) ?? [];

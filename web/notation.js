@@ -7,6 +7,7 @@
 // put in, the `begin` and the `end` of what it replaces (`from`), and the `kinds` of what is changed, of which SENTENCES has one for each.
 
 import { alignCells } from "./aligned.js";
+import { makeChange } from "./change.js";
 import { rewriteEntries } from "./initial_values.js";
 import { findNearest } from "./nearest.js";
 import { convertRegister, convertToX86, isAllIn, parseCells, SAID_OF_ALL } from "./other_language.js";
@@ -40,7 +41,10 @@ const negate = (digits) => (WORD - Number(digits)) % WORD;
 // How other tools write the parts of a question, and how lw does: a text, or a function of what is written.
 const IN_QUESTION = [
   ["quantifier", /^\s*(not\s+exists|!\s*exists|forbidden|never)\b/gi, "~exists"], ["quantifier", /^\s*(allowed)\b/gi, "exists"],
-  ["quantifier", /^\s*(required|always)\b/gi, "forall"], ["connective", /(&&?|\band\b)/gi, "/\\"], ["connective", /(\|\|?|\bor\b)/gi, "\\/"],
+  ["quantifier", /^\s*(required|always)\b/gi, "forall"],
+  ["quantifier", /^\s*(E[Xx][Ii][Ss][Tt][Ss]|F[Oo][Rr][Aa][Ll][Ll])\b/g, (it) => it.toLowerCase()],
+  ["quantifier", /()(?=\(|\d\s*:)(?<=^\s*)/g, "exists "],
+  ["connective", /(&&?|\band\b)/gi, "/\\"], ["connective", /(,)/g, " /\\"], ["connective", /(\|\|?|\bor\b)/gi, "\\/"],
   ["connective", /(!)(?![=\s]|\s*exists)/g, "~"], ["equals", /(==)/g, "="],
   ["unequal", /((?:\d\s*:\s*)?\[?\b\w+\]?\s*!=\s*)/g, (it) => `~${it.split("!=").map((part) => part.trim()).join("=")}`],
   ["negative", /=\s*(-\s*\d+)\b/g, (it) => String(negate(it.slice(1)))],
@@ -90,6 +94,7 @@ const SENTENCES = {
   branch: "A branch is `if r0 = 1 goto L`.",
   bare: "In a source test a location has no brackets.",
   fence: "A source test has no fences: the compiler adds them.",
+  list: "The list of locations has a `;` after each.",
   quantifier: "A question begins with `exists`, `~exists` or `forall`.",
   thread: "The thread of a register is a number, without `P`.",
   connective: "In a question, and is `/\\`, or is `\\/`, not is `~`.",
@@ -382,9 +387,11 @@ function listOwnerEdits(part, begin, cells, isX86, isOther, rename) {
 
 /** Returns the edits of the question, which a text has from an index on, except those of its registers. Comments are blank. */
 function listQuestionEdits(code, begin) {
-  const question = code.slice(begin).replace(/^\s*locations\s*\[[^\]]*\]/, (it) => it.replace(/[^\n]/g, " "));
+  const [list = ""] = /^\s*locations\s*\[[^\]]*\]/i.exec(code.slice(begin)) ?? [];
+  const question = list.replace(/[^\n]/g, " ") + code.slice(begin + list.length);
   const makeEditOf = (kind, text) => ({ 0: whole, 1: from, index }) => makeEdit(begin + index + whole.indexOf(from), from, text.call ? text(from) : text, kind);
-  return IN_QUESTION.flatMap(([kind, pattern, text]) => [...question.matchAll(pattern)].map(makeEditOf(kind, text)));
+  const ofList = [...list.matchAll(/,/g)].map(({ index }) => makeEdit(begin + index, ",", ";", "list"));
+  return [...ofList, ...IN_QUESTION.flatMap(([kind, pattern, text]) => [...question.matchAll(pattern)].map(makeEditOf(kind, text)))];
 }
 
 /**
@@ -548,10 +555,10 @@ export function rewriteWhole(text) {
 function describeEdits(edits) {
   if (edits.every(({ text }) => !text.trim())) return `The button takes out \`${edits[0].from}\`.`;
   const formatEdit = ({ from, text }) => `\`${from}\` to ${text.trim() ? `\`${text.trim()}\`` : "nothing"}`;
-  const short = edits.filter(({ from, text }) => Math.max(from.length, text.length) < MAX_LETTERS);
+  const short = edits.filter(({ from, text }) => from && Math.max(from.length, text.length) < MAX_LETTERS);
   const named = [...new Set(short.map(formatEdit))].slice(0, MAX_NAMED);
   const isMore = new Set(edits.map(formatEdit)).size > named.length;
-  if (edits.length === 1 && named.length) return `Did you mean \`${edits[0].text.trim()}\`?`;
+  if (edits.length === 1 && (named.length || !edits[0].from)) return `Did you mean \`${edits[0].text.trim()}\`?`;
   return named.length ? `The button changes ${named.join(isMore ? ", " : " and ")}${isMore ? ", and so on" : ""}.` : "";
 }
 
@@ -588,16 +595,10 @@ function makeRewriting(text, index, edits) {
   const kinds = new Set(edits.flatMap((it) => it.kinds));
   const said = Object.keys(SENTENCES).filter((it) => kinds.has(it)).map((it) => SENTENCES[it]);
   const [{ from, text: put }] = edits;
-  const single = put.trim() ? `Change it to ${put.trim()}` : `Take out ${from}`;
+  const single = !from ? `Put in ${put.trim()}` : put.trim() ? `Change it to ${put.trim()}` : `Take out ${from}`;
   const title = edits.length > 1 ? `Rewrite all ${edits.length} places` : from.length > MAX_LETTERS ? "Rewrite it" : single;
   const done = edits.length > 1 ? `${edits.length} places are rewritten.` : "Rewritten.";
-  // The numbers of characters before the change and after it, which stay as they are.
-  let [begin, rest] = [edits[0].begin, text.length - edits.at(-1).end];
-  if (whole !== edited) {
-    const shorter = Math.min(text.length, whole.length);
-    for (begin = 0; begin < shorter && text[begin] === whole[begin]; ) begin += 1;
-    for (rest = 0; rest < shorter - begin && text.at(-1 - rest) === whole.at(-1 - rest); ) rest += 1;
-  }
-  const change = { begin, end: text.length - rest, text: whole.slice(begin, whole.length - rest), title, done };
+  const ofEdits = { begin: edits[0].begin, end: edits.at(-1).end, text: whole.slice(edits[0].begin, whole.length - (text.length - edits.at(-1).end)) };
+  const change = { ...(whole === edited ? ofEdits : makeChange(text, whole)), title, done };
   return { words: `${said.join(" ")} ${describeEdits(edits)}`, change, count: edits.length, isWhole, isBetter: BETTER.some((it) => kinds.has(it)) };
 }

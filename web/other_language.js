@@ -13,7 +13,7 @@ const CODE = {
   SRC: new RegExp(`^${LABELS}(?:\\w+\\s*:=|\\w+\\s*=[\\w\\s+-]*$|if\\b|goto\\b)`),
   X86: new RegExp(`^${LABELS}(?:MOV|ADD|CMP|JE|JNE|JMP|XCHG|LOCK(?!\\s*\\()|XADD)\\b`, "i"),
 };
-const END_OF_ROWS = /;\s*(?:(?:locations|filter|(?:(?:[~!]|not\b)\s*)?exists|forall)\b|(?:forbidden|never|allowed|required|always)\s*\()/i;
+const END_OF_ROWS = /;\s*(?:(?:locations|filter|(?:(?:[~!]|not\b)\s*)?exists|forall)\b|(?:(?:forbidden|never|allowed|required|always)\s*)?\(|\d\s*:\s*%?\w+\s*=)/i;
 const SAID = {
   SRC: "This is a statement of a source test, and the text's first word is `X86`.",
   X86: "This is an x86 instruction, and the text's first word is `SRC`.",
