@@ -216,7 +216,9 @@ const FEW_ACCESSES = 14;
 function moreFencesOf(text) {
   const number = (String(text).match(/\[|:=/g) ?? []).length;
   const interleaved = /^\s*X86/.test(text) ? [["interleaved", {}]] : [];
-  const exchanges = ["exchanges", "enough together"].flatMap((it) => [[it, { everything: false }], [it, { everything: true }]]);
+  // What is enough together is asked if there is a lock; what it needs to know of other tests may be beyond lw's limits.
+  const asked = ["exchanges", ...(/XCHG|XADD|swap|fetchadd/i.test(text) ? ["enough together"] : [])];
+  const exchanges = asked.flatMap((it) => [[it, { everything: false }], [it, { everything: true }]]);
   return number <= FEW_ACCESSES ? [["more fences", {}], ...exchanges, ...interleaved] : [];
 }
 
@@ -807,7 +809,7 @@ const HINTS = [
   ["/\\ 1:EAX=0)", "", "The question lacks a `)` at its end.", undefined, ")", 6],
   ["exists", "locations [x;\nexists", "The list of locations lacks a `]` at its end.", undefined, "]", 6],
   ["P0 | P1", "p0 | p1", "The threads are `P0`, `P1` and so on.", undefined, "P0 | P1"],
-  ["P1 ;", "p1 ;", "The threads are `P0`, `P1` and so on.", undefined, "P1"],
+  ["P1 ;", "p1 ;", "The threads are `P0`, `P1` and so on.", undefined, "P0 | P1"],
   ["MOV EAX,[x]", "INC [y]", "lw does this by `MOV EBX,[y]`, then `ADD EBX,$1`", undefined, `MOV EBX,[y] ;\n${OTHER} ADD EBX,$1 ;\n${OTHER} MOV [y],EBX ;`],
   ["MOV EAX,[x]", "L: ADD [y],1", "lw does this by `MOV EBX,[y]`", undefined, `MOV EBX,[y] ;\n${OTHER} ADD EBX,1    ;\n${OTHER} MOV [y],EBX  ;`],
   ["MOV EAX,[x]", "LOCK INC [y]", "lw does this by `MOV EBX,$1`", undefined, `MOV EBX,$1 ;\n${OTHER} LOCK XADD [y],EBX ;`],
