@@ -288,7 +288,7 @@ function explainConstant(place) {
 function findLineWithoutEnd({ row }, text) {
   const front = blankComments(text).split("\n", row - 1).join("\n");
   const rows = front.split(QUESTION_OR_LIST)[0].trimEnd();
-  const hasEnd = /(?:;|\(\*|\*\)).*$|\n\s*(?:\(|\d\s*:).*$/.test(rows);
+  const hasEnd = /;|\(\*|\*\)|^\s*(?:\(|\d\s*:)/.test(rows.slice(rows.lastIndexOf("\n") + 1));
   return !/^[ \t]*P0\b/m.test(rows) || hasEnd || findMisspeltQuestion(text) ? null : rows.split("\n").length;
 }
 

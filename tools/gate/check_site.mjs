@@ -711,6 +711,69 @@ function compareHints(page, program, tally) {
   }
 }
 
+/** Compares the page's words on whole texts, and the texts that their buttons make; and the time that hints on long texts take. */
+function compareMendedTexts(page, program, tally) {
+  const findFault = (text) => page.questions.answerQuestion(program, "states", { text }).fault;
+  for (const [text, words, mended] of MENDED_TEXTS) {
+    const { words: found, change } = page.faults.explainFault(findFault(text), text);
+    const made = change && text.slice(0, change.begin) + change.text + text.slice(change.end);
+    tally.compare(`the text that is made of ${JSON.stringify(text)}`, [true, mended], [found.includes(words), made]);
+  }
+  for (const [text, place] of LONG_PLACES.flatMap((it) => [...it.matchAll(/@/g)].map(({ index }) => [it, index]))) {
+    for (const long of LONG) {
+      const asked = (text.slice(0, place) + long + text.slice(place)).replaceAll("@", "");
+      const fault = findFault(asked);
+      if (!fault) continue;
+      const begin = performance.now();
+      page.faults.explainFault(fault, asked);
+      page.faults.explainMissingRowEnd(fault, asked);
+      const time = performance.now() - begin;
+      tally.compare(`a hint takes no long time: ${JSON.stringify([text.slice(place - 9, place + 9), long.slice(0, 9)])}`, true, time < SLOWEST || time);
+    }
+  }
+}
+
+// Rows of a test, and what buttons make of its parts that are missing or written in another way.
+const ROWS = " P0 | P1 ;\n MOV [x],$1 | MOV [y],$1 ;\n MOV EAX,[y] | MOV EAX,[x] ;\n";
+const ASKED = "exists (0:EAX=0 /\\ 1:EAX=0)\n";
+const MENDED_TEXTS = [
+  [`X86 A\n{}\n${ROWS}`, "The test has no question at its end. The one of the button is a guess: change it to yours.", `X86 A\n{}\n${ROWS}${ASKED}`],
+  ["SRC A\n{}\n P0 | P1 ;\n x = 1 | x = 2 ;\n", "The test has no question at its end.", "SRC A\n{}\n P0 | P1 ;\n x := 1 | x := 2 ;\nlocations [x;]\nexists (true)\n"],
+  [`X86 A\n{}\n${ROWS}(0:EAX=0 /\\ 1:EAX=0)\n`, "A question begins with `exists`, `~exists` or `forall`. Did you mean `exists`?", `X86 A\n{}\n${ROWS}${ASKED}`],
+  [`X86 A\n{}\n${ROWS}EXISTS (0:EAX=0, 1:EAX=0)\n`, "The button changes `EXISTS` to `exists` and `,` to `/\\`.", `X86 A\n{}\n${ROWS}${ASKED}`],
+  [`X86 A\n{}\n${ROWS}locations [x, y]\n0:eax=0 and P1:eax=0\n`, "The list of locations has a `;` after each.", `X86 A\n{}\n${ROWS}locations [x; y]\nexists 0:eax=0 /\\ 1:eax=0\n`],
+  [`X86 A\n{}\n${ROWS}${ASKED.trim()};\n`, "The question is the end of a test.", `X86 A\n{}\n${ROWS}${ASKED}`],
+  [`X86 A\n{ x=1, y=2 }\n${ROWS}${ASKED}`, "Initial values have a `;` between them", `X86 A\n{ x=1; y=2; }\n${ROWS}${ASKED}`],
+  [`X86 A\n{ x := 1 y: 0x2 }\n${ROWS}${ASKED}`, "Initial values have a `;` between them", `X86 A\n{ x=1; y=0x2; }\n${ROWS}${ASKED}`],
+  [`X86 A\n{ x = y = 3 }\n${ROWS}${ASKED}`, "Initial values have a `;` between them", `X86 A\n{ x=3; y=3; }\n${ROWS}${ASKED}`],
+  [`X86 A\nx=1; y=2;\n${ROWS}${ASKED}`, "Initial values are in braces, each with a `;` after it.", `X86 A\n{ x=1; y=2; }\n${ROWS}${ASKED}`],
+  [`X86 Store Buffering\n{}\n${ROWS}${ASKED}`, "The name of a test is one word. Did you mean `Store-Buffering`?", `X86 Store-Buffering\n{}\n${ROWS}${ASKED}`],
+  [`X86 A\n{}\n${ROWS.replace("P0 | P1", "T0 | T1")}${ASKED}`, "The threads are `P0`, `P1` and so on.", `X86 A\n{}\n${ROWS}${ASKED}`],
+  [`X86 A\n{}\n${ROWS.replace("P0 | P1 ;", "Thread 1 | Thread 2")}exists (1:EAX=0 /\\ 2:EAX=0)\n`, "The first one has the number 0.", `X86 A\n{}\n${ROWS}${ASKED}`],
+  [`X86 A\n{}\n${ROWS}exists (0:EAX=0 \u2227 1:EAX=0)\n`, "The text has signs of print: lw's sign for `\u2227` is `/\\`.", `X86 A\n{}\n${ROWS}${ASKED}`],
+  [`\ufeffX86\u00a0A\n{}\n${ROWS}${ASKED}`, "The text has blanks or marks of a word processor.", `X86 A\n{}\n${ROWS}${ASKED}`],
+  [`\`\`\`asm\nX86 A\n{}\n${ROWS}${ASKED}\`\`\`\n`, "Lines around the test are no part of it.", `X86 A\n{}\n${ROWS}${ASKED}`],
+  [`> X86 A\n> {}\n${ROWS.replace(/^/gm, "> ").slice(0, -2)}> ${ASKED}`, "Lines around the test are no part of it.", `X86 A\n{}\n${ROWS}${ASKED}`],
+  ["X86 A\n{ x=0 y=0 }\n P0 | P1 ;\n MOVQ [x],$1 | MOV [y],$1 ;\n MOV R8D,[y] | MOV EAX,[x] ;\nexists (0:R8D=0 and 1:EAX=0)\n", "Registers are `EAX` to `EDX`",
+    `X86 A\n{ x=0; y=0; }\n${ROWS}${ASKED}`],
+  ["X86 A\n{}\n P0 ;\n XCHG [x],1 ;\nexists (x=1)\n", "lw does this by `MOV EAX,1`, then `XCHG [x],EAX`.", "X86 A\n{}\n P0 ;\n MOV EAX,1 ;\n XCHG [x],EAX ;\nexists (x=1)\n"],
+  ["SRC A\n{}\n P0 ;\n r0 := fetchadd x 2 ;\nexists (x=2)\n", "lw does this by `r1 := 2`, then `r0 := fetchadd x r1`.",
+    "SRC A\n{}\n P0 ;\n r1 := 2 ;\n r0 := fetchadd x r1 ;\nexists (x=2)\n"],
+  ["X86 A\n{}\n P0 ;\n mov [x],1\nexists x=1 & x=1\n", "This row has no `;` at its end.", "X86 A\n{}\n P0 ;\n mov [x],1 ;\nexists x=1 /\\ x=1\n"],
+  ["X86 A\n{}\n P0 ;\n MOV [y],XMM0 ;\nexists (y=1)\n", "`XMM0` is no register of lw", null],
+  ["X86 A\n{}\n P0 ;\n MOV [y],true ;\nexists (y=1)\n", "`true` is no register", null],
+  ["SRC A\n{}\n P0 ;\n lock(m) ;\nexists (m=1)\n", "A statement is `x := 1`", null],
+  ["X86 A\n{}\n P0 ;\n MOV [x],$1 ;\nfilter (x=1)\nexists (x=1)\n", "lw has no `filter`: its condition is a part of the question", null],
+];
+// Texts with the places at which something long is put in, what this is, and how many milliseconds a hint may take.
+const LONG_PLACES = [
+  "@X86@ A@\n@{@ x=0@;@ y=0 }@\n P0 @|@ P1 @;\n MOV@Q [x],@$1 @|@ MOV [y],$1@ ;@\n MOV EAX,[y]@ | MOV EAX,@[x] ;\n@locations @[x;@ y;]\n@exists@ (0@:EAX @!= @0 /\\ 1:EAX=0)@\n",
+  "SRC A\n{}\n P0 P1 ;\n x @=@ 1 | y = 1 ;\n r0@ = y | r0 :=@ x + 1\nexists @(0:r0=0 @&&@ 1:r0=0)\n",
+  "@foo:@\n@  mov@ DWORD PTR x[@rip], 1@\n  mov eax, DWORD PTR y[rip]\n@  ret\nbar():\n  movl @$1, y(%rip)\n  ret\n@",
+];
+const LONG = [" ".repeat(40000), "a".repeat(40000), "\n".repeat(40000), ";".repeat(40000), "mov eax, 1\n".repeat(4000), "| ".repeat(20000)];
+const SLOWEST = 2000;
+
 /** Returns the indices of the first fault of a text and of its further faults, as the page names them, and the text that it proposes, or null. */
 async function findAllFaults(page, program, text) {
   const findFault = async (asked) => page.questions.answerQuestion(program, "compile", { text: asked }).fault ?? null;
@@ -1090,6 +1153,7 @@ async function main() {
   compareFenceEdits(page, tally, texts);
   compareSlips(page, tally);
   compareHints(page, program, tally);
+  compareMendedTexts(page, program, tally);
   compareSourceHints(page, program, tally);
   await compareCPrograms((...compared) => tally.compare(...compared));
   await compareFurtherFaults(page, program, tally, texts);

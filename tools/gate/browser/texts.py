@@ -510,12 +510,15 @@ class Faults(PageCase):
         text = "X86 A\n{}\n P0 | P1 ;\n MOV [x],EBX | MOV EAX,[x] ;\nexists (1:EAX=0)\n"
         for rows, words in (
             (text.replace("EBX", "$1").replace("MOV EAX", "MOV RAX"), "Registers are EAX to EDX, ESI and EDI, of 32 bits. Did you mean MOV EAX,[x]?"),
-            (text.replace("MOV EAX", "MOV RAX"), "Some instructions access 32 bits and some 64: all words and registers of lw have 32. Did you mean EAX?"),
+            (text.replace("MOV EAX", "MOV RAX"), "Registers are EAX to EDX, ESI and EDI, of 32 bits. Did you mean MOV EAX,[x]?"),
         ):
             user.run_text(rows)
             self.assertSays(words, "#fault")
             user.click("#fault .apply")
             self.assertSoon(rows.replace("RAX", "EAX"), user.value)
+        user.run_text(text.replace("MOV EAX", "MOVL RAX"))
+        self.assertSays("An instruction has operands of 32 bits or of 64: all words and registers of lw have 32.", "#fault")
+        self.assertEqual([], user.all("#fault .apply"))
 
     def test_no_test(self) -> None:
         """An empty text has a button that puts a small test into it; a test in C is named; and a changed text says which keys list its states."""
