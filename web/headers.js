@@ -37,10 +37,12 @@ export function explainThreadNames(place) {
   const isRight = names?.split("|").every((it, thread) => it.trim() === `P${thread}`);
   if (isRight || index < begin || index > end || first > 1 || numbers.some((it, at) => Number(it) !== first + at)) return "";
   const header = numbers.map((_, thread) => `P${thread}`).join(" | ") + (row.includes(";") ? "" : " ;");
-  place.proposeChange(header, begin + blanks.length, begin + blanks.length + names.length);
-  if (first) proposeNumbers(place, end);
+  const asked = place.propose(header, begin + blanks.length, begin + blanks.length + names.length);
+  const words = "The threads are `P0`, `P1` and so on.";
+  if (!first) return words + asked;
+  proposeNumbers(place, end);
   place.change.title = `Change them to ${header}`;
-  return `The threads are \`P0\`, \`P1\` and so on.${first ? " The first one has the number 0." : ""}`;
+  return `${words} The first one has the number 0.`;
 }
 
 /** Extends the proposed change of the threads' names, before an index: the numbers of threads in the question are less by 1. */
