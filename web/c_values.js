@@ -31,6 +31,8 @@ export const OF_LOADS = ": load each shared variable into one of the thread firs
 export const OF_REGISTERS = ", which needs more than six registers";
 /** Why a step of a thread's own variable is refused in a value, as the end of a sentence. */
 export const OF_STEPS = ": write `++` and `--` of a thread's own variable in a statement of its own";
+// Why such a step of a variable that is not atomic is refused.
+const OF_PLAIN_STEPS = ": write `++` and `--` of a variable that is not atomic in a statement of its own";
 /** Why a difference is refused, as the end of a sentence. */
 export const OF_SUBTRACTION = ": the x86 format subtracts constants only";
 /** Why a value of a `bool` is refused, as the end of a sentence. */
@@ -187,21 +189,27 @@ export class ValueWriter {
   /** Returns the operation of a value: a load by the name of a variable, a step, or a call. */
   parseOperation(value) {
     const step = parseStep(value);
-    if (step) return this.makeOperation(step.place, step.sign, "1");
+    if (step) {
+      const operation = this.makeOperation(step.place, step.sign, "1");
+      return operation.kind === "store" ? this.refuseStatement(OF_PLAIN_STEPS) : operation;
+    }
     return PLACE.test(value) ? this.makeOperation(value) : this.parseCall(value);
   }
 
   // Operations.
 
   /**
-   * Returns the operation of an operator: an addition if there is a sign, a store if there is only a value, and otherwise a load. Throws NoTest if
-   * the variable is not shared, and at an addition to one that is not atomic, of which compilers make different code.
+   * Returns the operation of an operator: an addition if there is a sign, a store if there is only a value, and otherwise a load. An addition to a
+   * variable that is not atomic is a store of a sum. Throws NoTest if the variable is not shared, and at a step of one that is not atomic in a value,
+   * which compilers store at different places.
    */
   makeOperation(place, sign = "", value = "") {
     const name = place.replace("*", "");
     const { order } = this.findShared(name, place !== name);
-    if (sign && order !== "seq_cst") this.refuseStatement(OF_ORDER);
-    return { kind: STEP_KINDS[sign] ?? (value ? "store" : "load"), order, name, isPointer: place !== name, value };
+    const common = { order, name, isPointer: place !== name };
+    if (!sign || order === "seq_cst") return { kind: STEP_KINDS[sign] ?? (value ? "store" : "load"), ...common, value };
+    if (sign === "-" && parseConstant(value) === null) this.refuseStatement(OF_SUBTRACTION);
+    return { kind: "store", ...common, value: `${place}${sign}@${value}` };
   }
 
   /** Returns the declaration of a shared variable, which code uses as a pointer or not. Throws NoTest if it is none of these. */

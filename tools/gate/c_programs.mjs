@@ -72,6 +72,10 @@ const STATEMENTS = [
     "MOV EAX,$4294967295; LOCK XADD [x],EAX", "(*x)++; ++*x; *x += 3; *x -= 1; (*x)--;"],
   ["int r0 = x++;", "MOV EAX,$1; LOCK XADD [x],EAX", "int r0 = (*x)++;"],
   ["int r0 = 3; x.fetch_add(r0);", "MOV EAX,$3; MOV EBX,EAX; LOCK XADD [x],EBX", "int r0 = 3; x->fetch_add(r0);"],
+  ["v++; --v;", "MOV EAX,[v]; ADD EAX,$1; MOV [v],EAX; MOV EAX,[v]; ADD EAX,$4294967295; MOV [v],EAX", "(*v)++; --*v;"],
+  ["int r0 = x; q += 2; q -= 3; q += r0;",
+    "MOV EAX,[x]; MOV EBX,[q]; ADD EBX,$2; MOV [q],EBX; MOV EBX,[q]; ADD EBX,$4294967293; MOV [q],EBX; MOV EBX,[q]; ADD EBX,EAX; MOV [q],EBX",
+    "int r0 = *x; *q += 2; *q -= 3; *q += r0;"],
   ["x.fetch_add(0);", "MOV EAX,$0; LOCK XADD [x],EAX", "x->fetch_add(0);"],
   ["xchg(&x, 2);", "MOV EAX,$2; XCHG [x],EAX", "xchg(x, 2);"],
   ["int r0 = xchg(&v, 2);", "MOV EAX,$2; XCHG [v],EAX", "int r0 = xchg(v, 2);"],
@@ -249,6 +253,7 @@ const OF_NAMES = ": all functions are threads, `P0`, `P1` and so on, in this ord
 const UNSET = ", of which the question asks: nothing sets it";
 const OF_CONDITIONS = ": a condition compares by `==` or `!=`, and has `&&` at most";
 const OF_STEPS = ": write `++` and `--` of a thread's own variable in a statement of its own";
+const OF_PLAIN_STEPS = ": write `++` and `--` of a variable that is not atomic in a statement of its own";
 const OF_LOADS = ": load each shared variable into one of the thread first, since compilers choose which is first";
 const OF_PATHS = ", of which the question asks: declare it outside of blocks, with a value, as `int r0 = 0`";
 const OF_CAS = ": the x86 format has no compare-and-swap. `tools/from_c.py` follows it";
@@ -322,9 +327,10 @@ const REFUSED = [
   ["x = 1;", "x.fetch_add(0, std::memory_order_acquire);", `\`x.fetch_add(0, std::memory_order_acquire..\`${OF_ORDER}`],
   ["x = 1;", "atomic_thread_fence(seq_cst);", `\`atomic_thread_fence(seq_cst)\`${OF_FENCES}`],
   ["x = 1;", "asm volatile(\"sfence\" ::: \"memory\");", `\`asm volatile("sfence" ::: "memory")\`${OF_FENCES}`],
-  ["x = 1;", "d++;", `\`d++\`${OF_ORDER}`, "y = 1;", "d = 2;"],
-  ["int d;", "volatile int d;", `\`d++\`${OF_ORDER}`, "x = 1;", "d++;"],
-  ["int d;", "volatile int d;", `\`int r0 = d++\`${OF_ORDER}`, "int r0 = y;", "int r0 = d++;"],
+  ["x = 1;", "d -= y;", `\`d -= y\`${OF_SUBTRACTION}`, "y = 1;", "d = 2;"],
+  ["x = 1;", "d += y;", `\`d += y\`${OF_LOADS}`, "y = 1;", "d = 2;"],
+  ["x = 1;", "x = d++;", `\`x = d++\`${OF_PLAIN_STEPS}`, "y = 1;", "d = 2;"],
+  ["int d;", "volatile int d;", `\`int r0 = d++\`${OF_PLAIN_STEPS}`, "int r0 = y;", "int r0 = d++;"],
   ["void P0(void) { x = 1; int r0 = y; }", "void P0(void) { x = 1; int a = y, b = y, c = y, e = y, f = y, g = y, h = y; }", `\`P0\`${OF_REGISTERS}`],
   ["void P0(void) { x = 1; int r0 = y; }", "void P0(void) { int a = y, b = y, c = y, e = y, f = y, g = y; x = 1; }", `\`P0\`${OF_REGISTERS}`],
   ["// lw", "void other(void) { x = 2; }\n// lw", `\`other\`${OF_NAMES}`],
