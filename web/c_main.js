@@ -14,7 +14,7 @@ import { OUTPUT, removeStrings, splitOutside, StatementReader } from "./c_statem
 const LAMBDA = /(?<![\w\])])\[([^\][]*)\]\s*(?:\(\s*(?:void\s*)?\)\s*)?(?:mutable\b\s*|->\s*void\b\s*)*\{/;
 const CAPTURES = /^(?:&\w*(?:,&\w+)*)?$/;
 // The patterns that follow are of squeezed code. What changes nothing that threads share, as output does, unless it has an effect.
-const HARMLESS = /^(?:(?:static_assert|\w*sleep\w*|this_thread::\w+|exit|abort|pthread_exit)\(|return\b|\(void\)\w+$|\w+\.(?:reserve|request_stop)\(|$)/;
+const HARMLESS = /^(?:(?:(?:pthread_(?:mutex|spin)|mtx)_(?:init|destroy)|static_assert|\w*sleep\w*|this_thread::\w+|exit|abort|pthread_exit)\(|return\b|\(void\)\w+$|\w+\.(?:reserve|request_stop)\(|$)/;
 const ENDING = /^(?:return\b|exit\(|abort\()/;
 const EFFECT = /(?<![=!<>])=(?!=)|\+\+|--|exchange|store|fetch_|lambda/;
 // A loop that joins all threads of an array: the groups are this array, or the index and its end; and again the array.

@@ -9,6 +9,7 @@ import { formatAssertion, formatFormula, limitQuestion } from "./c_question.js";
 import { checkThreads, readProgram, refusePart } from "./c_reader.js";
 import { RESULT, ThreadWriter } from "./c_thread.js";
 import { readTest } from "./tests.js";
+import { WORD } from "./token_reader.js";
 
 // Why a variable in a question is refused, and the result of a thread.
 const OF_NOTHING = "nothing sets it";
@@ -17,6 +18,7 @@ const OF_PATHS = "declare it outside of blocks, with a value, as `int r0 = 0`";
 const OF_ASKED = ": the program asks something else, so leave this out";
 const OF_ENDLESS = ": a loop that waits need not end before this, so assert it at the end of `main`";
 const OF_QUESTION = ": a question is `exists (..)`, `~exists (..)` or `forall (..)`";
+const OF_PAIRS = ": a loop that exchanges needs a variable that is only set to the constant that it writes, and to the one at which it ends";
 // A name in a question: the groups are the number of a thread before it, and the name. And those that are words of the question itself.
 const NAME = /(?<!\w)(?:P?(\d)\s*:\s*)?([A-Za-z_]\w*)/g;
 const WORD_OF_QUESTION = /^(?:exists|forall|locations|not|true|false)$/;
@@ -28,9 +30,15 @@ function listRaces(accesses) {
   return [...new Set(races.map((it) => it.name))];
 }
 
-/** Returns the atoms that hold in a state if all loops that wait have ended. */
-function listEnds(writers) {
-  return writers.flatMap((writer) => writer.waits.map(({ variable, word, isEqual }) => ({ name: writer.makeSite(variable), word, isEqual: !isEqual })));
+/**
+ * Throws NoTest for a loop that exchanges, if its variable may have another word than that which it writes and that at which it ends. Otherwise an
+ * exchange that fails changes nothing.
+ */
+function checkPairs({ words }, writers, accesses) {
+  for (const { statement, name, words: pair } of writers.flatMap((it) => it.pairs)) {
+    const written = accesses.filter((it) => it.isWrite && it.name === name).map((it) => it.word);
+    if ([words.get(name), ...written].some((it) => !pair.includes(it))) refusePart(statement, OF_PAIRS);
+  }
 }
 
 /** Returns the first part of another one that is a name. */
@@ -84,7 +92,7 @@ function formatRows(writers) {
  */
 function listWritten(accesses, question) {
   const isListed = (name) => {
-    const all = accesses.filter((it) => it.name === name);
+    const all = accesses.filter((it) => it.name === name && !it.isMutex);
     const writers = new Set(all.filter((it) => it.isWrite).map((it) => it.thread));
     return writers.size > 1 || (writers.size === 1 && !all.some((it) => it.isRead));
   };
@@ -92,10 +100,26 @@ function listWritten(accesses, question) {
 }
 
 /**
- * Returns a question for a test that has none: whether all variables that threads loaded last can be 0, if these loads are reached. It is `true` if no
- * thread loads.
+ * Returns the formulas of lost additions: of each location that several threads only add constants to, some of them by a load and a store, and that has
+ * another word than their sum.
  */
-function guessQuestion(writers) {
+function listLostAdditions({ words }, accesses) {
+  return [...new Set(accesses.filter((it) => it.added !== null).map((it) => it.name))].flatMap((name) => {
+    const writes = accesses.filter((it) => it.isWrite && it.name === name);
+    const isOfThreads = new Set(writes.map((it) => it.thread)).size > 1 && writes.some((it) => !it.isLocked);
+    if (!isOfThreads || !writes.every((it) => it.isSure && it.added !== null)) return [];
+    const word = writes.reduce((all, it) => (all + it.added) % WORD, words.get(name));
+    return [{ name, word, isEqual: false }];
+  });
+}
+
+/**
+ * Returns a question for a test that has none: whether an addition can be lost, if a load and a store make one; and otherwise whether all variables
+ * that threads loaded last can be 0, if these loads are reached. It is `true` if no thread loads.
+ */
+function guessQuestion(program, writers, accesses) {
+  const lost = listLostAdditions(program, accesses);
+  if (lost.length) return `exists (${formatFormula({ sign: "\\/", parts: lost })})`;
   const asked = writers.filter(isAskedOf).flatMap((writer) => {
     const branches = writer.loadedBranches.flatMap((it) => it.comparisons);
     const atoms = [...branches, { variable: writer.loaded, word: 0, isEqual: true }];
@@ -146,20 +170,21 @@ function writeTest(text) {
   const sites = writers.flatMap((writer) => writer.registers.map((variable) => ({ site: writer.makeSite(variable), variable })));
   const comment = sites.length ? `(* ${sites.map(({ site, variable }) => `${site} is ${variable}`).join(", ")} *)\n` : "";
   const block = [...program.words].filter(([name]) => used.has(name)).map(([name, word]) => `${name}=${word}; `).join("");
-  const ends = listEnds(writers);
-  const whole = asked || guessQuestion(writers);
+  checkPairs(program, writers, accesses);
+  const ends = writers.flatMap((it) => it.waits);
+  const whole = asked || guessQuestion(program, writers, accesses);
   const question = ends.length ? limitQuestion(whole, ends) ?? refusePart(program.question, OF_QUESTION) : whole;
   const list = formatList(question, !asked, accesses, sites.map((it) => it.site));
   const made = alignCells(`X86 ${program.name}\n${comment}{ ${block}}\n${formatRows(writers)}${list}${question}\n`);
-  return { made, isGuess: !asked, races: listRaces(accesses), isWaiting: ends.length > 0 };
+  return { made, isGuess: !asked, races: listRaces(accesses), isWaiting: writers.some((it) => it.isWaiting), isLocking: accesses.some((it) => it.isMutex) };
 }
 
 /**
  * Returns the x86 test of a program in C or C++, or of a test of herd in C, and whether its question is a guess, since the program asks nothing; the
- * names of plain variables on which threads race; and whether a load is in place of a loop that waits. Or returns why it is not rewritten: a part of it,
- * with its index, and the end of a sentence; or without an index why lw refuses the test.
+ * names of plain variables on which threads race; whether one pass is in place of a loop that waits; and whether a location is in place of a mutex. Or
+ * returns why it is not rewritten: a part of it, with its index, and the end of a sentence; or without an index why lw refuses the test.
  * @param {string} text
- * @returns {{made?: string, isGuess?: boolean, races?: string[], isWaiting?: boolean, why?: string, index?: number}}
+ * @returns {{made?: string, isGuess?: boolean, races?: string[], isWaiting?: boolean, isLocking?: boolean, why?: string, index?: number}}
  */
 export function rewriteProgram(text) {
   try {

@@ -63,13 +63,13 @@ export function negateFormula(formula) {
 }
 
 /**
- * Returns a formula with other names of its variables, which a function returns, from the first to the last.
+ * Returns a formula with other atoms, which a function returns, from the first to the last.
  * @param {Formula} formula
- * @param {function(Formula): string} rename
+ * @param {function(Formula): Formula} change
  * @returns {Formula}
  */
-export function renameVariables(formula, rename) {
-  return formula.sign ? { ...formula, parts: formula.parts.map((it) => renameVariables(it, rename)) } : { ...formula, name: rename(formula) };
+export function mapAtoms(formula, change) {
+  return formula.sign ? { ...formula, parts: formula.parts.map((it) => mapAtoms(it, change)) } : change(formula);
 }
 
 /**
@@ -109,17 +109,17 @@ function isBalanced(code) {
 }
 
 /**
- * Returns a question of lw that asks the same as another one, but only of the states in which some formulas hold, which are atoms. Null if the other
- * one is no question.
+ * Returns a question of lw that asks the same as another one, but only of the states in which some formulas hold. Null if the other one is no question.
  * @param {string} question
- * @param {Formula[]} atoms
+ * @param {Formula[]} formulas
  * @returns {string | null}
  */
-export function limitQuestion(question, atoms) {
+export function limitQuestion(question, formulas) {
   const [, list, quantifier, code] = QUESTION.exec(question) ?? [];
   const proposition = removeOuterParentheses((code ?? "").trim());
   if (!proposition || !isBalanced(proposition)) return null;
-  if (quantifier === "forall") return `${list}forall (${[...atoms.map(negateFormula).map(formatFormula), proposition].join(" \\/ ")})`;
+  const all = { sign: "/\\", parts: formulas };
+  if (quantifier === "forall") return `${list}forall (${formatFormula(negateFormula(all))} \\/ ${proposition})`;
   const others = proposition === "true" ? [] : [proposition.includes("\\/") ? `(${proposition})` : proposition];
-  return `${list}${quantifier} (${[...atoms.map(formatFormula), ...others].join(" /\\ ")})`;
+  return `${list}${quantifier} (${[formatFormula(all), ...others].join(" /\\ ")})`;
 }

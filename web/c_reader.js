@@ -10,7 +10,8 @@
 // or not.
 // A member of a structure is a variable, and the name of its object is in its own, as `s_x` for `s.x`.
 // A `Declaration` has the `name` of a variable, and the code of its initial `value`, if it has one. It `isPointer`, or not; if it `isBool`, it holds
-// 0 and 1 only. The `order` is that of the operators on it: seq_cst if it is atomic, relaxed if it is volatile, and otherwise plain.
+// 0 and 1 only. The `element` is the code of a word of an array, as `a[0]`. The `order` is that of the operators on it: seq_cst if it is atomic, relaxed if it is volatile,
+// mutex if it is one, and otherwise plain.
 
 import { WORD } from "./token_reader.js";
 import { blankComments, NoTest } from "./tokens.js";
@@ -53,19 +54,25 @@ const SPACE = /^(?:(?:inline\s+)?namespace(?:\s+[\w:]+)?|extern\s+"C")\s*\{/;
 const STRUCTURE = /^(typedef\s+)?(?:static\s+)?struct(?:\s+(\w+))?\s*\{/;
 const OBJECTS = /^\s*([\w\s,]{0,200});/;
 const DECLARED_OBJECTS = /^(?:static\s+)?(?:struct\s+)?(\w+)\s+(\w[\w\s,]{0,200})(?:\{\s*\}|=\s*\{\s*0?\s*\})?\s*;/;
-// What may be a name with a value: a name, or one of a member, of which the groups are both names.
-const NAME_OF_VALUE = /\b([A-Za-z_]\w*)(?:\s{0,9}\.\s{0,9}([A-Za-z_]\w*))?/g;
+// What may be a name with a value: a name, or one of a member, of which the groups are both names, or a name and an index.
+const NAME_OF_VALUE = /\b([A-Za-z_]\w*)(?:\s{0,9}\.\s{0,9}([A-Za-z_]\w*)|\s{0,9}\[\s{0,9}(\w+)\s{0,9}\])?/g;
+// What the methods of an `atomic_flag` do: the kind of the access, and the word that it writes.
+const FLAG_CALLS = { test_and_set: ["exchange", "1"], clear: ["store", "0"], test: ["load", ""] };
 const CLOSING = { "(": ")", "{": "}", "[": "]" };
 // What is outside of functions, to its end.
 const STATEMENT = /^[^;]*;/;
 const QUESTION = /^(?:~|exists|forall|locations)/;
 // A declaration in squeezed code: the groups are its type, a `*`, and its variables.
 const DECLARATION =
-  /^((?:(?:static|extern|inline|const|volatile|auto|(?:un)?signed|int|u?int32_t|_?[Bb]ool|_Atomic|atomic(?:_u?int|_bool)?)\b ?|[<>()])+)(\*?)([A-Za-z_].*)$/;
+  /^((?:(?:static|extern|inline|const|volatile|auto|(?:un)?signed|int|u?int32_t|_?[Bb]ool|_Atomic|atomic(?:_u?int|_bool|_flag)?)\b ?|[<>()])+)(\*?)([A-Za-z_].*)$/;
 // A variable in a declaration: the groups are its name, and its initial value after `=`, or in braces or parentheses.
-const DECLARATOR = /^(\w+)(?:=(?!\{)(.+)|=?[{(](.*)[})])?$/;
-// A comma between two variables, which is in no parentheses.
-const SEPARATOR = /,(?![^(]*\))/;
+const DECLARATOR = /^(\w+(?:\[\d\](?==))?)(?:=(?!\{)(.+)|=?[{(](.*)[})])?$/;
+// A declaration of mutexes in squeezed code: the group is their names. And an array in a declaration: the groups are its name, the number of its
+// words, and their initial values.
+const MUTEXES = /^(?:(?:static|extern|inline|mutable) )*(?:mutex|pthread_mutex_t|mtx_t|pthread_spinlock_t) (\w+(?:,\w+)*)(?:=PTHREAD_MUTEX_INITIALIZER|\{\})?$/;
+const ARRAY = /^(\w+)\[([1-9])\](?:=?\{(.*)\})?$/;
+// A comma between two variables, which is in no parentheses and braces.
+const SEPARATOR = /,(?![^({]*[)}])/;
 // A constant of C that is in base 10 or 16. (One in base 8 is none here.)
 const CONSTANT_OF_C = /^(-?[1-9]\d*|0|0x[\da-f]+)u?$/i;
 // A part that is long: the group is what is shown of it.
@@ -76,6 +83,7 @@ const OF_ENTRIES = ": initial values are entries as `x=1;`";
 const OF_GLOBALS = ": outside of threads are only declarations of 32-bit integers and `bool`, as `atomic_int x = 1;`";
 const OF_PARAMETERS = ": a parameter is a pointer to 32 bits, as `atomic_int *x`";
 const OF_VALUES = ": an initial value is one constant, as in `x = 1` or `x{1}`, and of a `bool` 0 or 1";
+const OF_LONE = ": give it a name that no other variable has";
 const OF_THREADS = ": a thread is a function without parameters, or with an unused `void *`";
 const OF_END = ": after the threads is the question, as `exists (0:r0=0)`";
 
@@ -127,15 +135,23 @@ function blank(text) {
  */
 export function squeezeCode(code) {
   const short = code.replace(/([+-])\s+(?=[+-]|=(?!=))|([=!])\s+(?==)/g, "$&@").replace(/\s+/g, " ").replace(/ ?([^\w ]) ?/g, "$1").trim();
-  const words = short.replace(/\bstd::/g, "").replace(/\bmemory_order::/g, "memory_order_");
+  const words = short.replace(/\bstd::/g, "").replace(/\bmemory_order::/g, "memory_order_").replace(/\bATOMIC_FLAG_INIT\b/g, "0");
   if (!words.includes("(")) return words;
   return words
     .replace(/\batomic_ref(?:<[\w ]{0,40}>)?[({](\w+)[)}](?=\.)/g, "$1")
     .replace(/\bATOMIC_VAR_INIT\((\w+)\)/g, "$1")
     .replace(/\b(\w+)(\.|->)(load|store|exchange|fetch_\w+)\(/g, (_, name, sign, method) => `atomic_${method}(${sign === "." ? "&" : ""}${name},`)
+    .replace(/\b(\w+)(\.|->)(test_and_set|clear|test)\((\)?)/g, (_, name, sign, method, close) => convertFlag(method, "", (sign === "." ? "&" : "") + name, close))
+    .replace(/\batomic_flag_(test_and_set|clear|test)(_explicit)?\((&?\w+)([,)])/g, (_, method, explicit, name, mark) => convertFlag(method, explicit, name, mark))
     .replace(/\b(READ|WRITE)_ONCE\((\*?)/g, (_, macro, star) => `atomic_${macro === "READ" ? "load" : "store"}_relaxed(${star ? "" : "&"}`)
     .replace(/\bsmp_(load_acquire|store_release)\(/g, "atomic_$1(")
     .replace(/\bxchg\(/g, "atomic_exchange(");
+}
+
+/** Returns the begin of a call that does to a flag what one of its methods does, up to the mark after the flag. */
+function convertFlag(method, explicit = "", name, mark) {
+  const [kind, word] = FLAG_CALLS[method];
+  return `atomic_${kind}${explicit}(${name}${word && `,${word}`}${mark || ","}`;
 }
 
 /**
@@ -146,7 +162,8 @@ export function squeezeCode(code) {
  */
 export function replaceNames(code, names) {
   if (!names.size) return code;
-  return code.replace(NAME_OF_VALUE, (whole, name, member) => {
+  return code.replace(NAME_OF_VALUE, (whole, name, member, index) => {
+    if (index) return names.get(`${name}[${names.get(index) ?? index}]`) ?? `${names.get(name) ?? name}[${names.get(index) ?? index}]`;
     const field = names.get(`${name}.${member}`);
     if (field ?? !member) return field ?? names.get(name) ?? name;
     return `${names.get(`${name}.`) ?? names.get(name) ?? name}.${names.get(member) ?? member}`;
@@ -198,12 +215,29 @@ export function parseConstant(code) {
  * @returns {Declaration[]}
  */
 export function parseDeclaration(code) {
+  const [, mutexes] = MUTEXES.exec(code) ?? [];
+  if (mutexes) return mutexes.split(",").map((name) => ({ name, value: undefined, isPointer: false, isBool: true, order: "mutex" }));
   const [, type, star, variables = ""] = DECLARATION.exec(code) ?? [];
-  const declarators = variables.split(SEPARATOR).map((it) => DECLARATOR.exec(it));
+  const list = variables.includes("[") ? listElements(variables) : variables.split(SEPARATOR);
+  const declarators = list.map((it) => DECLARATOR.exec(it));
   if (!declarators.every(Boolean)) return [];
   const order = /atomic/i.test(type) ? "seq_cst" : type.includes("volatile") ? "relaxed" : "plain";
-  const isBool = /bool/i.test(type);
-  return declarators.map(([, name, value, inner]) => ({ name, value: value ?? inner, isPointer: star !== "", isBool, order }));
+  const isBool = /bool|_flag/i.test(type);
+  return declarators.map(([, place, value, inner]) => {
+    const [name, element] = place.endsWith("]") ? [place.replace("[", "_").slice(0, -1), place] : [place];
+    return { name, element, value: value ?? inner, isPointer: star !== "", isBool, order };
+  });
+}
+
+/** Returns the declarators of squeezed code, in which each word of an array has one, as `a[0]=1`. */
+function listElements(variables) {
+  const flat = variables.replace(/\{\{/g, "{").replace(/\}\}/g, "}").replace(/\},\{/g, ",");
+  return flat.split(SEPARATOR).flatMap((it) => {
+    const [, name, count, values = ""] = ARRAY.exec(it) ?? [];
+    const words = values.split(",");
+    if (!name || words.length > Number(count)) return [it];
+    return Array.from({ length: Number(count) }, (_, index) => `${name}[${index}]=${words[index] || "0"}`);
+  });
 }
 
 /** Reads a program from its begin to its end. `rest` is what is not read yet, in which comments are blank. */
@@ -311,11 +345,11 @@ class ProgramReader {
   addObject(object, code, shown) {
     for (const declaration of code.split(";").filter((it) => it.trim())) {
       const declared = parseDeclaration(squeezeCode(replaceNames(declaration, this.names)));
-      if (!declared.length || declared[0].isPointer) refusePart(shown, OF_GLOBALS);
+      if (!declared.length || declared.some((it) => it.isPointer || it.element)) refusePart(shown, OF_GLOBALS);
       for (const { name, value, ...others } of declared) {
         const [joined, word] = [`${object}_${name}`, value ? parseConstant(value) : 0];
         if (word === null || (others.isBool && word > 1)) refusePart(shown, OF_VALUES);
-        if (this.globals.has(joined)) refusePart(shown, ": give it a name that no other variable has");
+        if (this.globals.has(joined)) refusePart(shown, OF_LONE);
         this.words.set(joined, word);
         this.globals.set(joined, { name: joined, value, ...others });
         this.names.set(`${object}.${name}`, joined);
@@ -392,9 +426,11 @@ export function declareVariables({ words, names, isHerd }, variables, code, show
   const declared = parseDeclaration(squeezeCode(replaceNames(code, names)));
   if (!declared.length || declared[0].isPointer !== isHerd) refusePart(shown, why);
   for (const variable of declared) {
-    const { name, value, isBool } = variable;
+    const { name, element, value, isBool } = variable;
     const word = value ? parseConstant(value) : words.get(name) ?? 0;
     if (word === null || (isBool && word > 1)) refusePart(shown, OF_VALUES);
+    if (variables.has(name) && (element || variables.get(name).element)) refusePart(shown, OF_LONE);
+    if (element) names.set(element, name);
     words.set(name, word);
     variables.set(name, variable);
   }

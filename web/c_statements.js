@@ -3,7 +3,7 @@
 //
 // A `Statement` is a `Part` of a program. That of an `if` has its `condition`, and the statements of its branches, `then` and `otherwise`; one in
 // braces has the statements of its `block`. A loop that only waits has its `condition`, the code of what it `assigns`, or "",
-// and the names of functions that it `calls`.
+// the names of functions that it `calls`, and the conditions of loops `inner` to it.
 
 import { findClosing, parseConstant, refusePart, squeezeCode } from "./c_reader.js";
 
@@ -16,7 +16,12 @@ const LOOP = /^(?:else|while|for|do|switch)\b/;
 const SWITCH = /^switch\b/;
 const HEAD = /^\w+\s*(?=\()/;
 // The body of a loop that only waits, in squeezed code: the group is what it assigns.
-const WAITING = /^\{?(?:;|(\w+=[^;{}]+);)?(?:(?:this_thread::)?\w{0,40}(?:pause|relax|yield|sleep)\w{0,40}\((?:[^();]|\([^();]*\))*\);)*\}?$/;
+const PAUSE = "(?:this_thread::)?\\w{0,40}(?:pause|relax|yield|sleep)\\w{0,40}\\((?:[^();]|\\([^();]*\\))*\\);";
+const PAUSES = new RegExp(`^\\{?(?:${PAUSE})*`);
+const WAITING = new RegExp(`^\\{?(?:;|(\\w+=[^;{}]+);)?(?:${PAUSE})*\\}?$`);
+// The begin of a loop without a condition, up to the parenthesis of its first `if`; and what leaves it.
+const ENDLESS = /^(?:while\s*\(\s*(?:true|1)\s*\)|for\s*\(\s*;\s*;\s*\))\s*\{\s*if\s*\(/;
+const BREAK = /^\s*(?:break\s*;|\{\s*break\s*;\s*\})/;
 const DO = /^do\b/;
 const WHILE = /^\s*while\s*(?=\()/;
 /** Why a loop is refused, as the end of a sentence. */
@@ -33,12 +38,13 @@ export const OF_FUNCTIONS = ": write what the function does in its place";
 const REASONS = [
   [/^(?:__)?asm(?:__)?\b|thread_fence/, ": a fence is `atomic_thread_fence(memory_order_seq_cst)`"],
   [/compare_exchange|cmpxchg/, ": the x86 format has no compare-and-swap. `tools/from_c.py` follows it"],
-  [/fetch_(?:or|and|xor)|test_and_set/, ": of locked instructions the x86 format has only exchange and addition"],
+  [/fetch_(?:or|and|xor)/, ": of locked instructions the x86 format has only exchange and addition"],
   [/\blw_see\b/, ": the question names the variable itself, as `0:r0`"],
   [/\?/, ": write an `if`"],
   [COMPARISON, ": compare in the condition of an `if`"],
   [/^(?:const )?(?:char|short|long|float|double|s?size_t|u?int(?:8|16|64)_t)\b/, ": a variable has 32 bits, as `int r0`"],
-  [/^\w+ ?\*|&(?=\w+$)|\w\[/, ": threads have no pointers and arrays of their own"],
+  [/\w\[/, ": an array is shared, and its indices are constants in it, as `a[0]`"],
+  [/^\w+ ?\*|&(?=\w+$)/, ": threads have no pointers of their own"],
   [/^\w+:|^goto\b/, ": `goto` and labels are not rewritten"],
   [/[\w)][*\/%&|^]|~|<<|>>/, ": the x86 format has sums only"],
   [/^\w+\([^]*\)$|[=(,]\w+\(/, OF_FUNCTIONS],
@@ -151,7 +157,7 @@ export class StatementReader {
 
   /** Returns the loop here, if it only waits. Throws NoTest at another one, at a `switch`, and at an `else`. */
   readLoop() {
-    const loop = this.readWaiting();
+    const loop = this.readWaiting() ?? this.readEndless();
     if (loop) return loop;
     const { rest } = this;
     const head = HEAD.exec(rest)?.[0].length;
@@ -170,18 +176,49 @@ export class StatementReader {
     const close = head ? findClosing(rest, begin + head) : -1;
     if (close < 0) return null;
     const { code, end } = isDo ? { ...body, end: close + 1 } : findBody(rest, close + 1);
-    const [found, assigns = ""] = WAITING.exec(squeezeCode(code)) ?? [];
+    const inner = isDo ? null : this.readInner(code);
+    const [found, assigns = ""] = inner ? [""] : WAITING.exec(squeezeCode(code)) ?? [];
     if (found === undefined) return null;
     const calls = code.match(/\b\w+(?=\s{0,9}\()/g) ?? [];
     const { index } = this.takePart(end);
-    return { code: rest.slice(0, close + 1), index, condition: rest.slice(begin + head + 1, close), assigns, calls };
+    return { code: rest.slice(0, close + 1), index, condition: rest.slice(begin + head + 1, close), assigns, calls, inner: inner ? [inner] : [] };
+  }
+
+  /** Returns the loop here, if it has no condition, begins with an `if` that leaves it, and otherwise only waits; null if it does not. */
+  readEndless() {
+    const { rest } = this;
+    const head = ENDLESS.exec(rest)?.[0] ?? "";
+    const open = head.length - 1;
+    const close = head ? findClosing(rest, open) : -1;
+    const end = head ? findClosing(rest, rest.indexOf("{")) : -1;
+    const [left] = BREAK.exec(rest.slice(close + 1, end)) ?? [];
+    if (close < 0 || left === undefined || end < close) return null;
+    const after = rest.slice(close + 1 + left.length, end).trim();
+    const inner = this.readInner(after);
+    if (!inner && !/^\{?\}?$/.test(squeezeCode(after).replace(PAUSES, ""))) return null;
+    const calls = after.match(/\b\w+(?=\s{0,9}\()/g) ?? [];
+    const { index } = this.takePart(end + 1);
+    return { code: rest.slice(0, close + 1), index, condition: `!${rest.slice(open, close + 1)}`, assigns: "", calls, inner: inner ? [inner] : [] };
+  }
+
+  /** Returns the condition of a loop that only waits, which is all that a code has, with braces or without; null if there is none. */
+  readInner(code) {
+    const inside = code.startsWith("{") ? code.slice(1, -1).trim() : code;
+    if (!WHILE.test(inside) || this.depth > DEEPEST) return null;
+    const reader = new StatementReader({ code: inside, index: 0 }, this.depth + 1);
+    const loop = reader.readWaiting();
+    return loop && !loop.assigns && !loop.inner.length && !reader.rest ? loop.condition : null;
   }
 }
 
 /** Returns the code of a statement or a block that begins at an index, after blanks, and where it ends. */
 function findBody(code, index) {
   const begin = index + code.slice(index).search(/\S|$/);
-  const end = (code[begin] === "{" ? findClosing(code, begin) : code.indexOf(";", begin)) + 1 || code.length;
+  // The body may be a loop itself, with a body of its own.
+  const [head] = WHILE.exec(code.slice(begin)) ?? [];
+  const close = head ? findClosing(code, begin + head.length) : -1;
+  const inner = close < 0 ? begin : close + 1 + code.slice(close + 1).search(/\S|$/);
+  const end = (code[inner] === "{" ? findClosing(code, inner) : code.indexOf(";", inner)) + 1 || code.length;
   return { code: code.slice(begin, end), end };
 }
 

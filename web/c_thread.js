@@ -2,7 +2,7 @@
 //
 // The records `Program` and `CThread` are those of c_reader.js, and `Statement` is that of c_statements.js.
 
-import { parseFormula, renameVariables } from "./c_question.js";
+import { mapAtoms, negateFormula, parseFormula } from "./c_question.js";
 import { defineName, parseConstant, parseDeclaration, refusePart, replaceNames } from "./c_reader.js";
 import { OF_CONDITIONS, OF_FUNCTIONS, OF_LOOPS, OUTPUT, parseCondition, readStatements, removeStrings, splitOutside } from "./c_statements.js";
 import { isTruth, OF_BOOLS, OF_LOADS, OF_REGISTERS, OF_STEPS, OF_SUBTRACTION, parseStep, SPARE, ValueWriter } from "./c_values.js";
@@ -25,7 +25,12 @@ const NOTHING = /^(?:NULL|nullptr|0|\(void\*\)0)$/;
 const NO_USE = /^\(void\)(\w+)$/;
 // A load in a loop that waits: the groups are the variable that it is assigned to, if there is one, and the load.
 const AWAITED = /^(?:(\w+)=)?(\*?\w+|atomic_load\w{0,20}\([^()]*\))$/;
+// An exchange in a loop that waits.
+const EXCHANGE = /^atomic_exchange\w{0,20}\([^()]*\)$/;
 const ASSERTION = /^assert\((.*)\)$/;
+// A guard of a mutex: the groups are its name, and the mutex. And a call that locks or unlocks: a mutex or a guard and a verb, or a verb and a mutex.
+const GUARD = /^(?:const )?(?:lock_guard|unique_lock|scoped_lock)(?:<(?:std::)?mutex>| )(\w+)[({](\w+)[)}]$/;
+const LOCK = /^(?:(\w+)\.(lock|unlock)\(\)|(?:pthread_mutex|mtx|pthread_spin)_(lock|unlock)\(&(\w+)\))$/;
 // What an output has besides values: strings, letters, streams, and the end of a line.
 const PRINTED = /^(?:" *"|'.*'|std(?:out|err)|endl|flush|)$/;
 // An assignment: the groups are its place, the sign of `+=` or `-=`, and its value.
@@ -43,6 +48,8 @@ const OF_ASSERTIONS = ": an assertion compares variables with constants by `==` 
 const OF_BRANCHED = ": an assertion is in no branch, and after no `return`";
 const OF_PLAIN_LOOPS = ": a compiler loads a plain variable only once, so make it atomic or volatile";
 const OF_NAMES = ": give it a name that no other variable has";
+const OF_MUTEXES = ": only a mutex, as `std::mutex m`, is locked and unlocked";
+const OF_GUARDS = ": a guard is locked and unlocked in no branch";
 // The label at the end of a thread.
 const END = "END";
 /** The variable of what a thread returns, by its name in a question. */
@@ -64,6 +71,28 @@ function joinPaths(one, other) {
   return one && other ? new Set([...one].filter((it) => other.has(it))) : one ?? other;
 }
 
+/** Returns whether a name in a formula passes a test. */
+function hasName({ parts, name }, test) {
+  return parts ? parts.some((it) => hasName(it, test)) : test(name);
+}
+
+/** Returns whether a formula holds if all its variables are 0. */
+function isTrueOfZeros({ sign, parts, word, isEqual }) {
+  if (!sign) return isEqual === (word === 0);
+  return sign === "\\/" ? parts.some(isTrueOfZeros) : parts.every(isTrueOfZeros);
+}
+
+/** Returns an atom that says of a `bool` which of the two words it is, and not which it is not. */
+function normalizeAtom({ name, word, isEqual, isBool }) {
+  const isOther = isBool && !isEqual && word < 2;
+  return { name, word: isOther ? 1 - word : word, isEqual: isEqual || isOther };
+}
+
+/** Returns the atom that holds if another one does not. */
+function negateAtom(atom) {
+  return normalizeAtom(negateFormula(atom));
+}
+
 /** Writes the instructions of a thread, and records what they access. */
 export class ThreadWriter extends ValueWriter {
   /**
@@ -82,14 +111,16 @@ export class ThreadWriter extends ValueWriter {
     const isOwn = (variable) => isUsed(variable, codes[number]) && codes.filter((it) => isUsed(variable, it)).length === 1;
     this.own = [...variables.values()].filter((it) => it.order === "plain" && !it.isPointer && isOwn(it.name));
     if (returnsWord) this.locals.add(RESULT);
-    // The variables that have a value at each `return`; how many labels there are; and the variable that was loaded last.
-    this.exits = [];
+    // How many labels there are, and the variable that was loaded last.
     this.labelCount = 0;
     this.loaded = null;
-    // Of each loop that waits, the variable with a register that it loads, and the word of which this variable is, or is not, while it waits.
+    // The formula of the end of each loop that waits and of each lock; and the variables of loops that exchange, with the words that these may have.
     this.waits = [];
-    // The branches around a statement, and around the last load: the index of their `if`, and the comparisons that hold in them.
-    this.branches = [];
+    this.isWaiting = false;
+    this.pairs = [];
+    // The guards around a statement: their names, the mutexes that they guard, and those that they unlock, or null.
+    this.guards = [];
+    // The branches around the last load: the index of their `if`, and the comparisons that hold in them.
     this.loadedBranches = [];
     // The formulas that it asserts, of sites; the first statement that does; and the number of loops that wait before it.
     this.asserted = [];
@@ -121,17 +152,63 @@ export class ThreadWriter extends ValueWriter {
     return `L${this.labelCount}`;
   }
 
-  /** Writes statements. `isLast` says that none follows them in the thread. */
+  /** Writes statements, and unlocks what guards in them have locked. `isLast` says that none follows them in the thread. */
   writeStatements(statements, isLast) {
+    const guardCount = this.guards.length;
     for (const [at, statement] of statements.entries()) {
       this.statement = statement;
       if (!this.known) this.refuseStatement(OF_UNREACHED);
-      const isEnd = isLast && at === statements.length - 1;
+      const isEnd = isLast && at === statements.length - 1 && this.guards.length === guardCount;
       if (statement.block) this.writeBlock(statement.block, isEnd);
       else if (statement.then) this.writeBranch(statement, isEnd);
       else if (statement.condition !== undefined) this.writeWaiting(statement);
       else this.writeSimple(this.squeeze(statement.code), isEnd);
     }
+    if (this.known) this.unlockGuards(guardCount);
+    this.guards.length = guardCount;
+  }
+
+  /** Writes what unlocks the mutexes of guards, from the last one back to the one at an index. */
+  unlockGuards(index) {
+    for (const { mutex } of this.guards.slice(index).reverse()) if (mutex) this.writeUnlock(mutex);
+  }
+
+  /** Writes the exchange that locks a mutex, and the one that unlocks it. Throws NoTest if the name is that of no mutex. */
+  writeLock(name) {
+    if (this.variables.get(name)?.order !== "mutex") this.refuseStatement(OF_MUTEXES);
+    const register = this.findRegister(this.nameVariable(name, "at its lock"));
+    this.writeExchange(name, 1, register);
+    this.addWait({ name: `${this.number}:${register}`, word: 0, isEqual: true });
+  }
+
+  /** Writes the exchange that unlocks a mutex. Throws NoTest if the name is that of no mutex. */
+  writeUnlock(name) {
+    if (this.variables.get(name)?.order !== "mutex") this.refuseStatement(OF_MUTEXES);
+    this.writeExchange(name, 0, SPARE);
+  }
+
+  /** Writes the exchange of a mutex with a word. */
+  writeExchange(name, word, register) {
+    this.accesses.push({ thread: this.number, name, isPlain: false, isRead: true, isWrite: true, isBool: true, isMutex: true, word, added: null });
+    this.writeInstruction(`MOV ${register},$${word}`);
+    this.writeInstruction(`XCHG [${name}],${register}`);
+  }
+
+  /** Writes a statement that locks or unlocks a mutex, itself or by a guard. Returns whether it is one. */
+  writeMutex(statement) {
+    const [, guard, guarded] = GUARD.exec(statement) ?? [];
+    const [, object, method, verb, parameter] = LOCK.exec(statement) ?? [];
+    const name = object ?? parameter;
+    const held = this.guards.find((it) => it.guard === name);
+    if (guard) {
+      this.writeLock(guarded);
+      this.guards.push({ guard, guarded, mutex: guarded });
+    } else if (!name) return false;
+    else if (held && this.branches.length) this.refuseStatement(OF_GUARDS);
+    else if ((method ?? verb) === "lock") this.writeLock(held?.guarded ?? name);
+    else this.writeUnlock(held?.guarded ?? name);
+    if (held) held.mutex = method === "lock" ? held.guarded : null;
+    return true;
   }
 
   /** Writes statements, after which the variables that they declare can't be used. */
@@ -173,30 +250,107 @@ export class ThreadWriter extends ValueWriter {
   }
 
   /**
-   * Writes one load in place of a loop that only waits, since loads change nothing: the loop ends as its last load does. Its register is not set again,
-   * so that a question can ask how it ended. Throws NoTest if the loop may not be reached, or has more than one load.
+   * Writes one pass of a loop that only waits: the loop ends as its last pass does, and those before change nothing. Its registers are not set again, so
+   * that a question can ask how it ended. Throws NoTest if it does more, or if it may not be reached and then seems to wait.
    */
-  writeWaiting({ condition, assigns, calls }) {
+  writeWaiting({ condition, assigns, calls, inner }) {
     if (calls.some((it) => this.functions.has(it))) this.refuseStatement(OF_LOOPS);
-    const [comparison, another] = parseCondition(this.squeeze(condition)) ?? [];
-    const [value, word] = [comparison?.sides[0], parseConstant(comparison?.sides[1] ?? "")];
-    const isAssigned = assigns && assigns.startsWith(`${value}=`);
-    const [, place, load] = AWAITED.exec(isAssigned ? this.squeeze(assigns) : assigns ? "" : value ?? "") ?? [];
-    const isLoad = load && parseConstant(load) === null && !this.locals.has(load) && (!place || this.locals.has(place));
-    if (another || word === null || !isLoad) this.refuseStatement(OF_LOOPS);
-    if (this.branches.length || this.exits.length) this.refuseStatement(OF_BRANCHES);
-    const { loaded } = this;
+    const { loaded, loadedBranches } = this;
+    const code = this.squeeze(condition);
+    const [comparison, another] = parseCondition(code) ?? [];
+    if (!inner.every((it) => this.isOfLoads(it))) this.refuseStatement(OF_LOOPS);
+    const isExchange = !another && !assigns && EXCHANGE.test(comparison?.sides[0]);
+    const isSingle = comparison && !another;
+    const wait = isExchange ? this.writeExchanges(comparison) : isSingle ? this.writeLoads(comparison, assigns) : this.writePass(code, assigns);
+    this.addWait(wait);
+    Object.assign(this, { loaded, loadedBranches, isWaiting: true });
+  }
+
+  /** Returns whether a condition only loads shared variables. */
+  isOfLoads(condition) {
+    const formula = parseFormula(this.squeeze(condition));
+    return formula !== null && !hasName(formula, (it) => !this.variables.has(it));
+  }
+
+  /** Records when a loop or a lock ends. Throws NoTest if it may not be reached, and then seems to wait, since its registers are 0. */
+  addWait(end) {
+    if ((this.branches.length || this.exits.length) && !isTrueOfZeros(end)) this.refuseStatement(OF_BRANCHES);
+    this.waits.push(end);
+  }
+
+  /** Returns a name of a variable with a register that no other one has. */
+  nameVariable(name, use, number = 1) {
+    // One of these names is new, since there are more of them than registers.
+    const names = [...REGISTERS.X86, ""].map((_, at) => `${name} ${use}${number + at > 1 ? ` ${number + at}` : ""}`);
+    return names.find((it) => !this.registers.includes(it));
+  }
+
+  /** Loads a variable in place of a loop that waits. Returns an atom that says whether it is a word. */
+  loadAwaited(load, place, word, isEqual) {
     const { name } = this.parseOperation(load);
     const number = this.waits.length + 1;
-    const variable = place ?? `${name} after ${number > 1 ? `loop ${number}` : "its loop"}`;
+    const variable = place ?? (number > 1 ? this.nameVariable(name, "after loop", number) : this.nameVariable(name, "after its loop"));
     this.assignLocal(variable, load);
     this.fixed.add(variable);
     const { isPlain, isBool } = this.accesses.at(-1);
     if (isPlain) this.refuseStatement(OF_PLAIN_LOOPS);
-    // A loop on a `bool` waits for the other one of two words.
-    const isOther = isBool && comparison.isEqual && word < 2;
-    this.waits.push({ variable, word: isOther ? 1 - word : word, isEqual: comparison.isEqual && !isOther });
-    this.loaded = loaded;
+    return { name: this.makeSite(variable), word, isEqual, isBool };
+  }
+
+  /** Writes the load of a loop that compares one load with a constant. Returns the formula of its end. */
+  writeLoads({ sides: [value, other], isEqual }, assigns) {
+    const word = parseConstant(other);
+    const isAssigned = assigns && assigns.startsWith(`${value}=`);
+    const [, place, load] = AWAITED.exec(isAssigned ? this.squeeze(assigns) : assigns ? "" : value) ?? [];
+    const isLoad = load && parseConstant(load) === null && !this.locals.has(load) && (!place || this.locals.has(place));
+    if (word === null || !isLoad) this.refuseStatement(OF_LOOPS);
+    return negateAtom(this.loadAwaited(load, place, word, isEqual));
+  }
+
+  /** Writes the loads of a loop that compares several ones, with jumps past those that it leaves out. Returns the formula of its end. */
+  writePass(code, assigns) {
+    const formula = assigns ? null : parseFormula(code);
+    if (!formula || hasName(formula, (it) => this.locals.has(it))) this.refuseStatement(OF_LOOPS);
+    const end = this.makeLabel();
+    const written = this.writeFormula(formula, end, end);
+    if (this.instructions.some((it) => it.endsWith(` ${end}`))) this.labels.push(end);
+    return mapAtoms(negateFormula(written), normalizeAtom);
+  }
+
+  /**
+   * Writes the loads of a formula, and jumps to labels if it is false, and if it is true. What follows is meant by null in place of one, and if both are
+   * the same. Returns the formula of its registers.
+   */
+  writeFormula({ sign, parts, code, word, isEqual }, whenFalse, whenTrue) {
+    if (!sign) {
+      const atom = this.loadAwaited(code, undefined, word, isEqual);
+      if (whenFalse !== whenTrue) {
+        this.writeInstruction(`CMP ${atom.name.split(":")[1]},$${word}`);
+        this.writeInstruction(`${isEqual === (whenTrue === null) ? "JNE" : "JE"} ${whenTrue ?? whenFalse}`);
+      }
+      return atom;
+    }
+    const isAnd = sign === "/\\";
+    const end = this.makeLabel();
+    const [early, late] = isAnd ? [whenFalse, whenTrue] : [whenTrue, whenFalse];
+    const first = isAnd ? [early ?? end, null] : [null, early ?? end];
+    const written = parts.map((it, at) => this.writeFormula(it, ...(at < parts.length - 1 ? first : isAnd ? [early, late] : [late, early])));
+    if (early === null) this.labels.push(end);
+    return { sign, parts: written };
+  }
+
+  /**
+   * Writes one exchange in place of a loop of them, which is enough if each that fails writes the word that it has read. Returns the formula of its end.
+   */
+  writeExchanges({ sides: [value, other], isEqual }) {
+    const last = parseConstant(other);
+    const operation = this.parseCall(value);
+    const word = parseConstant(operation.value);
+    if (operation.kind !== "exchange" || last === null || word === null || isEqual !== (word === last)) this.refuseStatement(OF_LOOPS);
+    const variable = this.nameVariable(operation.name, "at its lock");
+    this.writeOperation(operation, this.findRegister(variable));
+    if (!isEqual) this.pairs.push({ statement: this.statement, name: operation.name, words: [word, last] });
+    return negateAtom({ name: this.makeSite(variable), word: last, isEqual, isBool: this.accesses.at(-1).isBool });
   }
 
   /**
@@ -224,11 +378,11 @@ export class ThreadWriter extends ValueWriter {
 
   /** Writes a statement that has no statements in it: a declaration, a fence, a `return`, or an operation. */
   writeSimple(statement, isLast) {
-    if (defineName(statement, this.names)) return;
+    if (defineName(statement, this.names) || this.writeMutex(statement)) return;
     if (this.functions.has(/^\w+(?=\()/.exec(statement)?.[0])) this.refuseStatement(OF_FUNCTIONS);
     const declared = parseDeclaration(statement);
     for (const variable of declared) {
-      if (variable.isPointer) this.refuseStatement();
+      if (variable.isPointer || variable.element) this.refuseStatement();
       // A compiler may make an exchange, which waits, of an assignment to a variable that is atomic.
       if (variable.order === "seq_cst") this.refuseStatement(OF_ATOMICS);
       if (this.variables.has(variable.name) || this.locals.has(variable.name)) this.refuseStatement(OF_NAMES);
@@ -257,10 +411,10 @@ export class ThreadWriter extends ValueWriter {
     const formula = parseFormula(condition) ?? this.refuseStatement(OF_ASSERTIONS);
     if (this.branches.length || this.exits.length) this.refuseStatement(OF_BRANCHED);
     if (!this.assertion) Object.assign(this, { assertion: this.statement, waitCount: this.waits.length });
-    this.asserted.push(renameVariables(formula, ({ name, code }) => {
-      const variable = this.known.has(name) ? name : this.loadShared(code, "as asserted");
+    this.asserted.push(mapAtoms(formula, (atom) => {
+      const variable = this.known.has(atom.name) ? atom.name : this.loadShared(atom.code, "as asserted");
       this.fixed.add(variable);
-      return this.makeSite(variable);
+      return { ...atom, name: this.makeSite(variable) };
     }));
   }
 
@@ -292,6 +446,7 @@ export class ThreadWriter extends ValueWriter {
     const value = !this.isHerd && NOTHING.test(result) && (this.isStarted || !this.returnsWord) ? "" : result;
     if (value && !this.returnsWord) this.refuseStatement(this.isHerd ? OF_RETURN_IN_HERD : OF_RETURN);
     if (value) this.assignLocal(RESULT, value);
+    this.unlockGuards(0);
     this.exits.push(this.known);
     this.known = null;
     if (!isLast) this.writeInstruction(`JMP ${END}`);

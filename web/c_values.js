@@ -4,7 +4,8 @@
 // An `Operation` has its `kind` (load, store, exchange, fetch_add or fetch_sub), its `order`, the `name` of a shared variable, which `isPointer` if
 // the code uses it as one, and the code of the `value` that it stores or adds, or "".
 // An `Access` has the number of its `thread`, and the `name` of its location. It `isPlain`, `isRead` if its result is used, and `isWrite`, or not, and
-// the location `isBool`, or not.
+// the location `isBool`, or not. The `word` is the constant that it writes, or null, and
+// `added` the constant that it adds, or null. It `isLocked` if its load and its store are one instruction. It `isSure` if all runs of its thread do it.
 
 import { parseConstant, refusePart, replaceNames, squeezeCode } from "./c_reader.js";
 import { explainCondition, explainStatement, removeOuterParentheses, splitTerms } from "./c_statements.js";
@@ -59,6 +60,21 @@ function isStep(kind) {
   return kind.startsWith("fetch");
 }
 
+/** Returns the word that an operation of a kind adds to a variable; null if it is not constant. */
+function findSum(kind, value) {
+  const word = parseConstant(value);
+  return word === null ? null : toWord(kind === "fetch_sub" ? -word : word);
+}
+
+/** Returns the constant that a store adds to the word of its own variable; null if it does not. */
+function findAdded({ name, isPointer, value }) {
+  const terms = splitTerms(removeOuterParentheses(value));
+  const others = terms.filter(({ sign, term }) => sign === "-" || term !== (isPointer ? `*${name}` : name));
+  const words = others.map(({ sign, term }) => Number(`${sign}1`) * (parseConstant(term) ?? NaN));
+  const sum = words.reduce((all, it) => all + it, 0);
+  return others.length === terms.length - 1 && !Number.isNaN(sum) ? toWord(sum) : null;
+}
+
 /**
  * Returns the place of a step, its sign, and whether it is before the place; null if code is no step. The place of `(*x)++` is `*x`.
  * @param {string} code
@@ -93,6 +109,9 @@ export class ValueWriter {
     this.known = new Set();
     // Those that are not set again, since a question asks of the value that they have.
     this.fixed = new Set();
+    // The branches around a statement, and the variables that have a value at each `return`.
+    this.branches = [];
+    this.exits = [];
     // What is refused.
     this.statement = null;
   }
@@ -218,6 +237,7 @@ export class ValueWriter {
     if (this.locals.has(name)) this.refuseStatement(`: \`${name}\` ${this.known.has(name) ? "is not shared" : "has no value on some path to here"}`);
     const variable = this.variables.get(name) ?? this.refuseStatement(`: \`${name}\` is not declared`);
     if (isPointer && !variable.isPointer) this.refuseStatement(`: \`${name}\` is no pointer, as \`&${name}\` is`);
+    if (variable.order === "mutex") this.refuseStatement(`: \`${name}\` is a mutex, which is only locked and unlocked`);
     if (!isPointer && variable.isPointer) this.refuseStatement(`: \`${name}\` is a pointer to \`*${name}\``);
     return variable;
   }
@@ -246,9 +266,12 @@ export class ValueWriter {
     this.checkOperation(operation, register !== undefined);
     const { kind, order, name, value } = operation;
     const { isBool } = this.variables.get(name);
+    const isSure = !this.branches.length && !this.exits.length;
     const isPlain = order === "plain";
     const isRead = kind !== "store" && register !== undefined;
-    this.accesses.push({ thread: this.number, name, isPlain, isRead, isWrite: kind !== "load", isBool });
+    const word = isStep(kind) ? null : parseConstant(value);
+    const added = isStep(kind) ? findSum(kind, value) : kind === "store" ? findAdded(operation) : null;
+    this.accesses.push({ thread: this.number, name, isPlain, isRead, isWrite: kind !== "load", isBool, word, added, isLocked: kind !== "store", isSure });
     const target = register ?? SPARE;
     if (kind === "load") this.writeInstruction(`MOV ${target},[${name}]`);
     else if (kind === "store" && order !== "seq_cst") this.writeStore(operation);

@@ -26,7 +26,9 @@ const OF_BUTTON =
   "The button makes an x86 test of it: each access as gcc and clang compile it, in the order of the program. That is not proved, and a compiler may " +
   "also reorder or merge relaxed and plain accesses.";
 const OF_WAITING =
-  " A loop that waits is one load here: states in which it has not ended are in the list, too, and the question leaves them out.";
+  " A loop that waits is one pass here: states in which it has not ended are in the list, too, and the question leaves them out.";
+const OF_LOCKING =
+  " A mutex is a word that `XCHG` takes and gives back: states in which a thread did not get it are in the list, too, and the question leaves them out.";
 const NOT_ASKED = " The question `true` holds always: look at the list of states.";
 // How programs in Rust, Java and Go begin, what only C++ has, and how a thread in C begins.
 const RUST = /^\s*(?:use\b|fn\b|pub\b|static\s+\w+\s*:|#!?\[)/;
@@ -60,12 +62,12 @@ function explainProgram(words, text, place) {
   const how = `${OF_C}: save this as \`${file}\`, then \`${command}\` prints a test for this page.${form}${once}`;
   const hint = { more: how, document: "from-c.html", command };
   if (RUST.test(text)) return { words: `${words} ${IS_READ}`, ...hint };
-  const { made, isGuess, races, isWaiting, why, index } = rewriteProgram(text);
+  const { made, isGuess, races, isWaiting, isLocking, why, index } = rewriteProgram(text);
   if (!made) return { words: explainRefusedProgram(text, why, index), ...hint, at: findPart(place.text, text, index) };
   place.proposeChange(made, 0, place.text.length);
   Object.assign(place.change, { title: "Rewrite it as an x86 test", done: "Rewritten." });
   const question = made.endsWith("(true)\n") ? NOT_ASKED : isGuess ? OF_GUESS : "";
-  return { words: `${words} ${OF_BUTTON}${explainRaces(races)}${isWaiting ? OF_WAITING : ""}${question}`, ...hint };
+  return { words: `${words} ${OF_BUTTON}${explainRaces(races)}${isWaiting ? OF_WAITING : ""}${isLocking ? OF_LOCKING : ""}${question}`, ...hint };
 }
 
 /** Returns a sentence on plain variables, if there are some, on which threads race in a program; or "". */

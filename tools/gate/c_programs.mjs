@@ -264,6 +264,10 @@ const OF_LONE = ": give it a name that no other variable has";
 const OF_FENCES = ": a fence is `atomic_thread_fence(memory_order_seq_cst)`";
 const OF_CONSTANTS = ": a constant is decimal, or `0x` and hexadecimal, of 32 bits";
 const OF_ASSIGNMENTS = ": write each assignment as a statement of its own";
+const OF_PAIRS = ": a loop that exchanges needs a variable that is only set to the constant that it writes, and to the one at which it ends";
+const OF_MUTEXES = ": only a mutex, as `std::mutex m`, is locked and unlocked";
+const OF_GUARDS = ": a guard is locked and unlocked in no branch";
+const OF_INDICES = ": an array is shared, and its indices are constants in it, as `a[0]`";
 const OF_REGISTERS = ", which needs more than six registers";
 const OF_ENTRIES = ": initial values are entries as `x=1;`";
 const OF_BRANCHED = ": an assertion is in no branch, and after no `return`";
@@ -276,9 +280,30 @@ const REFUSED = [
   ["int r0 = y;", "int r0 = y; while (r0 == 1) ;", `\`while (r0 == 1)\`${OF_LOOPS}`],
   ["int r0 = y;", "int r0 = y; while (y != r0) ;", `\`while (y != r0)\`${OF_LOOPS}`],
   ["int r0 = y;", "while (y + 1 == 1) ;", `\`while (y + 1 == 1)\`${OF_LOOPS}`],
-  ["int r0 = y;", "while (y && x) ;", `\`while (y && x)\`${OF_LOOPS}`],
+  ["int r0 = y;", "while (y && x + 1) ;", `\`while (y && x + 1)\`${OF_LOOPS}`],
+  ["int r0 = y;", "int r0 = y; while (y && r0) ;", `\`while (y && r0)\`${OF_LOOPS}`],
+  ["int r0 = y;", "while (y || x.exchange(1)) ;", `\`while (y || x.exchange(1))\`${OF_LOOPS}`],
+  ["int r0 = y;", "while (y || d) ;", `\`while (y || d)\`${OF_PLAIN_LOOPS}`, "y = 1;", "d = 1;"],
+  ["int r0 = y;", "int r0 = y; if (r0) while (y && x) ; else while (!y || x) ;", `\`while (!y || x)\`${OF_BRANCHES}`],
   ["int r0 = y;", "while (y < 1) ;", `\`while (y < 1)\`${OF_LOOPS}`],
-  ["int r0 = y;", "while (y.test_and_set()) { }", `\`while (y.test_and_set())\`${OF_LOOPS}`],
+  ["0:r0=0", "y=0", `\`while (y.exchange(1))\`${OF_PAIRS}`, "int r0 = y; }\nvoid P1(void) { y = 1;", "while (y.exchange(1)) ; }\nvoid P1(void) { y = 2;"],
+  ["0:r0=0", "y=0", `\`while (y.exchange(1))\`${OF_PAIRS}`, "int r0 = y; }\nvoid P1(void) {", "while (y.exchange(1)) ; y--; }\nvoid P1(void) {"],
+  ["atomic_int x, y", "atomic_int x, y = 2", `\`while (y.exchange(1))\`${OF_PAIRS}`, "int r0 = y; }\nvoid P1(void) {",
+    "int r0 = 0; while (y.exchange(1)) ; }\nvoid P1(void) {"],
+  ["int r0 = y;", "while (!x.exchange(1)) ;", `\`while (!x.exchange(1))\`${OF_LOOPS}`],
+  ["int r0 = y;", "while (x.exchange(1) == 2) ;", `\`while (x.exchange(1) == 2)\`${OF_LOOPS}`],
+  ["int r0 = y;", "while (x.exchange(y)) ;", `\`while (x.exchange(y))\`${OF_LOOPS}`],
+  ["int r0 = y;", "while (x.exchange(1, std::memory_order_relaxed)) ;", `\`while (x.exchange(1, std::memory_order_r..\`${OF_ORDER}`],
+  ["int r0 = y;", "while (x.exchange(1)) while (y.exchange(1)) ;", `\`while (x.exchange(1))\`${OF_LOOPS}`],
+  ["int r0 = y;", "while (x.exchange(1)) while (z) ;", `\`while (x.exchange(1))\`${OF_LOOPS}`],
+  ["int r0 = y;", "while (true) { if (!x.exchange(1)) break; y = 2; }", `\`while (true)\`${OF_LOOPS}`],
+  ["int r0 = y;", "for (;;) { if (x.exchange(1)) break; }", `\`for (;;) { if (x.exchange(1))\`${OF_LOOPS}`],
+  ["int r0 = y;", "y.lock();", `\`y.lock()\`${OF_MUTEXES}`],
+  ["int r0 = y;", "std::lock_guard<std::mutex> g(y);", `\`std::lock_guard<std::mutex> g(y)\`${OF_MUTEXES}`],
+  ["int d;", "std::mutex d;", "`d = 1`: `d` is a mutex, which is only locked and unlocked", "x = 1;", "d = 1;"],
+  ["int d;", "std::mutex d;", `\`g.unlock()\`${OF_GUARDS}`, "x = 1;", "std::unique_lock g(d); if (x) g.unlock();"],
+  ["int d;", "std::mutex d;", `\`P0\`${OF_REGISTERS}`, "x = 1;", "d.lock(); d.unlock(); ".repeat(7)],
+  ["int d;", "std::mutex d = 1;", `\`std::mutex d = 1;\`${OF_GLOBALS}`],
   ["int r0 = y;", "do x = y; while (x != 1);", `\`do x = y; while (x != 1)\`${OF_LOOPS}`],
   ["int r0 = y;", "int r0; do r0 = y; while (y != 1);", `\`do r0 = y; while (y != 1)\`${OF_LOOPS}`],
   ["int r0 = y;", "int r0; do r0 = y; while (r0 != 1); r0++;", `\`r0++\`${OF_FIXED}`],
@@ -290,7 +315,6 @@ const REFUSED = [
   ["int r0 = y;", "while (!d) { cpu_relax(); }", `\`while (!d)\`${OF_PLAIN_LOOPS}`, "y = 1;", "d = 1;"],
   ["int r0 = y;", "while (!d) ;", `\`while (!d)\`${OF_LOOPS}`],
   ["int r0 = y;", "for (int i = 0; i < 3; i++) x = i;", `\`for (int i = 0; i < 3; i++)\`${OF_LOOPS}`],
-  ["int r0 = y;", "while (x.exchange(1)) ;", `\`while (x.exchange(1))\`${OF_LOOPS}`],
   ["int r0 = y;", "int r0 = y; return r0;", "`return r0`: a thread that returns a value is `int P0(void)`"],
   ["x = 1;", "x = 1; return;", "`int r0 = y`: no run comes here after a `return`"],
   ["int r0 = y;", "int r0 = *x++;", `\`int r0 = *x++\`${OF_OTHERS}`],
@@ -310,7 +334,7 @@ const REFUSED = [
   ["int r0 = y;", "int r0 = y == 1;", `\`int r0 = y == 1\`${OF_COMPARISONS}`],
   ["int r0 = y;", "int r0 = !y;", `\`int r0 = !y\`${OF_COMPARISONS}`],
   ["int r0 = y;", "int r0; int r1 = r0;", `\`int r1 = r0\`: \`r0\`${OF_VALUE}`],
-  ["int r0 = y;", "int *r0 = &y;", "`int *r0 = &y`: threads have no pointers and arrays of their own"],
+  ["int r0 = y;", "int *r0 = &y;", "`int *r0 = &y`: threads have no pointers of their own"],
   ["int r0 = y;", "long r0 = y;", "`long r0 = y`: a variable has 32 bits, as `int r0`"],
   ["int r0 = y;", "int r0 = 010;", `\`int r0 = 010\`${OF_CONSTANTS}`],
   ["int r0 = y;", "int r0 = 4294967296;", `\`int r0 = 4294967296\`${OF_CONSTANTS}`],
@@ -387,7 +411,14 @@ const REFUSED = [
   ["int r0 = y;", "goto L;", "`goto L`: `goto` and labels are not rewritten"],
   ["// lw", "x = 1;\n// lw", `\`x = 1;\`${OF_GLOBALS}`],
   ["int d;", "long d;", `\`long d;\`${OF_GLOBALS}`],
-  ["int d;", "int d[2];", `\`int d[2];\`${OF_GLOBALS}`],
+  ["int d;", "int d[N];", `\`int d[N];\`${OF_GLOBALS}`],
+  ["int d;", "int d[2] = {1, 2, 3};", `\`int d[2] = {1, 2, 3};\`${OF_VALUES}`],
+  ["int d;", "int d_0, d[2];", `\`int d_0, d[2];\`${OF_LONE}`],
+  ["int d;", "int d[2]; int d_1;", `\`int d_1;\`${OF_LONE}`],
+  ["int d;", "int d[2];", `\`d[2] = 1\`${OF_INDICES}`, "x = 1;", "d[2] = 1;"],
+  ["int d;", "int d[2];", `\`d[r0] = 1\`${OF_INDICES}`, "int r0 = y;", "int r0 = y; d[r0] = 1;"],
+  ["int r0 = y;", "int a[2];", `\`int a[2]\`${OF_INDICES}`],
+  ["int r0 = y;", "int a[2] = {1, 2};", `\`int a[2] = {1, 2}\`${OF_INDICES}`],
   ["int d;", "int *d;", `\`int *d;\`${OF_GLOBALS}`],
   ["int d;", "#define N x + 1\nint d;", "`#define N x + 1`: write its text where it is used"],
   ["int d;", "#define F(a) 1\nint d;", "`#define F(a) 1`: write its text where it is used"],
@@ -412,13 +443,17 @@ const REFUSED = [
 ];
 
 // Long texts, the places of a program where they are put, as what is before and after them, and the most milliseconds for each.
-const LONG = [" ".repeat(60000), "a".repeat(60000), "(".repeat(60000), "int x;\n".repeat(10000), "{".repeat(60000), "(".repeat(30000) + ")".repeat(30000)];
+const LONG = [" ".repeat(60000), "a".repeat(60000), "(".repeat(60000), "int x;\n".repeat(10000), "{".repeat(60000), "(".repeat(30000) + ")".repeat(30000), "while (x) ".repeat(6000),
+  "x, ".repeat(20000), "x[0] = ".repeat(8000)];
 const STARTED = "int main() { std::thread t([&] { x = 1; }); t.join(); ";
 const PLACES = [
   ["", ""], ["int main() { ", " }"], ["int main() { std::thread t([&] { ", " }); t.join(); }"], ["int main() { std::thread t([&", "] { x = 1; }); t.join(); }"],
   [`${STARTED}assert(`, "); }"], [`${STARTED}if (`, ") puts(\"\"); }"], ["void f(", ") { x = 1; }"], ["void f() { ", " }"], ["void f() { while (", ") ; }"],
   ["void f() { while (x) { yield(", "); } }"], ["void f() { do ", " while (x == 0); }"], ["void f() { printf(", "); }"], ["using ", ""], ["#define N ", "\n"],
   ["constexpr int N = ", ";\n"], ["struct { ", " } s;\n"], ["void f() { while (x) ; }\nexists (", ""],
+  ["void f() { while (x && ", ") ; }"], ["void f() { while (x.exchange(1)) while (", ") ; }"], ["void f() { for (;;) { if (", ") break; } }"],
+  ["void f() { while (true) { if (x) break; ", " } }"], ["int a[2] = {", "};\n"], ["std::mutex ", ";\n"], ["void f() { std::scoped_lock g(", "); }"],
+  ["void f() { x[", "] = 1; }"],
 ];
 const SLOWEST = 2000;
 
@@ -845,6 +880,193 @@ int main() {
               |              | END:              | END:              ;
 ~exists (2:EAX=1 /\\ 3:EAX=1 /\\ z=0)
 `],
+  ["a loop that exchanges, and an assertion of main", `#include <atomic>
+#include <thread>
+std::atomic<int> lock{0};
+int n = 0;
+void f() { while (lock.exchange(1)) ; n++; lock.store(0); }
+int main() { std::thread a(f), b(f); a.join(); b.join(); assert(n == 2); }
+`, `X86 Mine
+(* 0:EAX is lock at its lock, 1:EAX is lock at its lock *)
+{ lock=0; n=0; }
+ P0              | P1              ;
+ MOV EAX,$1      | MOV EAX,$1      ;
+ XCHG [lock],EAX | XCHG [lock],EAX ;
+ MOV EBX,[n]     | MOV EBX,[n]     ;
+ ADD EBX,$1      | ADD EBX,$1      ;
+ MOV [n],EBX     | MOV [n],EBX     ;
+ MOV EBX,$0      | MOV EBX,$0      ;
+ XCHG [lock],EBX | XCHG [lock],EBX ;
+locations [lock]
+forall (~0:EAX=0 \\/ ~1:EAX=0 \\/ n=2)
+`],
+  ["loops that set a flag", `#include <atomic>
+std::atomic_flag f = ATOMIC_FLAG_INIT;
+int n;
+void P0() { while (f.test_and_set(std::memory_order_acquire)) ; n++; f.clear(std::memory_order_release); }
+void P1() { while (f.test_and_set(std::memory_order_acquire)) { _mm_pause(); } n++; f.clear(std::memory_order_release); }
+// lw: exists (n=1)
+`, `X86 Mine
+(* 0:EAX is f at its lock, 1:EAX is f at its lock *)
+{ f=0; n=0; }
+ P0           | P1           ;
+ MOV EAX,$1   | MOV EAX,$1   ;
+ XCHG [f],EAX | XCHG [f],EAX ;
+ MOV EBX,[n]  | MOV EBX,[n]  ;
+ ADD EBX,$1   | ADD EBX,$1   ;
+ MOV [n],EBX  | MOV [n],EBX  ;
+ MOV [f],$0   | MOV [f],$0   ;
+locations [f]
+exists (0:EAX=0 /\\ 1:EAX=0 /\\ n=1)
+`],
+  ["no question, and a mutex with a guard", `#include <mutex>
+#include <thread>
+#include <iostream>
+std::mutex m;
+int counter = 0;
+void inc() { std::lock_guard<std::mutex> g(m); ++counter; }
+int main() { std::thread t1(inc); std::thread t2(inc); t1.join(); t2.join(); std::cout << counter << std::endl; return 0; }
+`, `X86 Mine
+(* 0:EAX is m at its lock, 1:EAX is m at its lock *)
+{ m=0; counter=0; }
+ P0                | P1                ;
+ MOV EAX,$1        | MOV EAX,$1        ;
+ XCHG [m],EAX      | XCHG [m],EAX      ;
+ MOV EBX,[counter] | MOV EBX,[counter] ;
+ ADD EBX,$1        | ADD EBX,$1        ;
+ MOV [counter],EBX | MOV [counter],EBX ;
+ MOV EBX,$0        | MOV EBX,$0        ;
+ XCHG [m],EBX      | XCHG [m],EBX      ;
+exists (0:EAX=0 /\\ 1:EAX=0 /\\ ~counter=2)
+`],
+  ["no question, and a mutex of POSIX", `#include <pthread.h>
+pthread_mutex_t m = PTHREAD_MUTEX_INITIALIZER;
+int n;
+void *f(void *arg) { pthread_mutex_lock(&m); n++; pthread_mutex_unlock(&m); return NULL; }
+int main() { pthread_t a, b; pthread_mutex_init(&m, NULL); pthread_create(&a, NULL, f, NULL); pthread_create(&b, NULL, f, NULL); pthread_join(a, NULL); pthread_join(b, NULL); printf("%d\\n", n); pthread_mutex_destroy(&m); return 0; }
+`, `X86 Mine
+(* 0:EAX is m at its lock, 1:EAX is m at its lock *)
+{ m=0; n=0; }
+ P0           | P1           ;
+ MOV EAX,$1   | MOV EAX,$1   ;
+ XCHG [m],EAX | XCHG [m],EAX ;
+ MOV EBX,[n]  | MOV EBX,[n]  ;
+ ADD EBX,$1   | ADD EBX,$1   ;
+ MOV [n],EBX  | MOV [n],EBX  ;
+ MOV EBX,$0   | MOV EBX,$0   ;
+ XCHG [m],EBX | XCHG [m],EBX ;
+exists (0:EAX=0 /\\ 1:EAX=0 /\\ ~n=2)
+`],
+  ["no question, and Peterson's lock", `#include <stdatomic.h>
+atomic_int flag[2];
+atomic_int turn;
+int n;
+void P0(void) { flag[0] = 1; turn = 1; while (flag[1] && turn == 1) ; n++; flag[0] = 0; }
+void P1(void) { atomic_store(&flag[1], 1); atomic_store(&turn, 0); while (atomic_load(&flag[0]) == 1 && atomic_load(&turn) == 0) ; n++; atomic_store(&flag[1], 0); }
+`, `X86 Mine
+(* 0:EAX is flag_1 after its loop, 0:EBX is turn after its loop, 1:EAX is flag_0 after its loop, 1:EBX is turn after its loop *)
+{ flag_0=0; flag_1=0; turn=0; n=0; }
+ P0                | P1                ;
+ MOV ECX,$1        | MOV ECX,$1        ;
+ XCHG [flag_0],ECX | XCHG [flag_1],ECX ;
+ MOV ECX,$1        | MOV ECX,$0        ;
+ XCHG [turn],ECX   | XCHG [turn],ECX   ;
+ MOV EAX,[flag_1]  | MOV EAX,[flag_0]  ;
+ CMP EAX,$0        | CMP EAX,$1        ;
+ JE L1             | JNE L1            ;
+ MOV EBX,[turn]    | MOV EBX,[turn]    ;
+ L1: MOV ECX,[n]   | L1: MOV ECX,[n]   ;
+ ADD ECX,$1        | ADD ECX,$1        ;
+ MOV [n],ECX       | MOV [n],ECX       ;
+ MOV ECX,$0        | MOV ECX,$0        ;
+ XCHG [flag_0],ECX | XCHG [flag_1],ECX ;
+locations [turn]
+exists ((0:EAX=0 \\/ ~0:EBX=1) /\\ (~1:EAX=1 \\/ ~1:EBX=0) /\\ ~n=2)
+`],
+  ["Peterson's lock, released", `#include <atomic>
+#include <thread>
+std::atomic<bool> flag[2] = {{false}, {false}};
+std::atomic<int> turn{0};
+int n;
+void p0() { flag[0].store(true, std::memory_order_release); turn.store(1, std::memory_order_release); while (flag[1].load(std::memory_order_acquire) && turn.load(std::memory_order_acquire) == 1) { std::this_thread::yield(); } n++; flag[0].store(false, std::memory_order_release); }
+void p1() { flag[1].store(true, std::memory_order_release); turn.store(0, std::memory_order_release); while (flag[0].load(std::memory_order_acquire) && turn.load(std::memory_order_acquire) == 0) { std::this_thread::yield(); } n++; flag[1].store(false, std::memory_order_release); }
+int main() { std::thread a(p0), b(p1); a.join(); b.join(); assert(n == 2); }
+`, `X86 Mine
+(* 0:EAX is flag_1 after its loop, 0:EBX is turn after its loop, 1:EAX is flag_0 after its loop, 1:EBX is turn after its loop *)
+{ flag_0=0; flag_1=0; turn=0; n=0; }
+ P0               | P1               ;
+ MOV [flag_0],$1  | MOV [flag_1],$1  ;
+ MOV [turn],$1    | MOV [turn],$0    ;
+ MOV EAX,[flag_1] | MOV EAX,[flag_0] ;
+ CMP EAX,$0       | CMP EAX,$0       ;
+ JE L1            | JE L1            ;
+ MOV EBX,[turn]   | MOV EBX,[turn]   ;
+ L1: MOV ECX,[n]  | L1: MOV ECX,[n]  ;
+ ADD ECX,$1       | ADD ECX,$1       ;
+ MOV [n],ECX      | MOV [n],ECX      ;
+ MOV [flag_0],$0  | MOV [flag_1],$0  ;
+locations [turn]
+forall (~0:EAX=0 /\\ 0:EBX=1 \\/ ~1:EAX=0 /\\ 1:EBX=0 \\/ n=2)
+`],
+  ["no question, and loops that exchange and look", `#include <atomic>
+std::atomic<bool> l{false}; int n;
+void P0() { while (true) { if (!l.exchange(true, std::memory_order_acquire)) break; while (l.load(std::memory_order_relaxed)) ; } n = n + 1; l.store(false, std::memory_order_release); }
+void P1() { while (l.exchange(true, std::memory_order_acquire)) { while (l.load(std::memory_order_relaxed)) { _mm_pause(); } } n += 1; l.store(false, std::memory_order_release); }
+`, `X86 Mine
+(* 0:EAX is l at its lock, 1:EAX is l at its lock *)
+{ l=0; n=0; }
+ P0           | P1           ;
+ MOV EAX,$1   | MOV EAX,$1   ;
+ XCHG [l],EAX | XCHG [l],EAX ;
+ MOV EBX,[n]  | MOV EBX,[n]  ;
+ ADD EBX,$1   | ADD EBX,$1   ;
+ MOV [n],EBX  | MOV [n],EBX  ;
+ MOV [l],$0   | MOV [l],$0   ;
+locations [l]
+exists (0:EAX=0 /\\ 1:EAX=0 /\\ ~n=2)
+`],
+  ["no question, and a loop that compares three loads", `#include <stdatomic.h>
+atomic_int a, b, d;
+void P0(void) { d = 1; a = 1; b = 1; }
+void P1(void) { while ((!a || !b) && d != 3) ; int r = d; }
+`, `X86 Mine
+(* 1:EAX is a after its loop, 1:EBX is b after its loop, 1:ECX is d after its loop, 1:EDX is r *)
+{ a=0; b=0; d=0; }
+ P0           | P1              ;
+ MOV EAX,$1   | MOV EAX,[a]     ;
+ XCHG [d],EAX | CMP EAX,$0      ;
+ MOV EAX,$1   | JE L3           ;
+ XCHG [a],EAX | MOV EBX,[b]     ;
+ MOV EAX,$1   | CMP EBX,$0      ;
+ XCHG [b],EAX | JNE L1          ;
+              | L3: MOV ECX,[d] ;
+              | L1: MOV EDX,[d] ;
+exists ((~1:EAX=0 /\\ ~1:EBX=0 \\/ 1:ECX=3) /\\ 1:EDX=0)
+`],
+  ["no question, and guards in a branch and unlocked", `#include <mutex>
+std::mutex m; std::atomic<int> x; int n;
+void P0() { if (x.load()) { std::scoped_lock g(m); n += 1; return; } n = 5; }
+void P1() { std::unique_lock<std::mutex> g(m); x = 1; n++; g.unlock(); x = 2; }
+`, `X86 Mine
+(* 0:EAX is m at its lock, 1:EAX is m at its lock *)
+{ m=0; x=0; n=0; }
+ P0             | P1           ;
+ MOV EBX,[x]    | MOV EAX,$1   ;
+ CMP EBX,$0     | XCHG [m],EAX ;
+ JE L1          | MOV EBX,$1   ;
+ MOV EAX,$1     | XCHG [x],EBX ;
+ XCHG [m],EAX   | MOV EBX,[n]  ;
+ MOV EBX,[n]    | ADD EBX,$1   ;
+ ADD EBX,$1     | MOV [n],EBX  ;
+ MOV [n],EBX    | MOV EBX,$0   ;
+ MOV EBX,$0     | XCHG [m],EBX ;
+ XCHG [m],EBX   | MOV EBX,$2   ;
+ JMP END        | XCHG [x],EBX ;
+ L1: MOV [n],$5 |              ;
+ END:           |              ;
+locations [n]
+exists (0:EAX=0 /\\ 1:EAX=0)
+`],
   ["two questions", `${PROGRAM}/* lw: exists (x=1) */\n`, "`/* lw: exists (x=1) */`: a second comment says what is asked"],
   ["a function without an end", PROGRAM.split("}")[0], "`void P0(void) {`: its `}` is missing"],
   ["a pointer that is increased", "C SB\n{}\nP0 (atomic_int *x) { *x++; }\nexists (x=1)\n", `\`*x++\`${OF_OTHERS}`],
@@ -914,9 +1136,11 @@ const OTHERS = [
   ["Go", "package main\n\nimport \"sync/atomic\"\n"], ["Go", "func main() {\n"],
 ];
 const BEGINS = ["using namespace std;", "namespace a {}", "alignas(8) int x;", "constexpr int N = 1;", "#pragma once", "bool a;", "extern \"C\" {}", "[[maybe_unused]] int a;"];
-const LOCK = PROGRAM.replace("int r0 = y;", "while (y.exchange(1)) ;");
-const OF_LOCKS = `\`while (y.exchange(1))\`${OF_LOOPS}`;
-const WAITS = " A loop that waits is one load here: states in which it has not ended are in the list, too, and the question leaves them out.";
+const LOCK = PROGRAM.replace("int r0 = y;", "while (y.exchange(d)) ;");
+const OF_LOCKS = `\`while (y.exchange(d))\`${OF_LOOPS}`;
+const WAITS = " A loop that waits is one pass here: states in which it has not ended are in the list, too, and the question leaves them out.";
+const LOCKS =
+  " A mutex is a word that `XCHG` takes and gives back: states in which a thread did not get it are in the list, too, and the question leaves them out.";
 const makePlain = (names) => ` ${names} plain: each access is one \`MOV\` here, which a compiler need not keep if threads race on `;
 // A text, its words, how the words on the command end, and the place if the text is not rewritten, as its row and its column.
 const HINTS = [
@@ -933,8 +1157,10 @@ const HINTS = [
   ["a loop", LOCK, `${WOULD} but not ${OF_LOCKS}.`, "does.", [2, 24]],
   ["a loop after blank lines and a comment", `\n\n/* One. */ // Two.\n${LOCK}`, `${WOULD} but not ${OF_LOCKS}.`, "does.", [5, 24]],
   ["a loop in C++", LOCK.replace("atomic_int x", "std::atomic<int> x"), `${WOULD_IN_CPP} but not ${OF_LOCKS}.`, "does.", [2, 24]],
-  ["a loop in a test that begins with X86", WHOLE[2][1].replace("int r0 = *x;", "while (x->exchange(1)) ;"),
-    `${WOULD_IN_CPP} but not \`while (x->exchange(1))\`${OF_LOOPS}.`, "Its first word is `C` then.", [4, 61]],
+  ["a loop in a test that begins with X86", WHOLE[2][1].replace("int r0 = *x;", "while (x->exchange(2) == 1) ;"),
+    `${WOULD_IN_CPP} but not \`while (x->exchange(2) == 1)\`${OF_LOOPS}.`, "Its first word is `C` then.", [4, 61]],
+  ["a mutex", "std::mutex m; int n;\nvoid P0() { m.lock(); n++; m.unlock(); }\nvoid P1() { m.lock(); n++; m.unlock(); }\n",
+    `${BEGIN}${BUTTON}${makePlain("`n` is")}it.${LOCKS}${GUESS}`, "does."],
   ["a loop that waits, and a plain variable", LOOP.replace("x = 1;", "d = 1;").replace("y = 1;", "y = d;"),
     `${BEGIN}${BUTTON}${makePlain("`d` is")}it.${WAITS}${GUESS}`, "does."],
   ["three plain variables", "int x, y, z;\nvoid P0() { x = 1; y = 1; z = 1; }\nvoid P1() { x = 2; y = 2; z = 2; }\n// lw: exists (x=1)\n",
