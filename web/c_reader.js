@@ -137,7 +137,7 @@ export function squeezeCode(code) {
   const short = code.replace(/([+-])\s+(?=[+-]|=(?!=))|([=!])\s+(?==)/g, "$&@").replace(/\s+/g, " ").replace(/ ?([^\w ]) ?/g, "$1").trim();
   const words = short.replace(/\bstd::/g, "").replace(/\bmemory_order::/g, "memory_order_").replace(/\bATOMIC_FLAG_INIT\b/g, "0");
   if (!words.includes("(")) return words;
-  return words
+  return convertBuiltins(words)
     .replace(/\batomic_ref(?:<[\w ]{0,40}>)?[({](\w+)[)}](?=\.)/g, "$1")
     .replace(/\bATOMIC_VAR_INIT\((\w+)\)/g, "$1")
     .replace(/\b(\w+)(\.|->)(load|store|exchange|fetch_\w+)\(/g, (_, name, sign, method) => `atomic_${method}(${sign === "." ? "&" : ""}${name},`)
@@ -146,6 +146,19 @@ export function squeezeCode(code) {
     .replace(/\b(READ|WRITE)_ONCE\((\*?)/g, (_, macro, star) => `atomic_${macro === "READ" ? "load" : "store"}_relaxed(${star ? "" : "&"}`)
     .replace(/\bsmp_(load_acquire|store_release)\(/g, "atomic_$1(")
     .replace(/\bxchg\(/g, "atomic_exchange(");
+}
+
+/** Returns squeezed code in which functions of gcc and clang that access variables are those of C. */
+function convertBuiltins(code) {
+  if (!code.includes("__")) return code;
+  return code
+    .replace(/\b__ATOMIC_(RELAXED|CONSUME|ACQUIRE|RELEASE|ACQ_REL|SEQ_CST)\b/g, (_, order) => `memory_order_${order.toLowerCase()}`)
+    .replace(/\b__atomic_(load|store|exchange)_n\(/g, "atomic_$1_explicit(")
+    .replace(/\b__atomic_fetch_(add|sub)\(/g, "atomic_fetch_$1_explicit(")
+    .replace(/\b__atomic_(thread|signal)_fence\(/g, "atomic_$1_fence(")
+    .replace(/\b__sync_lock_test_and_set\(/g, "atomic_exchange_acquire(")
+    .replace(/\b__sync_lock_release\((&?\w+)\)/g, "atomic_store_release($1,0)")
+    .replace(/\b__sync_fetch_and_(add|sub)\(/g, "atomic_fetch_$1(");
 }
 
 /** Returns the begin of a call that does to a flag what one of its methods does, up to the mark after the flag. */

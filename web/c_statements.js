@@ -16,7 +16,9 @@ const LOOP = /^(?:else|while|for|do|switch)\b/;
 const SWITCH = /^switch\b/;
 const HEAD = /^\w+\s*(?=\()/;
 // The body of a loop that only waits, in squeezed code: the group is what it assigns.
-const PAUSE = "(?:this_thread::)?\\w{0,40}(?:pause|relax|yield|sleep)\\w{0,40}\\((?:[^();]|\\([^();]*\\))*\\);";
+const PAUSE =
+  '(?:continue;|(?:__)?asm(?:__)? (?:__)?volatile(?:__)?\\("pause"(?::::"memory")?\\);)|' +
+  "(?:this_thread::)?\\w{0,40}(?:pause|relax|yield|sleep)\\w{0,40}\\((?:[^();]|\\([^();]*\\))*\\);";
 const PAUSES = new RegExp(`^\\{?(?:${PAUSE})*`);
 const WAITING = new RegExp(`^\\{?(?:;|(\\w+=[^;{}]+);)?(?:${PAUSE})*\\}?$`);
 // The begin of a loop without a condition, up to the parenthesis of its first `if`; and what leaves it.

@@ -16,7 +16,8 @@ const FENCE = new RegExp(
 );
 const NO_FENCE = new RegExp(
   "^(?:atomic_thread_fence\\(memory_order_(?:relaxed|consume|acquire|release|acq_rel)\\)|atomic_signal_fence\\(memory_order_\\w+\\)|" +
-    `(?:smp_[rw]mb|barrier)\\(\\)|${ASSEMBLY}\\("":::"memory"\\))$`,
+    "(?:smp_[rw]mb|barrier|_mm_[ls]fence|_mm_pause|__builtin_ia32_pause|cpu_relax|sched_yield|(?:this_thread::)?yield)\\(\\)|" +
+    `${ASSEMBLY}\\("":::"memory"\\)|${ASSEMBLY}\\("(?:[ls]fence|pause)"(?::::"memory")?\\))$`,
 );
 const RETURN = /^(?:return\b ?(.*)|pthread_exit\((?:NULL|nullptr|0)\))$/;
 // What a thread returns that has no result.

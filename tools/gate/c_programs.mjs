@@ -134,6 +134,19 @@ const STATEMENTS = [
   ["atomic_thread_fence(memory_order_acq_rel); std::atomic_thread_fence(std::memory_order_release); smp_wmb(); smp_rmb();", "", "smp_wmb();"],
   ["asm volatile (\"mfence\" ::: \"memory\"); __asm__ __volatile__(\"\" : : : \"memory\"); _mm_mfence(); std::atomic_signal_fence(std::memory_order_seq_cst);",
     "MFENCE; MFENCE", "asm volatile(\"mfence\":::\"memory\"); barrier(); _mm_mfence();"],
+  ["_mm_sfence(); v = 1; _mm_lfence(); _mm_pause(); std::this_thread::yield(); asm volatile(\"pause\" ::: \"memory\"); __asm__ __volatile__(\"sfence\" ::: \"memory\");",
+    "MOV [v],$1", "_mm_sfence(); *v = 1; _mm_lfence(); cpu_relax(); sched_yield();"],
+  // What gcc and clang have besides.
+  ["__atomic_store_n(&x, 1, __ATOMIC_RELEASE); __atomic_store_n(&v, 2, __ATOMIC_SEQ_CST); int r0 = __atomic_load_n(&y, __ATOMIC_ACQUIRE);",
+    "MOV [x],$1; MOV EBX,$2; XCHG [v],EBX; MOV EAX,[y]",
+    "__atomic_store_n(x, 1, __ATOMIC_RELEASE); __atomic_store_n(v, 2, __ATOMIC_SEQ_CST); int r0 = __atomic_load_n(y, __ATOMIC_ACQUIRE);"],
+  ["int r0 = __atomic_exchange_n(&x, 1, __ATOMIC_ACQ_REL); int r1 = __atomic_fetch_add(&y, 2, __ATOMIC_RELAXED); __atomic_fetch_sub(&v, 1, __ATOMIC_SEQ_CST);",
+    "MOV EAX,$1; XCHG [x],EAX; MOV EBX,$2; LOCK XADD [y],EBX; MOV ECX,$4294967295; LOCK XADD [v],ECX", null],
+  ["__atomic_thread_fence(__ATOMIC_SEQ_CST); __atomic_thread_fence(__ATOMIC_ACQ_REL); __atomic_signal_fence(__ATOMIC_SEQ_CST); __sync_synchronize();",
+    "MFENCE; MFENCE", "__atomic_thread_fence(__ATOMIC_SEQ_CST); __sync_synchronize();"],
+  ["int r0 = __sync_lock_test_and_set(&v, 1); __sync_lock_release(&v); __sync_fetch_and_add(&x, 3);",
+    "MOV EAX,$1; XCHG [v],EAX; MOV [v],$0; MOV EBX,$3; LOCK XADD [x],EBX",
+    "int r0 = __sync_lock_test_and_set(v, 1); __sync_lock_release(v); __sync_fetch_and_add(x, 3);"],
   // A return at the end.
   ["x = 1; return;", "MOV EAX,$1; XCHG [x],EAX", "*x = 1; return ; "],
   ["return;", "", "return;"],
@@ -350,7 +363,9 @@ const REFUSED = [
   ["x = 1;", "x.exchange(1, std::memory_order_relaxed);", `\`x.exchange(1, std::memory_order_relaxed)\`${OF_ORDER}`],
   ["x = 1;", "x.fetch_add(0, std::memory_order_acquire);", `\`x.fetch_add(0, std::memory_order_acquire..\`${OF_ORDER}`],
   ["x = 1;", "atomic_thread_fence(seq_cst);", `\`atomic_thread_fence(seq_cst)\`${OF_FENCES}`],
-  ["x = 1;", "asm volatile(\"sfence\" ::: \"memory\");", `\`asm volatile("sfence" ::: "memory")\`${OF_FENCES}`],
+  ["x = 1;", "asm volatile(\"nop\" ::: \"memory\");", `\`asm volatile("nop" ::: "memory")\`${OF_FENCES}`],
+  ["x = 1;", "__atomic_store_n(&x, 1, __ATOMIC_ACQUIRE);", `\`__atomic_store_n(&x, 1, __ATOMIC_ACQUIRE..\`${OF_ORDER}`],
+  ["x = 1;", "__atomic_exchange_n(&x, 1, __ATOMIC_RELAXED);", `\`__atomic_exchange_n(&x, 1, __ATOMIC_RELA..\`${OF_ORDER}`],
   ["x = 1;", "d -= y;", `\`d -= y\`${OF_SUBTRACTION}`, "y = 1;", "d = 2;"],
   ["x = 1;", "d += y;", `\`d += y\`${OF_LOADS}`, "y = 1;", "d = 2;"],
   ["x = 1;", "x = d++;", `\`x = d++\`${OF_PLAIN_STEPS}`, "y = 1;", "d = 2;"],
@@ -1066,6 +1081,23 @@ void P1() { std::unique_lock<std::mutex> g(m); x = 1; n++; g.unlock(); x = 2; }
  END:           |              ;
 locations [n]
 exists (0:EAX=0 /\\ 1:EAX=0)
+`],
+  ["no question, and loops that exchange by builtins", `#include <pthread.h>
+volatile int lock; int n;
+void P0(void) { while (__sync_lock_test_and_set(&lock, 1)) { __asm__ __volatile__("pause" ::: "memory"); } n++; __sync_lock_release(&lock); }
+void P1(void) { while (__sync_lock_test_and_set(&lock, 1)) while (lock) continue; n++; __sync_lock_release(&lock); }
+`, `X86 Mine
+(* 0:EAX is lock at its lock, 1:EAX is lock at its lock *)
+{ lock=0; n=0; }
+ P0              | P1              ;
+ MOV EAX,$1      | MOV EAX,$1      ;
+ XCHG [lock],EAX | XCHG [lock],EAX ;
+ MOV EBX,[n]     | MOV EBX,[n]     ;
+ ADD EBX,$1      | ADD EBX,$1      ;
+ MOV [n],EBX     | MOV [n],EBX     ;
+ MOV [lock],$0   | MOV [lock],$0   ;
+locations [lock]
+exists (0:EAX=0 /\\ 1:EAX=0 /\\ ~n=2)
 `],
   ["two questions", `${PROGRAM}/* lw: exists (x=1) */\n`, "`/* lw: exists (x=1) */`: a second comment says what is asked"],
   ["a function without an end", PROGRAM.split("}")[0], "`void P0(void) {`: its `}` is missing"],
