@@ -2,7 +2,8 @@
 // after it has joined them. Not proved.
 //
 // The records `Program`, `CThread` and `Part` are those of c_reader.js, and `Statement` is that of c_statements.js. A statement that joins all
-// threads of an array has the name of this array, `joined`, and the number of them, `count`, if it is a constant.
+// threads of an array has the name of this array, `joined`, and the number of them, `count`, if it is a constant. A loop whose passes are runs
+// `isRepeated`, and has the statements of its `block`.
 // A `Start` has the code by which a thread is joined, its `handle`, as `t1` or `threads[0]`, and the name of its function, which is `started`. It
 // `isJoining` if its handle joins it at the end of a block, or not.
 
@@ -14,7 +15,9 @@ import { OUTPUT, removeStrings, splitOutside, StatementReader } from "./c_statem
 const LAMBDA = /(?<![\w\])])\[([^\][]*)\]\s*(?:\(\s*(?:void\s*)?\)\s*)?(?:mutable\b\s*|->\s*void\b\s*)*\{/;
 const CAPTURES = /^(?:&\w*(?:,&\w+)*)?$/;
 // The patterns that follow are of squeezed code. What changes nothing that threads share, as output does, unless it has an effect.
-const HARMLESS = /^(?:(?:(?:pthread_(?:mutex|spin)|mtx)_(?:init|destroy)|static_assert|\w*sleep\w*|this_thread::\w+|exit|abort|pthread_exit)\(|return\b|\(void\)\w+$|\w+\.(?:reserve|request_stop)\(|$)/;
+const HARMLESS = /^(?:(?:(?:pthread_(?:mutex|spin)|mtx)_(?:init|destroy)|static_assert|\w*sleep\w*|this_thread::\w+|exit|abort|pthread_exit)\(|return\b|\(void\)\w+$|\w+\.(?:reserve|request_stop)\(|break$|$)/;
+// What counts runs: the groups are what it adds to.
+const COUNTED = /^(?:\+\+(\w+)|(\w+)(?:\+\+|\+=1))$/;
 const ENDING = /^(?:return\b|exit\(|abort\()/;
 const EFFECT = /(?<![=!<>])=(?!=)|\+\+|--|exchange|store|fetch_|lambda/;
 // A loop that joins all threads of an array: the groups are this array, or the index and its end; and again the array.
@@ -24,6 +27,8 @@ const JOIN_LOOP = new RegExp(
 );
 // The head of a loop that counts up to a digit: the groups are its index and the digit. And what starts threads in a loop, and joins them.
 const COUNTING = /^for\((?:int|size_t|unsigned|auto) (\w+)=0;\1(?:<|!=)([1-9]);(?:\1\+\+|\+\+\1)\)$/;
+// The head of a loop whose passes are runs.
+const REPEATING = /^(?:for\((?:\w+ )+(\w+)=\d+;(?:\1(?:<=?|!=)[\w']+)?;(?:\1\+\+|\+\+\1|\1\+=1)\)|while\((?:1|true)\)|for\(;;\))$/;
 const STARTING = /\bthread\b|_create\b|_back\b/;
 const JOINING = /\.\s{0,9}join\b|_join\b|\bjthread\b/;
 const JOIN = /^(?:(\w+(?:\[\d+\])?)\.join\(\)|(?:pthread|thrd)_join\((\w+(?:\[\d+\])?),[^,]*\))$/;
@@ -69,7 +74,7 @@ class MainReader extends StatementReader {
     return -1;
   }
 
-  /** Returns the loop here, if it starts or joins the threads of an array. Throws NoTest if it does not. */
+  /** Returns the loop here, if it starts threads, or joins those of an array, or both. Throws NoTest if it does not. */
   readLoop() {
     const { rest } = this;
     const close = findClosing(rest, Math.max(rest.indexOf("("), 0));
@@ -81,8 +86,10 @@ class MainReader extends StatementReader {
     const code = { code: rest.slice(body, end), index: head.index + body };
     this.takePart(end);
     if (found) return { ...head, joined: range ?? called ?? other, count: parseConstant(count ?? "") };
-    if (!index || !STARTING.test(code.code) || JOINING.test(code.code)) refusePart(head, OF_RUNS);
-    return { ...head, block: repeatCode(code, index, Number(times)) };
+    if (!STARTING.test(code.code)) refusePart(head, OF_RUNS);
+    if (index && !JOINING.test(code.code)) return { ...head, block: repeatCode(code, index, Number(times)) };
+    if (!REPEATING.test(squeezeCode(head.code)) || !JOINING.test(code.code)) refusePart(head, OF_RUNS);
+    return { ...head, block: new MainReader(code).readAll(), isRepeated: true };
   }
 }
 
@@ -108,6 +115,8 @@ class MainFollower {
     this.hasJoined = false;
     // Of handles and arrays of them, whether they join threads at the end of their block.
     this.containers = new Map();
+    // The loop whose passes are runs, with the names of variables that it sets before its threads.
+    this.repeated = null;
     // What is asserted, whose parts are all of it, and the question.
     this.asserted = [];
     this.question = null;
@@ -116,6 +125,7 @@ class MainFollower {
   /** Follows statements. Throws NoTest at one that does more than what is rewritten. */
   followStatements(statements) {
     for (const statement of statements) {
+      if (statement.isRepeated) this.repeated = { statement, names: new Set() };
       if (statement.block) this.followBlock(statement.block);
       else if (statement.then) this.followBranch(statement);
       else if (statement.joined) this.joinAll(statement);
@@ -148,7 +158,16 @@ class MainFollower {
   /** Returns whether squeezed code without strings changes nothing that threads share. A function of the program may do so. */
   isHarmless(code) {
     const isOfProgram = this.program.functions.has(/^\w+(?=\()/.exec(code)?.[0]);
+    const [, first, second] = COUNTED.exec(code) ?? [];
+    const counter = first ?? second;
+    if (counter && this.threads.length && !this.isUsed(counter)) return true;
     return (OUTPUT.test(code) || HARMLESS.test(code)) && !EFFECT.test(code) && !isOfProgram;
+  }
+
+  /** Returns whether a function or a lambda has a name. */
+  isUsed(name) {
+    const pattern = new RegExp(`\\b${name}\\b`);
+    return [...this.functions.values()].some((it) => pattern.test(it.code.code));
   }
 
   /** Sets the question to what `format` makes of a condition in a statement. Throws NoTest if threads run, or `main` has asked something else. */
@@ -268,6 +287,7 @@ class MainFollower {
     if (defineName(code, names)) return;
     const declared = parseDeclaration(code);
     if (declared.some((it) => globals.has(it.name))) refusePart(statement, OF_NAMES);
+    for (const it of declared) this.repeated?.names.add(it.name);
     if (declared.length) {
       declareVariables(this.program, globals, statement.code, statement, OF_BEFORE);
       return;
@@ -276,6 +296,7 @@ class MainFollower {
     const word = parseConstant(value);
     if (!globals.has(name) || word === null || (globals.get(name).isBool && word > 1)) refusePart(statement, OF_BEFORE);
     words.set(name, word);
+    this.repeated?.names.add(name);
   }
 }
 
@@ -299,5 +320,5 @@ export function startThreads(program) {
   const [left] = [...follower.running].find(([, isJoining]) => !isJoining) ?? [];
   if (left) refusePart(end, `: \`main\` joins each thread, and not \`${left}\``);
   if (!follower.threads.length) refusePart(end, ": `main` starts no thread, so leave it out");
-  return { ...program, threads: follower.threads, question: question.code ? question : follower.question ?? question };
+  return { ...program, threads: follower.threads, question: question.code ? question : follower.question ?? question, repeated: follower.repeated };
 }

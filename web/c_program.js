@@ -41,6 +41,13 @@ function checkPairs({ words }, writers, accesses) {
   }
 }
 
+/** Throws NoTest for a loop whose passes are runs, unless it sets each variable that its threads change, so that all its passes begin alike. */
+function checkRepeated({ repeated }, writers, accesses) {
+  const written = accesses.filter((it) => it.isWrite && !it.isMutex).map((it) => it.name);
+  const name = [...written, ...writers.flatMap((it) => it.listUnset())].find((it) => repeated && !repeated.names.has(it));
+  if (name) refusePart(repeated.statement, `: its passes begin alike if it sets \`${name}\` before the threads`);
+}
+
 /** Returns the first part of another one that is a name. */
 function locateName({ code, index }, name) {
   return { code: name, index: index + Math.max(code.search(new RegExp(`\\b${name}\\b`)), 0) };
@@ -171,20 +178,25 @@ function writeTest(text) {
   const comment = sites.length ? `(* ${sites.map(({ site, variable }) => `${site} is ${variable}`).join(", ")} *)\n` : "";
   const block = [...program.words].filter(([name]) => used.has(name)).map(([name, word]) => `${name}=${word}; `).join("");
   checkPairs(program, writers, accesses);
+  checkRepeated(program, writers, accesses);
   const ends = writers.flatMap((it) => it.waits);
   const whole = asked || guessQuestion(program, writers, accesses);
   const question = ends.length ? limitQuestion(whole, ends) ?? refusePart(program.question, OF_QUESTION) : whole;
   const list = formatList(question, !asked, accesses, sites.map((it) => it.site));
   const made = alignCells(`X86 ${program.name}\n${comment}{ ${block}}\n${formatRows(writers)}${list}${question}\n`);
-  return { made, isGuess: !asked, races: listRaces(accesses), isWaiting: writers.some((it) => it.isWaiting), isLocking: accesses.some((it) => it.isMutex) };
+  const isWaiting = writers.some((it) => it.isWaiting);
+  const isLocking = accesses.some((it) => it.isMutex);
+  return { made, isGuess: !asked, races: listRaces(accesses), isWaiting, isLocking, isRepeated: Boolean(program.repeated) };
 }
 
 /**
  * Returns the x86 test of a program in C or C++, or of a test of herd in C, and whether its question is a guess, since the program asks nothing; the
- * names of plain variables on which threads race; whether one pass is in place of a loop that waits; and whether a location is in place of a mutex. Or
- * returns why it is not rewritten: a part of it, with its index, and the end of a sentence; or without an index why lw refuses the test.
+ * names of plain variables on which threads race; whether one pass is in place of a loop that waits; whether a location is in place of a mutex; and
+ * whether a run is in place of a loop of them. Or returns why it is not rewritten: a part of it, with its index, and the end of a sentence; or without
+ * an index why lw refuses the test.
  * @param {string} text
- * @returns {{made?: string, isGuess?: boolean, races?: string[], isWaiting?: boolean, isLocking?: boolean, why?: string, index?: number}}
+ * @returns {{made?: string, isGuess?: boolean, races?: string[], isWaiting?: boolean, isLocking?: boolean, isRepeated?: boolean, why?: string,
+ *   index?: number}}
  */
 export function rewriteProgram(text) {
   try {

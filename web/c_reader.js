@@ -2,7 +2,8 @@
 //
 // A `Program` has its `text`, a `name`, the initial `words` of its shared variables by their names, the declarations of those outside of functions in
 // `globals`, the values of its constants by their `names`, the names of its `functions`, its `threads`, and its `question`. It `isHerd`, or not. If it
-// has a `main`, this is a `Part`, and its threads are all other functions until c_main.js has followed it.
+// has a `main`, this is a `Part`, and its threads are all other functions until c_main.js has followed it. If a loop of `main` runs its threads repeatedly,
+// `repeated` has the `statement` of the loop, and the `names` of variables that the loop sets before.
 // A `Part` has its `code`, as the program has it, or "", and its `index` in the text. A question is one; if `main` asks it, it has also the `source`
 // in `main`, which is a part.
 // A `CThread` has a `name`, its `code`, which is a `Part`, the index of its `head`, and the declarations of the shared `variables` that it may use,

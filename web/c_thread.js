@@ -136,6 +136,7 @@ export class ThreadWriter extends ValueWriter {
       this.declareLocal(variable, word ? String(word) : "");
       this.known.add(variable.name);
     }
+    this.firstValues.clear();
     this.writeStatements(readStatements(this.code), true);
     const known = [...this.exits, this.known].reduce(joinPaths, null);
     this.known = new Set([...known].filter((it) => this.locals.has(it)));
@@ -145,6 +146,17 @@ export class ThreadWriter extends ValueWriter {
     if (needed > REGISTERS.X86.length) refusePart({ code: this.name, index: this.head }, OF_REGISTERS);
     this.instructions = this.instructions.map((it) => it.replaceAll(SPARE, REGISTERS.X86[this.registers.length]));
     return this;
+  }
+
+  /** Returns the names of its shared variables with registers that it changes, and whose initial words it may have used before. */
+  listUnset() {
+    const code = replaceNames(this.code.code, this.names);
+    const isSetFirst = (name) => {
+      const pattern = new RegExp(`\\b${name}\\b`);
+      const [first] = code.slice(code.search(pattern)).split(";", 1);
+      return this.firstValues.get(name) && /^\w+\s*=(?!=)/.test(first) && first.split(pattern).length === 2;
+    };
+    return this.own.map((it) => it.name).filter((it) => this.firstValues.has(it) && !isSetFirst(it));
   }
 
   /** Returns a new label. */
@@ -466,6 +478,7 @@ export class ThreadWriter extends ValueWriter {
   assignLocal(name, value) {
     const count = this.accesses.length;
     if (this.fixed.has(name)) this.refuseStatement(OF_FIXED);
+    if (!this.firstValues.has(name)) this.firstValues.set(name, !this.branches.length && !this.exits.length);
     this.writeValue(value, this.findRegister(name));
     this.known.add(name);
     const [access, another] = this.accesses.slice(count);

@@ -107,6 +107,8 @@ export class ValueWriter {
     this.locals = new Set();
     this.bools = new Set();
     this.known = new Set();
+    // Of each variable with a register that is set, whether all runs do the first assignment to it.
+    this.firstValues = new Map();
     // Those that are not set again, since a question asks of the value that they have.
     this.fixed = new Set();
     // The branches around a statement, and the variables that have a value at each `return`.
@@ -200,6 +202,7 @@ export class ValueWriter {
   writeOwnStep({ place, sign, isBefore }, register) {
     const own = this.findRegister(place);
     if (own === register || !this.known.has(place) || this.bools.has(place) || this.fixed.has(place)) this.refuseStatement(OF_STEPS);
+    if (!this.firstValues.has(place)) this.firstValues.set(place, false);
     const step = `ADD ${own},$${toWord(Number(`${sign}1`))}`;
     const copy = `MOV ${register},${own}`;
     for (const instruction of isBefore ? [step, copy] : [copy, step]) this.writeInstruction(instruction);

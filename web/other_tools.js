@@ -29,6 +29,7 @@ const OF_WAITING =
   " A loop that waits is one pass here: states in which it has not ended are in the list, too, and the question leaves them out.";
 const OF_LOCKING =
   " A mutex is a word that `XCHG` takes and gives back: states in which a thread did not get it are in the list, too, and the question leaves them out.";
+const OF_REPEATED = " The loop in `main` is one run here, which is enough, since the page lists all final states.";
 const NOT_ASKED = " The question `true` holds always: look at the list of states.";
 // How programs in Rust, Java and Go begin, what only C++ has, and how a thread in C begins.
 const RUST = /^\s*(?:use\b|fn\b|pub\b|static\s+\w+\s*:|#!?\[)/;
@@ -62,12 +63,18 @@ function explainProgram(words, text, place) {
   const how = `${OF_C}: save this as \`${file}\`, then \`${command}\` prints a test for this page.${form}${once}`;
   const hint = { more: how, document: "from-c.html", command };
   if (RUST.test(text)) return { words: `${words} ${IS_READ}`, ...hint };
-  const { made, isGuess, races, isWaiting, isLocking, why, index } = rewriteProgram(text);
-  if (!made) return { words: explainRefusedProgram(text, why, index), ...hint, at: findPart(place.text, text, index) };
-  place.proposeChange(made, 0, place.text.length);
+  const test = rewriteProgram(text);
+  if (!test.made) return { words: explainRefusedProgram(text, test.why, test.index), ...hint, at: findPart(place.text, text, test.index) };
+  place.proposeChange(test.made, 0, place.text.length);
   Object.assign(place.change, { title: "Rewrite it as an x86 test", done: "Rewritten." });
+  return { words: `${words} ${OF_BUTTON}${explainMade(test)}`, ...hint };
+}
+
+/** Returns sentences on what a test has in place of parts of its program, and on its question. */
+function explainMade({ made, isGuess, races, isWaiting, isLocking, isRepeated }) {
+  const parts = [[isWaiting, OF_WAITING], [isLocking, OF_LOCKING], [isRepeated, OF_REPEATED]];
   const question = made.endsWith("(true)\n") ? NOT_ASKED : isGuess ? OF_GUESS : "";
-  return { words: `${words} ${OF_BUTTON}${explainRaces(races)}${isWaiting ? OF_WAITING : ""}${isLocking ? OF_LOCKING : ""}${question}`, ...hint };
+  return `${explainRaces(races)}${parts.map(([isSo, sentence]) => (isSo ? sentence : "")).join("")}${question}`;
 }
 
 /** Returns a sentence on plain variables, if there are some, on which threads race in a program; or "". */

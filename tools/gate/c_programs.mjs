@@ -203,6 +203,16 @@ const MAINS = [
   ["std::atomic<int> x;\n", `std::vector<std::thread> ts; for (int n = 0; n != 3; ++n) ts.emplace_back([&] { x++; }); for (auto& t : ts) t.join();`,
     Array(3).fill("MOV EAX,$1; LOCK XADD [x],EAX"), "exists (true)"],
   ["atomic_int x;\nvoid f() { x++; }\n", `std::thread a(f), b(f); a.join(); b.join(); assert(x == 2);`, Array(2).fill("MOV EAX,$1; LOCK XADD [x],EAX"), "forall (x=2)"],
+  [ATOMICS, `int n = 0; for (int i = 0; i < 100000; i++) { x = 0; y.store(0); ${TWO_THREADS} ${JOINS} if (r1 == 0 && r2 == 0) ++n; } printf("%d", n);`,
+    STORE_THEN_LOAD, BOTH_0],
+  [ATOMICS + FUNCTIONS, `int n = 0; for (size_t i = 1;; ++i) { x = 2; y = 0; r1 = 0; pthread_t a, b; pthread_create(&a, NULL, writer, NULL);
+  pthread_create(&b, NULL, reader, NULL); pthread_join(a, NULL); pthread_join(b, NULL); if (!r1 && !r2) { n += 1; printf("%d", i); break; } n++; }`,
+    STORE_THEN_LOAD, BOTH_0],
+  [ATOMICS, `while (true) { x = 0; y = 0; ${TWO_THREADS} ${JOINS} assert(r1 || r2); }`, STORE_THEN_LOAD, NEVER],
+  ["std::mutex m; int n; int r1;\n", `for (;;) { n = 0; std::thread a([&] { m.lock(); n++; m.unlock(); }), b([&] { std::scoped_lock g(m); n++; r1 = 2; }); a.join(); b.join(); }`,
+    ["MOV EAX,$1; XCHG [m],EAX; MOV EBX,[n]; ADD EBX,$1; MOV [n],EBX; MOV EBX,$0; XCHG [m],EBX",
+      "MOV EAX,$1; XCHG [m],EAX; MOV ECX,[n]; ADD ECX,$1; MOV [n],ECX; MOV EBX,$2; MOV ECX,$0; XCHG [m],ECX"],
+    "exists (0:EAX=0 /\\ 1:EAX=0 /\\ ~n=2)"],
   [`${ATOMICS}// lw: exists (r1=7)\n`, `${TWO_THREADS} ${JOINS} assert(r1 == 0);`, STORE_THEN_LOAD, "exists (0:EAX=7)"],
 ];
 // What is refused in a `main`: a part of the program, what is in its place, and why.
@@ -217,9 +227,11 @@ const OF_RUNNING = ": while threads run, `main` only starts others and joins the
 const OF_BEFORE = ": before its threads, `main` only declares variables, and sets them to constants, as `x = 0;`";
 const OF_RUNS = ": one run is enough, since the page lists all final states";
 const OF_FORMULAS = ": what `main` asks compares variables with constants by `==` or `!=`, joined by `&&` and `||`";
+const makeUnset = (name) => `: its passes begin alike if it sets \`${name}\` before the threads`;
 const REFUSED_MAINS = [
   ["  std::thread t1", "  for (int i = 0; i < 9; i++) {} std::thread t1", `\`for (int i = 0; i < 9; i++)\`${OF_RUNS}`],
   ["  std::thread t1", "  for (;;) {} std::thread t1", `\`for (;;)\`${OF_RUNS}`],
+  ["  assert", "  r1++; assert", "`r1++`: after the joins, `main` only prints, or asks by an `assert` or an `if`"],
   ["  std::thread t1", "  int i = y; std::thread t1", "`int i = y`: an initial value is one constant, as in `x = 1` or `x{1}`, and of a `bool` 0 or 1"],
   ["  std::thread t1", "  x++; std::thread t1", `\`x++\`${OF_BEFORE}`],
   ["  std::thread t1", "  int r1; std::thread t1", "`int r1`: give it a name that no other variable has"],
@@ -244,6 +256,16 @@ const REFUSED_MAINS = [
   ["r1 == 1 ||", "r1 = 1 ||", `\`assert(r1 = 1 || r2 == 1)\`${OF_FORMULAS}`],
   ["r1 == 1 ||", "r3 == 1 ||", "`r3`, of which the question asks: nothing sets it"],
   ["x.store", "x.exchange", "`x.exchange(1, std::memory_order_relaxed)`, of which compilers make different code"],
+];
+
+// What is refused in a loop of runs: the same.
+const RUNS = MAIN.replace("  std::thread t1", "  while (1) { x = 0; y = 0; std::thread t1").replace("  assert", "  } assert");
+const REFUSED_RUNS = [
+  ["y = 0;", "", `\`while (1)\`${makeUnset("y")}`], ["r1 =", "if (x) r1 =", `\`while (1)\`${makeUnset("r1")}`],
+  ["r1 =", "r1 +=", `\`while (1)\`${makeUnset("r1")}`], ["r1 =", "x = r1++; r1 =", `\`while (1)\`${makeUnset("r1")}`],
+  ["r1 =", "r1 = r1 + 1; r1 =", `\`while (1)\`${makeUnset("r1")}`], ["r2 =", "if (x) return; r2 =", `\`while (1)\`${makeUnset("r2")}`],
+  ["while (1)", "for (int i = 0; i < y; i += 2)", `\`for (int i = 0; i < y; i += 2)\`${OF_RUNS}`],
+  ["while (1) { x = 0", "for (int i = 0; i < 9; i++) { x = i", `\`x = i\`${OF_BEFORE}`],
 ];
 
 // What is refused: a part of a program and what is in its place, and why.
@@ -468,7 +490,7 @@ const PLACES = [
   ["constexpr int N = ", ";\n"], ["struct { ", " } s;\n"], ["void f() { while (x) ; }\nexists (", ""],
   ["void f() { while (x && ", ") ; }"], ["void f() { while (x.exchange(1)) while (", ") ; }"], ["void f() { for (;;) { if (", ") break; } }"],
   ["void f() { while (true) { if (x) break; ", " } }"], ["int a[2] = {", "};\n"], ["std::mutex ", ";\n"], ["void f() { std::scoped_lock g(", "); }"],
-  ["void f() { x[", "] = 1; }"],
+  ["void f() { x[", "] = 1; }"], ["int main() { for (;;) { ", " std::thread t(f); t.join(); } }"],
 ];
 const SLOWEST = 2000;
 
@@ -516,8 +538,9 @@ function compareMains(page, compare) {
     const { made, why } = rewriteProgram(`${before}int main() { ${code} }\n`);
     compare(`main: ${code}`, [...threads, question, true], made ? [...threads.map((_, at) => listInstructions(made, at)), findQuestion(made), page.other_tools.isRead(made)] : [why]);
   }
-  for (const [part, wrong, why, second, third] of REFUSED_MAINS) {
-    const program = MAIN.replace(part, () => wrong).replace(second ?? "", () => third ?? "");
+  const refused = [...REFUSED_MAINS.map((it) => [MAIN, ...it]), ...REFUSED_RUNS.map((it) => [RUNS, ...it])];
+  for (const [whole, part, wrong, why, second, third] of refused) {
+    const program = whole.replace(part, () => wrong).replace(second ?? "", () => third ?? "");
     const found = rewriteProgram(program);
     compare(`what is refused in main: ${wrong}`, [why, true], [found.why ?? found.made, isAt(program, found)]);
   }
@@ -1193,6 +1216,8 @@ const HINTS = [
     `${WOULD_IN_CPP} but not \`while (x->exchange(2) == 1)\`${OF_LOOPS}.`, "Its first word is `C` then.", [4, 61]],
   ["a mutex", "std::mutex m; int n;\nvoid P0() { m.lock(); n++; m.unlock(); }\nvoid P1() { m.lock(); n++; m.unlock(); }\n",
     `${BEGIN}${BUTTON}${makePlain("`n` is")}it.${LOCKS}${GUESS}`, "does."],
+  ["a loop of runs", `std::atomic<int> x; int r;\nint main() { int n = 0; while (1) { x = 0; std::thread a([&] { x = 1; }), b([&] { r = x; }); a.join(); b.join(); if (!r) n++; } }\n`,
+    `${BEGIN}${BUTTON} The loop in \`main\` is one run here, which is enough, since the page lists all final states.`, "does."],
   ["a loop that waits, and a plain variable", LOOP.replace("x = 1;", "d = 1;").replace("y = 1;", "y = d;"),
     `${BEGIN}${BUTTON}${makePlain("`d` is")}it.${WAITS}${GUESS}`, "does."],
   ["three plain variables", "int x, y, z;\nvoid P0() { x = 1; y = 1; z = 1; }\nvoid P1() { x = 2; y = 2; z = 2; }\n// lw: exists (x=1)\n",
