@@ -294,7 +294,7 @@ class MainFollower {
     }
     const [, name, value] = ASSIGNMENT.exec(code) ?? INITIAL_STORE.exec(code) ?? refusePart(statement, OF_BEFORE);
     const word = parseConstant(value);
-    if (!globals.has(name) || word === null || (globals.get(name).isBool && word > 1)) refusePart(statement, OF_BEFORE);
+    if (!globals.has(name) || word === null || word >= globals.get(name).limit) refusePart(statement, OF_BEFORE);
     words.set(name, word);
     this.repeated?.names.add(name);
   }

@@ -18,6 +18,10 @@ const OF_PATHS = "declare it outside of blocks, with a value, as `int r0 = 0`";
 const OF_ASKED = ": the program asks something else, so leave this out";
 const OF_ENDLESS = ": a loop that waits need not end before this, so assert it at the end of `main`";
 const OF_QUESTION = ": a question is `exists (..)`, `~exists (..)` or `forall (..)`";
+const OF_WIDE = ": the page takes words of 64 bits as words of 32, which sums or constants of this program may exceed";
+// A type of 64 bits, which is the group, and one of 32 without a sign.
+const WIDE_TYPE = /\b((?:atomic_)?(?:u?l?long|s?size_t|u?int(?:64|ptr)_t))\b/;
+const UNSIGNED = /\bunsigned\b(?!\s+(?:long|char|short))|\b(?:atomic_)?uint(?:32_t)?\b/;
 const OF_PAIRS = ": a loop that exchanges needs a variable that is only set to the constant that it writes, and to the one at which it ends";
 // A name in a question: the groups are the number of a thread before it, and the name. And those that are words of the question itself.
 const NAME = /(?<!\w)(?:P?(\d)\s*:\s*)?([A-Za-z_]\w*)/g;
@@ -39,6 +43,32 @@ function checkPairs({ words }, writers, accesses) {
     const written = accesses.filter((it) => it.isWrite && it.name === name).map((it) => it.word);
     if ([words.get(name), ...written].some((it) => !pair.includes(it))) refusePart(statement, OF_PAIRS);
   }
+}
+
+/** Returns the greatest magnitude of words that threads may have, if each instruction is executed once: sums come first, and then doublings. */
+function boundWords(instructions, words) {
+  const toMagnitude = (word) => Math.min(word, WORD - word);
+  const constants = [...words, ...instructions.flatMap((it) => [...it.matchAll(/\$(\d+)/g)].map(([, digits]) => Number(digits)))];
+  const before = instructions.map((it, at) => [it, instructions[at - 1] ?? ""]);
+  const sums = before.filter(([it]) => /\b(?:ADD|XADD) /.test(it));
+  const doublings = sums.filter(([it, last]) => !/ADD \w+,\$\d+$/.test(it) && !(/XADD/.test(it) && /MOV \w+,\$\d+$/.test(last))).length;
+  return Math.max(0, ...constants.map(toMagnitude)) * (1 + sums.length - doublings) * 2 ** doublings;
+}
+
+/** Returns whether a program has words of 64 bits, in place of which are words of 32. Throws NoTest if one of them may not be such a word. */
+function checkWide({ text, words }, writers, used) {
+  const isWideUse = (writer) => writer.isWide || [...writer.variables.values()].some((it) => it.isWide && used.has(it.name));
+  if (!writers.some(isWideUse)) return false;
+  const instructions = writers.flatMap((it) => it.instructions);
+  const initial = [...used].map((it) => words.get(it) ?? 0);
+  const isNegative = instructions.some((it) => /\$\d{10}/.test(it)) || initial.some((it) => it >= WORD / 2);
+  const hasLong = (text.match(/\b(?:0x[\da-f]+|\d+)/gi) ?? []).some((it) => Number(it) >= WORD / 2);
+  const isMixed = isNegative && UNSIGNED.test(text);
+  if (hasLong || isMixed || boundWords(instructions, initial) >= WORD / 2) {
+    const [, type] = WIDE_TYPE.exec(text);
+    refusePart(locateName({ code: text, index: 0 }, type), OF_WIDE);
+  }
+  return true;
 }
 
 /** Throws NoTest for a loop whose passes are runs, unless it sets each variable that its threads change, so that all its passes begin alike. */
@@ -184,18 +214,19 @@ function writeTest(text) {
   const question = ends.length ? limitQuestion(whole, ends) ?? refusePart(program.question, OF_QUESTION) : whole;
   const list = formatList(question, !asked, accesses, sites.map((it) => it.site));
   const made = alignCells(`X86 ${program.name}\n${comment}{ ${block}}\n${formatRows(writers)}${list}${question}\n`);
+  const isWide = checkWide(program, writers, used);
   const isWaiting = writers.some((it) => it.isWaiting);
   const isLocking = accesses.some((it) => it.isMutex);
-  return { made, isGuess: !asked, races: listRaces(accesses), isWaiting, isLocking, isRepeated: Boolean(program.repeated) };
+  return { made, isGuess: !asked, races: listRaces(accesses), isWaiting, isLocking, isWide, isRepeated: Boolean(program.repeated) };
 }
 
 /**
  * Returns the x86 test of a program in C or C++, or of a test of herd in C, and whether its question is a guess, since the program asks nothing; the
- * names of plain variables on which threads race; whether one pass is in place of a loop that waits; whether a location is in place of a mutex; and
- * whether a run is in place of a loop of them. Or returns why it is not rewritten: a part of it, with its index, and the end of a sentence; or without
+ * names of plain variables on which threads race; whether one pass is in place of a loop that waits; whether a location is in place of a mutex;
+ * whether words of 32 bits are in place of those of 64; and whether a run is in place of a loop of them. Or returns why it is not rewritten: a part of it, with its index, and the end of a sentence; or without
  * an index why lw refuses the test.
  * @param {string} text
- * @returns {{made?: string, isGuess?: boolean, races?: string[], isWaiting?: boolean, isLocking?: boolean, isRepeated?: boolean, why?: string,
+ * @returns {{made?: string, isGuess?: boolean, races?: string[], isWaiting?: boolean, isLocking?: boolean, isWide?: boolean, isRepeated?: boolean, why?: string,
  *   index?: number}}
  */
 export function rewriteProgram(text) {

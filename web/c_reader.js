@@ -10,8 +10,8 @@
 // by their names. It has its `whole` part, and the code of its `parameters`. It `returnsWord`, or not, and `isStarted` by `main`,
 // or not.
 // A member of a structure is a variable, and the name of its object is in its own, as `s_x` for `s.x`.
-// A `Declaration` has the `name` of a variable, and the code of its initial `value`, if it has one. It `isPointer`, or not; if it `isBool`, it holds
-// 0 and 1 only. The `element` is the code of a word of an array, as `a[0]`. The `order` is that of the operators on it: seq_cst if it is atomic, relaxed if it is volatile,
+// A `Declaration` has the `name` of a variable, and the code of its initial `value`, if it has one. It `isPointer`, or not. Its words
+// are below its `limit`, which is 2 for a `bool`. It `isWide` if it has 64 bits, or not. The `element` is the code of a word of an array, as `a[0]`. The `order` is that of the operators on it: seq_cst if it is atomic, relaxed if it is volatile,
 // mutex if it is one, and otherwise plain.
 
 import { WORD } from "./token_reader.js";
@@ -40,13 +40,13 @@ const PARAMETERS = /^\s*(?:void\s*(?:\*\s*(\w*)\s*)?)?$/;
 const PROTOTYPE = /^(?:\w+[\s*]+)+\w+\s*\([^(){};]*\)\s*;/;
 // A macro: the groups are its name, unless it has parameters, and its text. And a constant of C++ or C, with its name and its value.
 const MACRO = /^#[ \t]*define\b(?:[ \t]+(\w+)(?![\w(])[ \t]*(.*)|.*)/;
-const CONSTANT = /^(?:(?:static|inline)\s+)*(?:constexpr|const)\s+(?:auto|(?:unsigned\s+)?int|u?int32_t|(?:std::)?memory_order)\s+(\w+)\s*[={]\s*([\w:]+)\s*\}?\s*;/;
+const CONSTANT = /^(?:(?:static|inline)\s+)*(?:constexpr|const)\s+(?:auto|(?:(?:unsigned|int|long|short|char)\b\s*){1,3}|bool|s?size_t|u?int\d+_t|(?:std::)?memory_order)\s+(\w+)\s*[={]\s*([\w:]+)\s*\}?\s*;/;
 const ORDER = /^memory_order_\w+$/;
 // What gives names. In squeezed code, a name for an order of memory, for a constant, and for a reference by which a variable is atomic: the groups are
 // its name, and what it is of.
 const NAMING = /\b(?:atomic_ref|memory_order)/;
 const NAMED_ORDER = /^(?:static |const |constexpr )*(?:auto|memory_order) (\w+)[={](memory_order_\w+)\}?$/;
-const NAMED_WORD = /^(?:static |const )*constexpr (?:const )?(?:auto|int|unsigned(?: int)?|u?int32_t) (\w+)[={](\w+)\}?$/;
+const NAMED_WORD = /^(?:static |const )*constexpr (?:const )?(?:auto|bool|int|long|unsigned(?: int| long)?|s?size_t|u?int\d+_t) (\w+)[={](\w+)\}?$/;
 const REFERENCE = /^(?:static |const )*(?:atomic_ref(?:<[\w ]{0,40}>| )(\w+)|auto (\w+)=atomic_ref(?:<[\w ]{0,40}>)?)[({](\w+)[)}]$/;
 // The begin of a block of declarations.
 const SPACE = /^(?:(?:inline\s+)?namespace(?:\s+[\w:]+)?|extern\s+"C")\s*\{/;
@@ -65,7 +65,14 @@ const STATEMENT = /^[^;]*;/;
 const QUESTION = /^(?:~|exists|forall|locations)/;
 // A declaration in squeezed code: the groups are its type, a `*`, and its variables.
 const DECLARATION =
-  /^((?:(?:static|extern|inline|const|volatile|auto|(?:un)?signed|int|u?int32_t|_?[Bb]ool|_Atomic|atomic(?:_u?int|_bool|_flag)?)\b ?|[<>()])+)(\*?)([A-Za-z_].*)$/;
+  new RegExp(
+    "^((?:(?:static|extern|inline|const|volatile|auto|(?:un)?signed|int|long|short|char|s?size_t|u?int(?:8|16|32|64|ptr)_t|_?[Bb]ool|_Atomic|" +
+      "atomic(?:_(?:u?int(?:(?:8|16|32|64|ptr)_t)?|bool|flag|u?l?long|[us]?char|u?short|size_t))?)\\b ?|[<>()])+)(\\*?)([A-Za-z_].*)$",
+  );
+// In such a type, what has 64 bits, and what has 8 or 16. Words of the latter are below a limit, so that their signs do not matter.
+export const WIDE = /(?:^|\W|_)(?:u?l?long|s?size_t|u?int(?:64|ptr)_t)\b/;
+const SMALL = /(?:^|\W|_)(?:[us]?char|u?short|u?int(?:8|16)_t)\b/;
+const SMALL_LIMIT = 128;
 // A variable in a declaration: the groups are its name, and its initial value after `=`, or in braces or parentheses.
 const DECLARATOR = /^(\w+(?:\[\d\](?==))?)(?:=(?!\{)(.+)|=?[{(](.*)[})])?$/;
 // A declaration of mutexes in squeezed code: the group is their names. And an array in a declaration: the groups are its name, the number of its
@@ -75,13 +82,13 @@ const ARRAY = /^(\w+)\[([1-9])\](?:=?\{(.*)\})?$/;
 // A comma between two variables, which is in no parentheses and braces.
 const SEPARATOR = /,(?![^({]*[)}])/;
 // A constant of C that is in base 10 or 16. (One in base 8 is none here.)
-const CONSTANT_OF_C = /^(-?[1-9]\d*|0|0x[\da-f]+)u?$/i;
+const CONSTANT_OF_C = /^(-?[1-9]\d*|0|0x[\da-f]+)(?:ul{0,2}|l{1,2}u?)?$/i;
 // A part that is long: the group is what is shown of it.
 const LONG = /^(.{40}).+/;
 // What a program has in place of a part that is refused.
 const OF_HEADING = ": a test begins with `C`, its name, and its initial values in braces";
 const OF_ENTRIES = ": initial values are entries as `x=1;`";
-const OF_GLOBALS = ": outside of threads are only declarations of 32-bit integers and `bool`, as `atomic_int x = 1;`";
+const OF_GLOBALS = ": outside of threads are only declarations of integers and `bool`, as `atomic_int x = 1;`";
 const OF_PARAMETERS = ": a parameter is a pointer to 32 bits, as `atomic_int *x`";
 const OF_VALUES = ": an initial value is one constant, as in `x = 1` or `x{1}`, and of a `bool` 0 or 1";
 const OF_LONE = ": give it a name that no other variable has";
@@ -230,16 +237,16 @@ export function parseConstant(code) {
  */
 export function parseDeclaration(code) {
   const [, mutexes] = MUTEXES.exec(code) ?? [];
-  if (mutexes) return mutexes.split(",").map((name) => ({ name, value: undefined, isPointer: false, isBool: true, order: "mutex" }));
+  if (mutexes) return mutexes.split(",").map((name) => ({ name, value: undefined, isPointer: false, limit: 2, isWide: false, order: "mutex" }));
   const [, type, star, variables = ""] = DECLARATION.exec(code) ?? [];
   const list = variables.includes("[") ? listElements(variables) : variables.split(SEPARATOR);
   const declarators = list.map((it) => DECLARATOR.exec(it));
   if (!declarators.every(Boolean)) return [];
   const order = /atomic/i.test(type) ? "seq_cst" : type.includes("volatile") ? "relaxed" : "plain";
-  const isBool = /bool|_flag/i.test(type);
+  const limit = /bool|_flag/i.test(type) ? 2 : SMALL.test(type) ? SMALL_LIMIT : WORD;
   return declarators.map(([, place, value, inner]) => {
     const [name, element] = place.endsWith("]") ? [place.replace("[", "_").slice(0, -1), place] : [place];
-    return { name, element, value: value ?? inner, isPointer: star !== "", isBool, order };
+    return { name, element, value: value ?? inner, isPointer: star !== "", limit, isWide: WIDE.test(type), order };
   });
 }
 
@@ -362,7 +369,7 @@ class ProgramReader {
       if (!declared.length || declared.some((it) => it.isPointer || it.element)) refusePart(shown, OF_GLOBALS);
       for (const { name, value, ...others } of declared) {
         const [joined, word] = [`${object}_${name}`, value ? parseConstant(value) : 0];
-        if (word === null || (others.isBool && word > 1)) refusePart(shown, OF_VALUES);
+        if (word === null || word >= others.limit) refusePart(shown, OF_VALUES);
         if (this.globals.has(joined)) refusePart(shown, OF_LONE);
         this.words.set(joined, word);
         this.globals.set(joined, { name: joined, value, ...others });
@@ -440,9 +447,9 @@ export function declareVariables({ words, names, isHerd }, variables, code, show
   const declared = parseDeclaration(squeezeCode(replaceNames(code, names)));
   if (!declared.length || declared[0].isPointer !== isHerd) refusePart(shown, why);
   for (const variable of declared) {
-    const { name, element, value, isBool } = variable;
+    const { name, element, value, limit } = variable;
     const word = value ? parseConstant(value) : words.get(name) ?? 0;
-    if (word === null || (isBool && word > 1)) refusePart(shown, OF_VALUES);
+    if (word === null || word >= limit) refusePart(shown, OF_VALUES);
     if (variables.has(name) && (element || variables.get(name).element)) refusePart(shown, OF_LONE);
     if (element) names.set(element, name);
     words.set(name, word);

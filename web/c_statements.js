@@ -44,7 +44,7 @@ const REASONS = [
   [/\blw_see\b/, ": the question names the variable itself, as `0:r0`"],
   [/\?/, ": write an `if`"],
   [COMPARISON, ": compare in the condition of an `if`"],
-  [/^(?:const )?(?:char|short|long|float|double|s?size_t|u?int(?:8|16|64)_t)\b/, ": a variable has 32 bits, as `int r0`"],
+  [/^(?:const )?(?:float|double|string)\b/, ": a variable is an integer, as `int r0`"],
   [/\w\[/, ": an array is shared, and its indices are constants in it, as `a[0]`"],
   [/^\w+ ?\*|&(?=\w+$)/, ": threads have no pointers of their own"],
   [/^\w+:|^goto\b/, ": `goto` and labels are not rewritten"],

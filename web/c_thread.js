@@ -5,8 +5,8 @@
 import { mapAtoms, negateFormula, parseFormula } from "./c_question.js";
 import { defineName, parseConstant, parseDeclaration, refusePart, replaceNames } from "./c_reader.js";
 import { OF_CONDITIONS, OF_FUNCTIONS, OF_LOOPS, OUTPUT, parseCondition, readStatements, removeStrings, splitOutside } from "./c_statements.js";
-import { isTruth, OF_BOOLS, OF_LOADS, OF_REGISTERS, OF_STEPS, OF_SUBTRACTION, parseStep, SPARE, ValueWriter } from "./c_values.js";
-import { REGISTERS } from "./token_reader.js";
+import { explainLimit, isBelow, OF_LOADS, OF_REGISTERS, OF_STEPS, OF_SUBTRACTION, parseStep, SPARE, ValueWriter } from "./c_values.js";
+import { REGISTERS, WORD } from "./token_reader.js";
 
 // The patterns are of squeezed code. First fences, and those of which x86 code has none.
 const ASSEMBLY = "(?:__)?asm(?:__)? (?:__)?volatile(?:__)?";
@@ -84,8 +84,8 @@ function isTrueOfZeros({ sign, parts, word, isEqual }) {
 }
 
 /** Returns an atom that says of a `bool` which of the two words it is, and not which it is not. */
-function normalizeAtom({ name, word, isEqual, isBool }) {
-  const isOther = isBool && !isEqual && word < 2;
+function normalizeAtom({ name, word, isEqual, limit }) {
+  const isOther = limit === 2 && !isEqual && word < 2;
   return { name, word: isOther ? 1 - word : word, isEqual: isEqual || isOther };
 }
 
@@ -112,6 +112,7 @@ export class ThreadWriter extends ValueWriter {
     const isOwn = (variable) => isUsed(variable, codes[number]) && codes.filter((it) => isUsed(variable, it)).length === 1;
     this.own = [...variables.values()].filter((it) => it.order === "plain" && !it.isPointer && isOwn(it.name));
     if (returnsWord) this.locals.add(RESULT);
+    this.isWide = false;
     // How many labels there are, and the variable that was loaded last.
     this.labelCount = 0;
     this.loaded = null;
@@ -202,7 +203,7 @@ export class ThreadWriter extends ValueWriter {
 
   /** Writes the exchange of a mutex with a word. */
   writeExchange(name, word, register) {
-    this.accesses.push({ thread: this.number, name, isPlain: false, isRead: true, isWrite: true, isBool: true, isMutex: true, word, added: null });
+    this.accesses.push({ thread: this.number, name, isPlain: false, isRead: true, isWrite: true, limit: 2, isMutex: true, word, added: null });
     this.writeInstruction(`MOV ${register},$${word}`);
     this.writeInstruction(`XCHG [${name}],${register}`);
   }
@@ -230,7 +231,7 @@ export class ThreadWriter extends ValueWriter {
     this.writeStatements(statements, isLast);
     for (const name of this.locals) {
       if (outer.has(name)) continue;
-      [this.locals, this.bools, this.known].forEach((it) => it?.delete(name));
+      [this.locals, this.limits, this.known].forEach((it) => it?.delete(name));
     }
   }
 
@@ -305,9 +306,9 @@ export class ThreadWriter extends ValueWriter {
     const variable = place ?? (number > 1 ? this.nameVariable(name, "after loop", number) : this.nameVariable(name, "after its loop"));
     this.assignLocal(variable, load);
     this.fixed.add(variable);
-    const { isPlain, isBool } = this.accesses.at(-1);
+    const { isPlain, limit } = this.accesses.at(-1);
     if (isPlain) this.refuseStatement(OF_PLAIN_LOOPS);
-    return { name: this.makeSite(variable), word, isEqual, isBool };
+    return { name: this.makeSite(variable), word, isEqual, limit };
   }
 
   /** Writes the load of a loop that compares one load with a constant. Returns the formula of its end. */
@@ -363,7 +364,7 @@ export class ThreadWriter extends ValueWriter {
     const variable = this.nameVariable(operation.name, "at its lock");
     this.writeOperation(operation, this.findRegister(variable));
     if (!isEqual) this.pairs.push({ statement: this.statement, name: operation.name, words: [word, last] });
-    return negateAtom({ name: this.makeSite(variable), word: last, isEqual, isBool: this.accesses.at(-1).isBool });
+    return negateAtom({ name: this.makeSite(variable), word: last, isEqual, limit: this.accesses.at(-1).limit });
   }
 
   /**
@@ -448,9 +449,10 @@ export class ThreadWriter extends ValueWriter {
   }
 
   /** Declares a variable that has a register, and assigns the code of its initial value, unless that is empty. */
-  declareLocal({ name, isBool }, value) {
+  declareLocal({ name, limit, isWide }, value) {
     this.locals.add(name);
-    if (isBool) this.bools.add(name);
+    if (limit < WORD) this.limits.set(name, limit);
+    if (isWide) this.isWide = true;
     if (value) this.assignLocal(name, value);
   }
 
@@ -474,7 +476,7 @@ export class ThreadWriter extends ValueWriter {
     else this.assignLocal(place, sign ? `${place}${sign}@${value}` : value);
   }
 
-  /** Writes the instructions that set a variable with a register. Throws NoTest if it holds 0 and 1 only, and the value may be another one. */
+  /** Writes the instructions that set a variable with a register. Throws NoTest if its words are below a limit, and the value may not be. */
   assignLocal(name, value) {
     const count = this.accesses.length;
     if (this.fixed.has(name)) this.refuseStatement(OF_FIXED);
@@ -482,8 +484,9 @@ export class ThreadWriter extends ValueWriter {
     this.writeValue(value, this.findRegister(name));
     this.known.add(name);
     const [access, another] = this.accesses.slice(count);
-    const isLoaded = access?.isBool && !another && !/^(?:\w+: )*ADD\b/.test(this.instructions.at(-1));
-    if (this.bools.has(name) && !isLoaded && !isTruth(value)) this.refuseStatement(OF_BOOLS);
+    const limit = this.limits.get(name) ?? WORD;
+    const isLoaded = access?.limit <= limit && !another && !/^(?:\w+: )*ADD\b/.test(this.instructions.at(-1));
+    if (limit < WORD && !isLoaded && !isBelow(limit, value)) this.refuseStatement(explainLimit(limit));
     if (access && !access.isWrite) Object.assign(this, { loaded: name, loadedBranches: [...this.branches] });
   }
 }

@@ -4,7 +4,7 @@
 // An `Operation` has its `kind` (load, store, exchange, fetch_add or fetch_sub), its `order`, the `name` of a shared variable, which `isPointer` if
 // the code uses it as one, and the code of the `value` that it stores or adds, or "".
 // An `Access` has the number of its `thread`, and the `name` of its location. It `isPlain`, `isRead` if its result is used, and `isWrite`, or not, and
-// the location `isBool`, or not. The `word` is the constant that it writes, or null, and
+// its words are below the `limit`. The `word` is the constant that it writes, or null, and
 // `added` the constant that it adds, or null. It `isLocked` if its load and its store are one instruction. It `isSure` if all runs of its thread do it.
 
 import { parseConstant, refusePart, replaceNames, squeezeCode } from "./c_reader.js";
@@ -36,18 +36,30 @@ export const OF_STEPS = ": write `++` and `--` of a thread's own variable in a s
 const OF_PLAIN_STEPS = ": write `++` and `--` of a variable that is not atomic in a statement of its own";
 /** Why a difference is refused, as the end of a sentence. */
 export const OF_SUBTRACTION = ": the x86 format subtracts constants only";
-/** Why a value of a `bool` is refused, as the end of a sentence. */
-export const OF_BOOLS = ": a `bool` is set to `true`, `false`, or another `bool` that is loaded";
+// Why a value of a `bool` and of a variable of few bits is refused.
+const OF_BOOLS = ": a `bool` is set to `true`, `false`, or another `bool` that is loaded";
+const OF_SMALL = ": a variable of 8 or 16 bits is set to a constant from 0 to 127, or to another one that is loaded";
 /** What is in place of a register that no variable of its thread has, until all variables have theirs. */
 export const SPARE = "?";
 
 /**
- * Returns whether code is the constant 0 or 1.
+ * Returns whether code is a constant below a limit.
+ * @param {number} limit
  * @param {string} code
  * @returns {boolean}
  */
-export function isTruth(code) {
-  return parseConstant(code) === 0 || parseConstant(code) === 1;
+export function isBelow(limit, code) {
+  const word = parseConstant(code);
+  return word !== null && word < limit;
+}
+
+/**
+ * Returns why a variable is refused whose words would not be below a limit, as the end of a sentence.
+ * @param {number} limit
+ * @returns {string}
+ */
+export function explainLimit(limit) {
+  return limit === 2 ? OF_BOOLS : OF_SMALL;
 }
 
 /** Returns the word of a sum or a difference of words. */
@@ -102,10 +114,10 @@ export class ValueWriter {
     this.labels = [];
     // The variables that have registers, in the order of these.
     this.registers = [];
-    // The variables with registers that can be used here: those of them that hold 0 and 1 only, and those that have a value on all paths to here. No
+    // The variables with registers that can be used here: the limits of those of few bits, and those that have a value on all paths to here. No
     // path comes here if these are null.
     this.locals = new Set();
-    this.bools = new Set();
+    this.limits = new Map();
     this.known = new Set();
     // Of each variable with a register that is set, whether all runs do the first assignment to it.
     this.firstValues = new Map();
@@ -201,7 +213,7 @@ export class ValueWriter {
   /** Writes a step of a variable with a register, whose value before or after it another register gets. */
   writeOwnStep({ place, sign, isBefore }, register) {
     const own = this.findRegister(place);
-    if (own === register || !this.known.has(place) || this.bools.has(place) || this.fixed.has(place)) this.refuseStatement(OF_STEPS);
+    if (own === register || !this.known.has(place) || this.limits.has(place) || this.fixed.has(place)) this.refuseStatement(OF_STEPS);
     if (!this.firstValues.has(place)) this.firstValues.set(place, false);
     const step = `ADD ${own},$${toWord(Number(`${sign}1`))}`;
     const copy = `MOV ${register},${own}`;
@@ -257,7 +269,8 @@ export class ValueWriter {
     const variable = this.findShared(name, isPointer);
     const isLoad = kind === "load";
     if (isLoad !== !value || (kind === "store" && hasResult)) this.refuseStatement();
-    if (variable.isBool && !isLoad && (isStep(kind) || !isTruth(value))) this.refuseStatement(OF_BOOLS);
+    const isLimited = variable.limit < WORD && !isLoad;
+    if (isLimited && (isStep(kind) || !isBelow(variable.limit, value))) this.refuseStatement(explainLimit(variable.limit));
     if (kind === "fetch_sub" && parseConstant(value) === null) this.refuseStatement(OF_SUBTRACTION);
     // A compiler may make a load of an addition that is not seq_cst if it finds that it adds 0.
     const isIdle = isStep(kind) && order !== "seq_cst" && !parseConstant(value);
@@ -268,13 +281,13 @@ export class ValueWriter {
   writeOperation(operation, register) {
     this.checkOperation(operation, register !== undefined);
     const { kind, order, name, value } = operation;
-    const { isBool } = this.variables.get(name);
+    const { limit } = this.variables.get(name);
     const isSure = !this.branches.length && !this.exits.length;
     const isPlain = order === "plain";
     const isRead = kind !== "store" && register !== undefined;
     const word = isStep(kind) ? null : parseConstant(value);
     const added = isStep(kind) ? findSum(kind, value) : kind === "store" ? findAdded(operation) : null;
-    this.accesses.push({ thread: this.number, name, isPlain, isRead, isWrite: kind !== "load", isBool, word, added, isLocked: kind !== "store", isSure });
+    this.accesses.push({ thread: this.number, name, isPlain, isRead, isWrite: kind !== "load", limit, word, added, isLocked: kind !== "store", isSure });
     const target = register ?? SPARE;
     if (kind === "load") this.writeInstruction(`MOV ${target},[${name}]`);
     else if (kind === "store" && order !== "seq_cst") this.writeStore(operation);

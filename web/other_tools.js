@@ -16,7 +16,7 @@ const C_COMMENTS = /^(?:\s|\/\/.*|\/\*[^]*?\*\/)*/;
 const C = new RegExp(
   "^(?:C\\s|#[ \\t]*(?:include|define|pragma|if|ifdef|ifndef)\\b|using\\s|(?:inline\\s+)?namespace\\b|extern\\s+\"C|alignas\\b|template\\b|typedef\\s|\\[\\[|" +
     "(?:(?:extern|static|inline|volatile|const|constexpr|thread_local|_Atomic)\\s+)*" +
-    "(?:(?:atomic_\\w+|int|void|unsigned|bool|auto|struct|u?int\\d+_t)\\s|atomic<|std::|_Atomic\\())",
+    "(?:(?:atomic_\\w+|int|void|(?:un)?signed|long|short|char|s?size_t|bool|auto|struct|u?int(?:\\d+|ptr)_t|pthread_\\w+_t|mtx_t)\\s|atomic<|std::|_Atomic\\())",
 );
 const OF_C = "`tools/from_c.py` compiles programs in C, C++ and Rust, and herd's tests in C";
 const OF_PROGRAM = " For that its threads are functions `P0`, `P1` and so on without parameters, and its last line asks, as `// lw: exists (0:r0=0)` does.";
@@ -29,6 +29,7 @@ const OF_WAITING =
   " A loop that waits is one pass here: states in which it has not ended are in the list, too, and the question leaves them out.";
 const OF_LOCKING =
   " A mutex is a word that `XCHG` takes and gives back: states in which a thread did not get it are in the list, too, and the question leaves them out.";
+const OF_WIDE = " Words of 64 bits are words of 32 bits here, which no sum of this program exceeds.";
 const OF_REPEATED = " The loop in `main` is one run here, which is enough, since the page lists all final states.";
 const NOT_ASKED = " The question `true` holds always: look at the list of states.";
 // How programs in Rust, Java and Go begin, what only C++ has, and how a thread in C begins.
@@ -71,8 +72,8 @@ function explainProgram(words, text, place) {
 }
 
 /** Returns sentences on what a test has in place of parts of its program, and on its question. */
-function explainMade({ made, isGuess, races, isWaiting, isLocking, isRepeated }) {
-  const parts = [[isWaiting, OF_WAITING], [isLocking, OF_LOCKING], [isRepeated, OF_REPEATED]];
+function explainMade({ made, isGuess, races, isWaiting, isLocking, isWide, isRepeated }) {
+  const parts = [[isWaiting, OF_WAITING], [isLocking, OF_LOCKING], [isWide, OF_WIDE], [isRepeated, OF_REPEATED]];
   const question = made.endsWith("(true)\n") ? NOT_ASKED : isGuess ? OF_GUESS : "";
   return `${explainRaces(races)}${parts.map(([isSo, sentence]) => (isSo ? sentence : "")).join("")}${question}`;
 }

@@ -274,7 +274,7 @@ void P0(void) { x = 1; int r0 = y; }
 void P1(void) { y = 1; int r0 = x; }
 // lw: exists (0:r0=0 /\\ 1:r0=0)
 `;
-const OF_GLOBALS = ": outside of threads are only declarations of 32-bit integers and `bool`, as `atomic_int x = 1;`";
+const OF_GLOBALS = ": outside of threads are only declarations of integers and `bool`, as `atomic_int x = 1;`";
 const OF_VALUES = ": an initial value is one constant, as in `x = 1` or `x{1}`, and of a `bool` 0 or 1";
 const OF_PLAIN_LOOPS = ": a compiler loads a plain variable only once, so make it atomic or volatile";
 const OF_BRANCHES = ": a loop that waits is in no branch, and after no `return`";
@@ -303,6 +303,8 @@ const OF_PAIRS = ": a loop that exchanges needs a variable that is only set to t
 const OF_MUTEXES = ": only a mutex, as `std::mutex m`, is locked and unlocked";
 const OF_GUARDS = ": a guard is locked and unlocked in no branch";
 const OF_INDICES = ": an array is shared, and its indices are constants in it, as `a[0]`";
+const OF_SMALL = ": a variable of 8 or 16 bits is set to a constant from 0 to 127, or to another one that is loaded";
+const OF_WIDE = ": the page takes words of 64 bits as words of 32, which sums or constants of this program may exceed";
 const OF_REGISTERS = ", which needs more than six registers";
 const OF_ENTRIES = ": initial values are entries as `x=1;`";
 const OF_BRANCHED = ": an assertion is in no branch, and after no `return`";
@@ -370,7 +372,17 @@ const REFUSED = [
   ["int r0 = y;", "int r0 = !y;", `\`int r0 = !y\`${OF_COMPARISONS}`],
   ["int r0 = y;", "int r0; int r1 = r0;", `\`int r1 = r0\`: \`r0\`${OF_VALUE}`],
   ["int r0 = y;", "int *r0 = &y;", "`int *r0 = &y`: threads have no pointers of their own"],
-  ["int r0 = y;", "long r0 = y;", "`long r0 = y`: a variable has 32 bits, as `int r0`"],
+  ["int r0 = y;", "float r0 = y;", "`float r0 = y`: a variable is an integer, as `int r0`"],
+  ["int r0 = y;", "char r0 = y;", `\`char r0 = y\`${OF_SMALL}`],
+  ["int r0 = y;", "uint8_t r0 = 128;", `\`uint8_t r0 = 128\`${OF_SMALL}`],
+  ["int d;", "std::atomic<uint16_t> d;", `\`d++\`${OF_SMALL}`, "x = 1;", "d++;"],
+  ["int d;", "atomic_short d;", `\`d = -1\`${OF_SMALL}`, "x = 1;", "d = -1;"],
+  ["int d;", "char d;", `\`bool r0 = d\`${OF_BOOLS}`, "void P0(void) { x = 1; int r0 = y;", "void P0(void) { d = 1; bool r0 = d;", "P1(void) { y", "P1(void) { d"],
+  ["int d;", "long d;", `\`long\`${OF_WIDE}`, "x = 1;", `int r1 = y; ${"r1 += r1; ".repeat(31)}d = r1;`, "y = 1;", "d = 1;"],
+  ["int d;", "std::atomic<uint64_t> d;", `\`uint64_t\`${OF_WIDE}`, "x = 1;", "d += 0x40000000; d += 0x40000000;", "y = 1;", "d = 1;"],
+  ["int d;", "size_t d = 4294967295;", `\`size_t\`${OF_WIDE}`, "x = 1;", "d = 1;", "y = 1;", "d = 1;"],
+  ["int d;", "atomic_long d; unsigned e;", `\`atomic_long\`${OF_WIDE}`, "x = 1;", "d = -1;", "y = 1;", "d = 1;"],
+  ["int d;", "long d = 5000000000;", `\`long d = 5000000000;\`${OF_VALUES}`],
   ["int r0 = y;", "int r0 = 010;", `\`int r0 = 010\`${OF_CONSTANTS}`],
   ["int r0 = y;", "int r0 = 4294967296;", `\`int r0 = 4294967296\`${OF_CONSTANTS}`],
   ["int r0 = y;", "int r0 = f(y);", "`int r0 = f(y)`: write what the function does in its place"],
@@ -447,7 +459,7 @@ const REFUSED = [
   ["int r0 = y;", "printf(\"%d %d\", x, y);", `\`printf("%d %d", x, y)\`${OF_LOADS}`],
   ["int r0 = y;", "goto L;", "`goto L`: `goto` and labels are not rewritten"],
   ["// lw", "x = 1;\n// lw", `\`x = 1;\`${OF_GLOBALS}`],
-  ["int d;", "long d;", `\`long d;\`${OF_GLOBALS}`],
+  ["int d;", "double d;", `\`double d;\`${OF_GLOBALS}`],
   ["int d;", "int d[N];", `\`int d[N];\`${OF_GLOBALS}`],
   ["int d;", "int d[2] = {1, 2, 3};", `\`int d[2] = {1, 2, 3};\`${OF_VALUES}`],
   ["int d;", "int d_0, d[2];", `\`int d_0, d[2];\`${OF_LONE}`],
@@ -460,11 +472,11 @@ const REFUSED = [
   ["int d;", "#define N x + 1\nint d;", "`#define N x + 1`: write its text where it is used"],
   ["int d;", "#define F(a) 1\nint d;", "`#define F(a) 1`: write its text where it is used"],
   ["int r0 = y;", "std::atomic_ref<int> rd(d); rd = 1;", "`rd = 1`: `rd` is not declared"],
-  ["int d;", "struct s { long a; } d;", `\`struct s { long a; } d;\`${OF_GLOBALS}`],
+  ["int d;", "struct s { float a; } d;", `\`struct s { float a; } d;\`${OF_GLOBALS}`],
   ["int d;", "struct s { int a = x; } d;", `\`struct s { int a = x; } d;\`${OF_VALUES}`],
   ["int d;", "struct s { int a; } d; int d_a; struct s d;", `\`struct s d;\`${OF_LONE}`],
   ["int d;", "int d = x;", `\`int d = x;\`${OF_VALUES}`],
-  ["int d;", "atomic_short d;", `\`atomic_short d;\`${OF_GLOBALS}`],
+  ["int d;", "atomic_short d = 128;", `\`atomic_short d = 128;\`${OF_VALUES}`],
   ["int d;", "atomic_bool d = 2;", `\`atomic_bool d = 2;\`${OF_VALUES}`],
   ["int d;", "atomic_bool d;", `\`d = 2\`${OF_BOOLS}`, "x = 1;", "d = 2;"],
   ["int d;", "atomic_bool d;", `\`d++\`${OF_BOOLS}`, "x = 1;", "d++;"],
@@ -575,8 +587,8 @@ function comparePrograms(page, compare) {
     compareMade(`C: ${statements}`, `${GLOBALS}void P0(void) { ${statements} }\n${OTHER}`, instructions);
     if (ofHerd) compareMade(`herd: ${ofHerd}`, `C A\n{}\nP0 (${POINTERS}) { ${ofHerd} }\nexists (x=0)\n`, instructions);
   }
-  for (const [part, wrong, why, second, third] of REFUSED) {
-    const program = PROGRAM.replace(part, () => wrong).replace(second ?? "", () => third ?? "");
+  for (const [part, wrong, why, second, third, fourth, fifth] of REFUSED) {
+    const program = PROGRAM.replace(part, () => wrong).replace(second ?? "", () => third ?? "").replace(fourth ?? "", () => fifth ?? "");
     const found = rewriteProgram(program);
     compare(`what is refused in ${wrong}`, [why, true], [found.why ?? found.made, isAt(program, found)]);
   }
@@ -1122,6 +1134,23 @@ void P1(void) { while (__sync_lock_test_and_set(&lock, 1)) while (lock) continue
 locations [lock]
 exists (0:EAX=0 /\\ 1:EAX=0 /\\ ~n=2)
 `],
+  ["no question, and types of other sizes", `#include <atomic>
+std::atomic<long> counter{0}; static volatile unsigned long seq; std::uint8_t on; std::atomic<std::size_t> ready;
+void P0() { counter.fetch_add(1L); seq = 2; on = 1; ready.store(1ULL, std::memory_order_release); }
+void P1() { while (ready.load(std::memory_order_acquire) != 1) ; long long r = counter; uint8_t o = on; --seq; }
+`, `X86 Mine
+(* 1:EAX is ready after its loop, 1:EBX is r, 1:ECX is o *)
+{ counter=0; seq=0; on=0; ready=0; }
+ P0                      | P1                  ;
+ MOV EAX,$1              | MOV EAX,[ready]     ;
+ LOCK XADD [counter],EAX | MOV EBX,[counter]   ;
+ MOV [seq],$2            | MOV ECX,[on]        ;
+ MOV [on],$1             | MOV EDX,[seq]       ;
+ MOV [ready],$1          | ADD EDX,$4294967295 ;
+                         | MOV [seq],EDX       ;
+locations [1:EBX; seq]
+exists (1:EAX=1 /\\ 1:ECX=0)
+`],
   ["two questions", `${PROGRAM}/* lw: exists (x=1) */\n`, "`/* lw: exists (x=1) */`: a second comment says what is asked"],
   ["a function without an end", PROGRAM.split("}")[0], "`void P0(void) {`: its `}` is missing"],
   ["a pointer that is increased", "C SB\n{}\nP0 (atomic_int *x) { *x++; }\nexists (x=1)\n", `\`*x++\`${OF_OTHERS}`],
@@ -1216,6 +1245,8 @@ const HINTS = [
     `${WOULD_IN_CPP} but not \`while (x->exchange(2) == 1)\`${OF_LOOPS}.`, "Its first word is `C` then.", [4, 61]],
   ["a mutex", "std::mutex m; int n;\nvoid P0() { m.lock(); n++; m.unlock(); }\nvoid P1() { m.lock(); n++; m.unlock(); }\n",
     `${BEGIN}${BUTTON}${makePlain("`n` is")}it.${LOCKS}${GUESS}`, "does."],
+  ["words of 64 bits", "long x;\nstd::atomic<uint64_t> y{1};\nvoid P0() { y++; long r = y; }\nvoid P1() { y -= 2UL; }\nexists (0:r=1)\n",
+    `${BEGIN}${BUTTON} Words of 64 bits are words of 32 bits here, which no sum of this program exceeds.`, "does."],
   ["a loop of runs", `std::atomic<int> x; int r;\nint main() { int n = 0; while (1) { x = 0; std::thread a([&] { x = 1; }), b([&] { r = x; }); a.join(); b.join(); if (!r) n++; } }\n`,
     `${BEGIN}${BUTTON} The loop in \`main\` is one run here, which is enough, since the page lists all final states.`, "does."],
   ["a loop that waits, and a plain variable", LOOP.replace("x = 1;", "d = 1;").replace("y = 1;", "y = d;"),
