@@ -43,12 +43,12 @@ const REASONS = [
   [/fetch_(?:or|and|xor)/, ": of locked instructions the x86 format has only exchange and addition"],
   [/\blw_see\b/, ": the question names the variable itself, as `0:r0`"],
   [/\?/, ": write an `if`"],
-  [COMPARISON, ": compare in the condition of an `if`"],
   [/^(?:const )?(?:float|double|string)\b/, ": a variable is an integer, as `int r0`"],
   [/\w\[/, ": an array is shared, and its indices are constants in it, as `a[0]`"],
   [/^\w+ ?\*|&(?=\w+$)/, ": threads have no pointers of their own"],
   [/^\w+:|^goto\b/, ": `goto` and labels are not rewritten"],
-  [/[\w)][*\/%&|^]|~|<<|>>/, ": the x86 format has sums only"],
+  [/[\w)](?:[*\/%^]|&(?!&)|\|(?!\|))|~|<<|>>/, ": the x86 format has sums only"],
+  [COMPARISON, ": compare in the condition of an `if`"],
   [/^\w+\([^]*\)$|[=(,]\w+\(/, OF_FUNCTIONS],
 ];
 // What is in no side of a comparison.
@@ -312,6 +312,16 @@ export function splitTerms(code) {
 export function parseCondition(code) {
   const parts = splitOutside(removeOuterParentheses(code), "&&").map((it) => parseComparison(removeOuterParentheses(it)));
   return parts.includes(null) ? null : parts;
+}
+
+/**
+ * Returns whether code is a condition, and not a value that might be one.
+ * @param {string} code
+ * @returns {boolean}
+ */
+export function isCondition(code) {
+  const inner = removeOuterParentheses(code);
+  return inner.startsWith("!") || ["==", "!=", "&&"].some((mark) => splitOutside(inner, mark).length > 1);
 }
 
 /** Returns the two sides of a comparison, and whether they are to be equal: a bare value is not 0, and one after `!` is 0. Null if it is none. */

@@ -4,7 +4,7 @@
 
 import { mapAtoms, negateFormula, parseFormula } from "./c_question.js";
 import { defineName, parseConstant, parseDeclaration, refusePart, replaceNames } from "./c_reader.js";
-import { OF_CONDITIONS, OF_FUNCTIONS, OF_LOOPS, OUTPUT, parseCondition, readStatements, removeStrings, splitOutside } from "./c_statements.js";
+import { isCondition, OF_CONDITIONS, OF_FUNCTIONS, OF_LOOPS, OUTPUT, parseCondition, readStatements, removeStrings, splitOutside } from "./c_statements.js";
 import { explainLimit, isBelow, OF_LOADS, OF_REGISTERS, OF_STEPS, OF_SUBTRACTION, parseStep, SPARE, ValueWriter } from "./c_values.js";
 import { REGISTERS, WORD } from "./token_reader.js";
 
@@ -476,17 +476,30 @@ export class ThreadWriter extends ValueWriter {
     else this.assignLocal(place, sign ? `${place}${sign}@${value}` : value);
   }
 
+  /** Writes the instructions that set a register to 1 if a condition holds, and otherwise to 0. */
+  writeTruth(condition, register) {
+    const [other, end] = [this.makeLabel(), this.makeLabel()];
+    this.writeCondition(condition, other);
+    this.writeInstruction(`MOV ${register},$1`);
+    this.writeInstruction(`JMP ${end}`);
+    this.labels.push(other);
+    this.writeInstruction(`MOV ${register},$0`);
+    this.labels.push(end);
+  }
+
   /** Writes the instructions that set a variable with a register. Throws NoTest if its words are below a limit, and the value may not be. */
   assignLocal(name, value) {
     const count = this.accesses.length;
     if (this.fixed.has(name)) this.refuseStatement(OF_FIXED);
     if (!this.firstValues.has(name)) this.firstValues.set(name, !this.branches.length && !this.exits.length);
-    this.writeValue(value, this.findRegister(name));
+    const isTruth = isCondition(value);
+    if (isTruth) this.writeTruth(value, this.findRegister(name));
+    else this.writeValue(value, this.findRegister(name));
     this.known.add(name);
     const [access, another] = this.accesses.slice(count);
     const limit = this.limits.get(name) ?? WORD;
     const isLoaded = access?.limit <= limit && !another && !/^(?:\w+: )*ADD\b/.test(this.instructions.at(-1));
-    if (limit < WORD && !isLoaded && !isBelow(limit, value)) this.refuseStatement(explainLimit(limit));
-    if (access && !access.isWrite) Object.assign(this, { loaded: name, loadedBranches: [...this.branches] });
+    if (limit < WORD && !isTruth && !isLoaded && !isBelow(limit, value)) this.refuseStatement(explainLimit(limit));
+    if (access && !access.isWrite && !isTruth) Object.assign(this, { loaded: name, loadedBranches: [...this.branches] });
   }
 }
