@@ -132,6 +132,14 @@ AWAITED = (
     ("atomic_store_explicit(&x, 1, memory_order_relaxed); while (!atomic_load_explicit(&z, memory_order_relaxed)) ; int r0 = y; lw_see(r0, r0);",
      "atomic_store_explicit(&y, 1, memory_order_relaxed); atomic_store_explicit(&z, 1, memory_order_relaxed); int r1 = x; lw_see(r1, r1);",
      "0:r0=0 /\\ 1:r1=0"),
+    # A lock that exchanges, in a branch and beside races; one that looks first; and Peterson's, with fences and without.
+    ("if (x) { while (atomic_exchange(&y, 1)) ; data = data + 1; y = 0; } else x = 3;",
+     "while (atomic_exchange(&y, 1)) ; data += 1; x = 1; y = 0; int r0 = x; lw_see(r0, r0);", "1:r0=0"),
+    ("data = 5; while (atomic_exchange(&x, 1)) while (x) ; data = data + 1; atomic_store_explicit(&x, 0, memory_order_release);",
+     "while (1) { if (!atomic_exchange(&x, 1)) break; while (x) ; } data = data + 1; atomic_store_explicit(&x, 0, memory_order_release);", "x=0"),
+    ("x = 1; z = 1; while (y && z == 1) ; data = data + 1; x = 0;", "y = 1; z = 0; while (x && z == 0) ; data = data + 1; y = 0;", "x=0"),
+    ("atomic_store_explicit(&x, 1, memory_order_release); z = 1; while (y && z == 1) ; data = data + 1; x = 0;",
+     "y = 1; atomic_store_explicit(&z, 0, memory_order_release); while (x && z == 0) ; data = data + 1; y = 0;", "x=0"),
 )
 # The orders of stores, loads and all others, for each variant of a shape.
 ORDERS = (("relaxed", "relaxed", "relaxed"), ("release", "acquire", "acq_rel"), ("seq_cst", "seq_cst", "seq_cst"))
@@ -206,13 +214,14 @@ def list_rewritten_states(made: str) -> set[frozenset[tuple[str, str]]]:
 
 def list_ended_states(text: str, made: str) -> set[frozenset[tuple[str, str]]]:
     """Returns the states of a test that the page made in which the loops of its program have ended, without the loads of loops that have no name."""
-    count = text.count("while")
-    atoms = require_match(re.search(r"exists \((.*)\)$", made, re.M))[1].split(" /\\ ")[:count]
+    count = text[text.index("exists") :].count("=")
+    clauses = require_match(re.search(r"exists \((.*)\)$", made, re.M))[1].split(" /\\ ")[:-count]
+    holds = lambda atom, state: (tuple(atom.lstrip("~").split("=")) in state) != atom.startswith("~")
     states = parse_states(plain.make_report(plain.read_test(made)), {})
-    ended = [state for state in states if all((tuple(it.lstrip("~").split("=")) in state) != it.startswith("~") for it in atoms)]
+    ended = [state for state in states if all(any(holds(atom, state) for atom in it.strip("()").split(" \\/ ")) for it in clauses)]
     names = {site: name for site, name in re.findall(r"(\d:E\w\w) is ([\w ]*\w)", made)}
     rename = lambda state: {(site[:2] + names[site] if site in names else site, word) for site, word in state}
-    return {frozenset(it for it in rename(state) if " after " not in it[0]) for state in ended}
+    return {frozenset(it for it in rename(state) if not re.search(" after | at ", it[0])) for state in ended}
 
 
 def make_program(*threads: str, data: str = DATA, after: str = "") -> str:
