@@ -15,7 +15,10 @@ import { OUTPUT, removeStrings, splitOutside, StatementReader } from "./c_statem
 const LAMBDA = /(?<![\w\])])\[([^\][]*)\]\s*(?:\(\s*(?:void\s*)?\)\s*)?(?:mutable\b\s*|->\s*void\b\s*)*\{/;
 const CAPTURES = /^(?:&\w*(?:,&\w+)*)?$/;
 // The patterns that follow are of squeezed code. What changes nothing that threads share, as output does, unless it has an effect.
-const HARMLESS = /^(?:(?:(?:pthread_(?:mutex|spin)|mtx)_(?:init|destroy)|static_assert|\w*sleep\w*|this_thread::\w+|exit|abort|pthread_exit)\(|return\b|\(void\)\w+$|\w+\.(?:reserve|request_stop)\(|break$|$)/;
+const HARMLESS = new RegExp(
+  "^(?:(?:(?:pthread_(?:mutex|spin)|mtx)_(?:init|destroy)|static_assert|\\w*sleep\\w*|this_thread::\\w+|exit|abort|pthread_exit)\\(|return\\b|" +
+    "\\(void\\)\\w+$|\\w+\\.(?:reserve|request_stop)\\(|break$|$)",
+);
 // What counts runs: the groups are what it adds to.
 const COUNTED = /^(?:\+\+(\w+)|(\w+)(?:\+\+|\+=1))$/;
 const ENDING = /^(?:return\b|exit\(|abort\()/;

@@ -223,11 +223,11 @@ function writeTest(text) {
 /**
  * Returns the x86 test of a program in C or C++, or of a test of herd in C, and whether its question is a guess, since the program asks nothing; the
  * names of plain variables on which threads race; whether one pass is in place of a loop that waits; whether a location is in place of a mutex;
- * whether words of 32 bits are in place of those of 64; and whether a run is in place of a loop of them. Or returns why it is not rewritten: a part of it, with its index, and the end of a sentence; or without
- * an index why lw refuses the test.
+ * whether words of 32 bits are in place of those of 64; and whether a run is in place of a loop of them. Or returns why it is not rewritten: a part of
+ * it, with its index, and the end of a sentence; or without an index why lw refuses the test.
  * @param {string} text
- * @returns {{made?: string, isGuess?: boolean, races?: string[], isWaiting?: boolean, isLocking?: boolean, isWide?: boolean, isRepeated?: boolean, why?: string,
- *   index?: number}}
+ * @returns {{made?: string, isGuess?: boolean, races?: string[], isWaiting?: boolean, isLocking?: boolean, isWide?: boolean, isRepeated?: boolean,
+ *   why?: string, index?: number}}
  */
 export function rewriteProgram(text) {
   try {

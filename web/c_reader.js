@@ -2,17 +2,17 @@
 //
 // A `Program` has its `text`, a `name`, the initial `words` of its shared variables by their names, the declarations of those outside of functions in
 // `globals`, the values of its constants by their `names`, the names of its `functions`, its `threads`, and its `question`. It `isHerd`, or not. If it
-// has a `main`, this is a `Part`, and its threads are all other functions until c_main.js has followed it. If a loop of `main` runs its threads repeatedly,
-// `repeated` has the `statement` of the loop, and the `names` of variables that the loop sets before.
+// has a `main`, this is a `Part`, and its threads are all other functions until c_main.js has followed it. If a loop of `main` runs its threads
+// repeatedly, `repeated` has the `statement` of the loop, and the `names` of variables that the loop sets before.
 // A `Part` has its `code`, as the program has it, or "", and its `index` in the text. A question is one; if `main` asks it, it has also the `source`
 // in `main`, which is a part.
 // A `CThread` has a `name`, its `code`, which is a `Part`, the index of its `head`, and the declarations of the shared `variables` that it may use,
 // by their names. It has its `whole` part, and the code of its `parameters`. It `returnsWord`, or not, and `isStarted` by `main`,
 // or not.
 // A member of a structure is a variable, and the name of its object is in its own, as `s_x` for `s.x`.
-// A `Declaration` has the `name` of a variable, and the code of its initial `value`, if it has one. It `isPointer`, or not. Its words
-// are below its `limit`, which is 2 for a `bool`. It `isWide` if it has 64 bits, or not. The `element` is the code of a word of an array, as `a[0]`. The `order` is that of the operators on it: seq_cst if it is atomic, relaxed if it is volatile,
-// mutex if it is one, and otherwise plain.
+// A `Declaration` has the `name` of a variable, and the code of its initial `value`, if it has one. It `isPointer`, or not. Its words are below its
+// `limit`, which is 2 for a `bool`. It `isWide` if it has 64 bits, or not. The `element` is the code of a word of an array, as `a[0]`. The `order` is
+// that of the operators on it: seq_cst if it is atomic, relaxed if it is volatile, mutex if it is one, and otherwise plain.
 
 import { WORD } from "./token_reader.js";
 import { blankComments, NoTest } from "./tokens.js";
@@ -40,7 +40,10 @@ const PARAMETERS = /^\s*(?:void\s*(?:\*\s*(\w*)\s*)?)?$/;
 const PROTOTYPE = /^(?:\w+[\s*]+)+\w+\s*\([^(){};]*\)\s*;/;
 // A macro: the groups are its name, unless it has parameters, and its text. And a constant of C++ or C, with its name and its value.
 const MACRO = /^#[ \t]*define\b(?:[ \t]+(\w+)(?![\w(])[ \t]*(.*)|.*)/;
-const CONSTANT = /^(?:(?:static|inline)\s+)*(?:constexpr|const)\s+(?:auto|(?:(?:unsigned|int|long|short|char)\b\s*){1,3}|bool|s?size_t|u?int\d+_t|(?:std::)?memory_order)\s+(\w+)\s*[={]\s*([\w:]+)\s*\}?\s*;/;
+const CONSTANT = new RegExp(
+  "^(?:(?:static|inline)\\s+)*(?:constexpr|const)\\s+(?:auto|(?:(?:unsigned|long)\\s+)*(?:unsigned|int|long|short|char)|bool|s?size_t|u?int\\d+_t|" +
+    "(?:std::)?memory_order)\\s+(\\w+)\\s*[={]\\s*([\\w:]+)\\s*\\}?\\s*;",
+);
 const ORDER = /^memory_order_\w+$/;
 // What gives names. In squeezed code, a name for an order of memory, for a constant, and for a reference by which a variable is atomic: the groups are
 // its name, and what it is of.
@@ -77,10 +80,9 @@ const SMALL_LIMIT = 128;
 const DECLARATOR = /^(\w+(?:\[\d\](?==))?)(?:=(?!\{)(.+)|=?[{(](.*)[})])?$/;
 // A declaration of mutexes in squeezed code: the group is their names. And an array in a declaration: the groups are its name, the number of its
 // words, and their initial values.
-const MUTEXES = /^(?:(?:static|extern|inline|mutable) )*(?:mutex|pthread_mutex_t|mtx_t|pthread_spinlock_t) (\w+(?:,\w+)*)(?:=PTHREAD_MUTEX_INITIALIZER|\{\})?$/;
+const MUTEXES =
+  /^(?:(?:static|extern|inline|mutable) )*(?:mutex|mtx_t|pthread_(?:mutex_t|spinlock_t)) (\w+(?:,\w+)*)(?:=PTHREAD_MUTEX_INITIALIZER|\{\})?$/;
 const ARRAY = /^(\w+)\[([1-9])\](?:=?\{(.*)\})?$/;
-// A comma between two variables, which is in no parentheses and braces.
-const SEPARATOR = /,(?![^({]*[)}])/;
 // A constant of C that is in base 10 or 16. (One in base 8 is none here.)
 const CONSTANT_OF_C = /^(-?[1-9]\d*|0|0x[\da-f]+)(?:ul{0,2}|l{1,2}u?)?$/i;
 // A part that is long: the group is what is shown of it.
@@ -149,8 +151,8 @@ export function squeezeCode(code) {
     .replace(/\batomic_ref(?:<[\w ]{0,40}>)?[({](\w+)[)}](?=\.)/g, "$1")
     .replace(/\bATOMIC_VAR_INIT\((\w+)\)/g, "$1")
     .replace(/\b(\w+)(\.|->)(load|store|exchange|fetch_\w+)\(/g, (_, name, sign, method) => `atomic_${method}(${sign === "." ? "&" : ""}${name},`)
-    .replace(/\b(\w+)(\.|->)(test_and_set|clear|test)\((\)?)/g, (_, name, sign, method, close) => convertFlag(method, "", (sign === "." ? "&" : "") + name, close))
-    .replace(/\batomic_flag_(test_and_set|clear|test)(_explicit)?\((&?\w+)([,)])/g, (_, method, explicit, name, mark) => convertFlag(method, explicit, name, mark))
+    .replace(/\b(\w+)(\.|->)(test_and_set|clear|test)\((\)?)/g, (_, name, sign, method, end) => convertFlag(method, sign === "." ? `&${name}` : name, end))
+    .replace(/\batomic_flag_(test_and_set|clear|test)(?:_explicit)?\((&?\w+)([,)])/g, (_, method, name, end) => convertFlag(method, name, end))
     .replace(/\b(READ|WRITE)_ONCE\((\*?)/g, (_, macro, star) => `atomic_${macro === "READ" ? "load" : "store"}_relaxed(${star ? "" : "&"}`)
     .replace(/\bsmp_(load_acquire|store_release)\(/g, "atomic_$1(")
     .replace(/\bxchg\(/g, "atomic_exchange(");
@@ -170,9 +172,9 @@ function convertBuiltins(code) {
 }
 
 /** Returns the begin of a call that does to a flag what one of its methods does, up to the mark after the flag. */
-function convertFlag(method, explicit = "", name, mark) {
+function convertFlag(method, name, end) {
   const [kind, word] = FLAG_CALLS[method];
-  return `atomic_${kind}${explicit}(${name}${word && `,${word}`}${mark || ","}`;
+  return `atomic_${kind}(${name}${word && `,${word}`}${end || ","}`;
 }
 
 /**
@@ -239,8 +241,7 @@ export function parseDeclaration(code) {
   const [, mutexes] = MUTEXES.exec(code) ?? [];
   if (mutexes) return mutexes.split(",").map((name) => ({ name, value: undefined, isPointer: false, limit: 2, isWide: false, order: "mutex" }));
   const [, type, star, variables = ""] = DECLARATION.exec(code) ?? [];
-  const list = variables.includes("[") ? listElements(variables) : variables.split(SEPARATOR);
-  const declarators = list.map((it) => DECLARATOR.exec(it));
+  const declarators = splitDeclarators(variables).flatMap(listElements).map((it) => DECLARATOR.exec(it));
   if (!declarators.every(Boolean)) return [];
   const order = /atomic/i.test(type) ? "seq_cst" : type.includes("volatile") ? "relaxed" : "plain";
   const limit = /bool|_flag/i.test(type) ? 2 : SMALL.test(type) ? SMALL_LIMIT : WORD;
@@ -250,15 +251,25 @@ export function parseDeclaration(code) {
   });
 }
 
-/** Returns the declarators of squeezed code, in which each word of an array has one, as `a[0]=1`. */
-function listElements(variables) {
-  const flat = variables.replace(/\{\{/g, "{").replace(/\}\}/g, "}").replace(/\},\{/g, ",");
-  return flat.split(SEPARATOR).flatMap((it) => {
-    const [, name, count, values = ""] = ARRAY.exec(it) ?? [];
-    const words = values.split(",");
-    if (!name || words.length > Number(count)) return [it];
-    return Array.from({ length: Number(count) }, (_, index) => `${name}[${index}]=${words[index] || "0"}`);
-  });
+/** Returns the parts of squeezed code between commas that are in no parentheses and braces. */
+function splitDeclarators(code) {
+  const parts = [];
+  let [begin, depth] = [0, 0];
+  for (let at = 0; at < code.length; at += 1) {
+    depth += Number("({".includes(code[at])) - Number(")}".includes(code[at]));
+    if (depth || code[at] !== ",") continue;
+    parts.push(code.slice(begin, at));
+    begin = at + 1;
+  }
+  return [...parts, code.slice(begin)];
+}
+
+/** Returns the declarators of a declarator: if it is of an array, each word has one, as `a[0]=1`. */
+function listElements(declarator) {
+  const [, name, count, values = ""] = ARRAY.exec(declarator) ?? [];
+  const words = values.replace(/[{}]/g, "").split(",");
+  if (!name || words.length > Number(count)) return [declarator];
+  return Array.from({ length: Number(count) }, (_, index) => `${name}[${index}]=${words[index] || "0"}`);
 }
 
 /** Reads a program from its begin to its end. `rest` is what is not read yet, in which comments are blank. */

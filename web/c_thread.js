@@ -4,7 +4,17 @@
 
 import { mapAtoms, negateFormula, parseFormula } from "./c_question.js";
 import { defineName, parseConstant, parseDeclaration, refusePart, replaceNames } from "./c_reader.js";
-import { isCondition, OF_CONDITIONS, OF_FUNCTIONS, OF_LOOPS, OUTPUT, parseCondition, readStatements, removeStrings, splitOutside } from "./c_statements.js";
+import {
+  isCondition,
+  OF_CONDITIONS,
+  OF_FUNCTIONS,
+  OF_LOOPS,
+  OUTPUT,
+  parseCondition,
+  readStatements,
+  removeStrings,
+  splitOutside,
+} from "./c_statements.js";
 import { explainLimit, isBelow, OF_LOADS, OF_REGISTERS, OF_STEPS, OF_SUBTRACTION, parseStep, SPARE, ValueWriter } from "./c_values.js";
 import { REGISTERS, WORD } from "./token_reader.js";
 

@@ -16,7 +16,8 @@ const C_COMMENTS = /^(?:\s|\/\/.*|\/\*[^]*?\*\/)*/;
 const C = new RegExp(
   "^(?:C\\s|#[ \\t]*(?:include|define|pragma|if|ifdef|ifndef)\\b|using\\s|(?:inline\\s+)?namespace\\b|extern\\s+\"C|alignas\\b|template\\b|typedef\\s|\\[\\[|" +
     "(?:(?:extern|static|inline|volatile|const|constexpr|thread_local|_Atomic)\\s+)*" +
-    "(?:(?:atomic_\\w+|int|void|(?:un)?signed|long|short|char|s?size_t|bool|auto|struct|u?int(?:\\d+|ptr)_t|pthread_\\w+_t|mtx_t)\\s|atomic<|std::|_Atomic\\())",
+    "(?:(?:atomic_\\w+|int|void|(?:un)?signed|long|short|char|s?size_t|bool|auto|struct|u?int(?:\\d+|ptr)_t|pthread_\\w+_t|mtx_t)\\s|" +
+    "atomic<|std::|_Atomic\\())",
 );
 const OF_C = "`tools/from_c.py` compiles programs in C, C++ and Rust, and herd's tests in C";
 const OF_PROGRAM = " For that its threads are functions `P0`, `P1` and so on without parameters, and its last line asks, as `// lw: exists (0:r0=0)` does.";

@@ -504,7 +504,7 @@ const REFUSED = [
 
 // Long texts, the places of a program where they are put, as what is before and after them, and the most milliseconds for each.
 const LONG = [" ".repeat(60000), "a".repeat(60000), "(".repeat(60000), "int x;\n".repeat(10000), "{".repeat(60000), "(".repeat(30000) + ")".repeat(30000), "while (x) ".repeat(6000),
-  "x, ".repeat(20000), "x[0] = ".repeat(8000)];
+  "x, ".repeat(20000), "x[0] = ".repeat(8000), "x && ".repeat(12000), "x = x + 1; ".repeat(5000), "for (;;) { if (x) break; ".repeat(2400)];
 const STARTED = "int main() { std::thread t([&] { x = 1; }); t.join(); ";
 const PLACES = [
   ["", ""], ["int main() { ", " }"], ["int main() { std::thread t([&] { ", " }); t.join(); }"], ["int main() { std::thread t([&", "] { x = 1; }); t.join(); }"],
@@ -513,7 +513,7 @@ const PLACES = [
   ["constexpr int N = ", ";\n"], ["struct { ", " } s;\n"], ["void f() { while (x) ; }\nexists (", ""],
   ["void f() { while (x && ", ") ; }"], ["void f() { while (x.exchange(1)) while (", ") ; }"], ["void f() { for (;;) { if (", ") break; } }"],
   ["void f() { while (true) { if (x) break; ", " } }"], ["int a[2] = {", "};\n"], ["std::mutex ", ";\n"], ["void f() { std::scoped_lock g(", "); }"],
-  ["void f() { x[", "] = 1; }"], ["int main() { for (;;) { ", " std::thread t(f); t.join(); } }"],
+  ["void f() { x[", "] = 1; }"], ["void f() { int r = ", "; }"], ["int main() { for (;;) { ", " std::thread t(f); t.join(); } }"],
 ];
 const SLOWEST = 2000;
 
