@@ -152,7 +152,7 @@ export class Fences {
     return [
       el("p", {}, "Which exchanges need their lock, ", by, "? Each is tried alone without it."),
       el("div", { class: "wide" }, el("table", {}, el("thead", {}, head), el("tbody", {}, rows))),
-      table.positive === (condition.startsWith("forall") ? table.states : 0) ? "" : el("p", { class: "notice" }, REACHABLE),
+      isForbidden({ condition, table }) ? "" : el("p", { class: "notice" }, REACHABLE),
       el("p", { class: "small" }, renderSentence("The page's own code writes the texts without a lock, as `tools/fences.py --exchanges` does "), makePlainMark(),
         ". The lists come from lw."),
     ];
@@ -162,9 +162,9 @@ export class Fences {
    * Shows where further fences would forbid what an x86 test asks about, unless that is forbidden; a button offers to look for them if that takes
    * many lists.
    */
-  async offerMore({ language, table, condition }) {
-    const isForall = condition.startsWith("forall");
-    if (language === "SRC" || table.positive === (isForall ? table.states : 0)) return;
+  async offerMore(shown) {
+    if (shown.language === "SRC" || isForbidden(shown)) return;
+    const isForall = shown.condition.startsWith("forall");
     const words = isForall ? "Which fences would make it hold always?" : "Which fences would forbid it?";
     const offer = makeButton(words, () => this.showMore(isForall), { class: "main find-fences" });
     const answer = await ask(this.editor, "more fences", { text: this.editor.text, search: this.isSearched, limit: AT_ONCE });
@@ -245,6 +245,11 @@ export class Fences {
   }
 }
 
+/** Returns whether no state is against a question: its condition holds in none, or of `forall` in all. */
+function isForbidden({ condition, table }) {
+  return table.positive === (condition.startsWith("forall") ? table.states : 0);
+}
+
 /** Returns whether a text has an exchange, or a source statement that is compiled to one. */
 function hasExchange(text) {
   return /\b(?:xchg|xadd|swap|fetchadd)\b/i.test(blankComments(text));
@@ -290,11 +295,12 @@ function listFenceNames({ rows }) {
  * Returns, as children for `el`, the sentence on which fences are enough for the states that exist with all of them, and in how many of these states the
  * condition holds. `names` are those of the fences, in the order of the rows.
  */
-function describeTable({ table, language }, names) {
+function describeTable(answer, names) {
+  const { table, language } = answer;
   const { rows, enough, states } = table;
   const program = language === "SRC" ? "the compiled program" : "the test";
   const isOne = rows.length === 1;
-  if (!rows.length) return [`${program[0].toUpperCase()}${program.slice(1)} has no MFENCE to leave out: ${formatHolding(table)}`];
+  if (!rows.length) return [`${describeNoFences(answer)}: ${formatHolding(table)}`];
   if (!enough.length) {
     const [fences, all] = isOne ? ["The fence changes", "it and without it"] : ["The fences change", "all of them and with none"];
     return [`${fences} nothing: with ${all} ${program} ends in ${formatSameStates(states)}, and ${formatHolding(table, "them", "it")}`];
@@ -307,6 +313,13 @@ function describeTable({ table, language }, names) {
   }
   const needed = isOne ? "The fence is needed: without it" : "Every fence is needed: if any one of them is left out,";
   return [`${needed} ${program} ends in more states. With ${isOne ? "it" : "all"} ${formatHolding(table)}`];
+}
+
+/** Returns that a program without a fence needs none, if no state is against its question, or else that there is none to leave out. */
+function describeNoFences(answer) {
+  const isSource = answer.language === "SRC";
+  if (isForbidden(answer)) return isSource ? "The compiled program needs no fence" : "No fence is needed";
+  return `The ${isSource ? "compiled program" : "test"} has no MFENCE to leave out`;
 }
 
 /** Returns the place of an exchange as it is, and that of a fence with the name of its instruction. */

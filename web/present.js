@@ -1,6 +1,7 @@
 // The view for a projector: only the question, the verdict, the list, the machine and the graph, in the largest type in which all of it fits,
 // and never in less than a least size, nor in less than the page itself has; if it takes that, the graph goes. Its letters are as large as the rest
-// if they can be. If not all fits in the least size, long code is scrolled inside its box, and the next instruction stays in sight.
+// if they can be. If not all fits in the least size, long code is scrolled inside its box, and the next instruction stays in sight. The text of a test is
+// shown with the table of its fences, since no machine is there.
 
 import { showNext } from "./code_window.js";
 import { findById } from "./dom.js";
@@ -14,7 +15,11 @@ const MAX_TYPE = 44;
 const [MAX_SCALE, MAX_TIGHT_SCALE] = [1.5, 1.2];
 // The possible places of the graph: beside the machine, and beside all. Its possible sizes there: that in which its letters are as large as the rest, a
 // smaller one, and as it is drawn; and the largest if there is room. A graph beside the machine may have the list below it, in place of the list above.
+// With four threads the machine has the whole width, and the graph is below it, if that has room.
 const GRAPH_PLACES = ["machine", "all"];
+const GRAPH_BELOW = "below";
+// The possible places of the text, if fences are shown: below what is said of them, and beside all.
+const TEXT_PLACES = ["below", "beside"];
 const LIST_BELOW = "list";
 const GRAPH_SIZES = [1.24, 1.12, 1];
 const MAX_GRAPH_SIZE = 1.6;
@@ -89,6 +94,7 @@ export class Present {
     document.documentElement.classList.remove("close");
     this.keepUsual();
     this.placeGraph(dataset, least);
+    this.placeText(dataset, least);
     document.documentElement.classList.toggle("close", !this.fits(least));
     if (!this.fits(least)) return this.foldCode();
     const size = this.findSize(least, most);
@@ -122,13 +128,21 @@ export class Present {
 
   /** Puts the graph, as large as can be, where all fits in the least size of type, or if there is no such place, nowhere. */
   placeGraph(dataset, least) {
-    for (const ofGraph of GRAPH_SIZES) {
-      for (const place of GRAPH_PLACES) {
-        dataset.graph = place;
-        if (this.fits(least, { ofMachine: 1, ofGraph })) return;
-      }
+    const listTries = (places) => GRAPH_SIZES.flatMap((ofGraph) => places.map((place) => ({ place, ofGraph })));
+    const isOfFour = document.querySelector("#watching .thread:nth-child(4)") !== null;
+    for (const { place, ofGraph } of [...listTries(isOfFour ? [GRAPH_BELOW] : []), ...listTries(GRAPH_PLACES)]) {
+      dataset.graph = place;
+      if (this.fits(least, { ofMachine: 1, ofGraph })) return;
     }
     dataset.graph = "none";
+  }
+
+  /** Shows the text where all fits with it in the least size of type, or if there is no such place, nowhere. */
+  placeText(dataset, least) {
+    dataset.text = TEXT_PLACES.find((place) => {
+      dataset.text = place;
+      return this.fits(least);
+    }) ?? "none";
   }
 
   /** Makes the machine as large as the room beside the rest allows, in a size of type, and then the graph. */
@@ -173,7 +187,7 @@ export class Present {
     root.style.setProperty("--of-machine", this.ofMachine);
     root.style.setProperty("--of-graph", this.ofGraph);
     const isWhole = (box) => box.scrollWidth <= box.clientWidth + 1 && box.scrollHeight <= box.clientHeight + 1;
-    const scrolled = [...document.querySelectorAll(".code, .wide, .registers")].filter((it) => it.offsetParent !== null);
+    const scrolled = [...document.querySelectorAll(".code, .wide, .registers, #text")].filter((it) => it.offsetParent !== null);
     return scrolled.every(isWhole) && root.scrollHeight <= innerHeight && root.scrollWidth <= innerWidth;
   }
 }

@@ -321,7 +321,8 @@ class Fences(PageCase):
         user = self.user
         for example, verdict in (
             ("SB-x86", "The test has no MFENCE to leave out: the condition holds in 1 of 4 states."),
-            ("MP", "The compiled program has no MFENCE to leave out: the condition holds in none of 3 states."),
+            ("MP-x86", "No fence is needed: the condition holds in none of 3 states."),
+            ("MP", "The compiled program needs no fence: the condition holds in none of 3 states."),
             ("SB+mfence-x86", "The fence changes nothing: with it and without it the test ends in the same 4 states, and "
              "the condition holds in 1 of them."),
             ("R+mfence-x86", "The fence is needed: without it the test ends in more states. With it the condition holds in none of 3 states."),
@@ -332,12 +333,14 @@ class Fences(PageCase):
             self.assertEqual(verdict, user.text("#fences .verdict"))
         names = user.texts("#fences tbody th")
         self.assertEqual(len(names), len(set(names)))
-        for rows, verdict in (
-            ("", "The test has no MFENCE to leave out: the condition holds in the only state."),
-            (" MFENCE ;\n MOV EAX,[y] ;\n", "The fence changes nothing: with it and without it the test ends in the same state, and "
+        for rows, question, verdict in (
+            ("", "exists (x=1)", "The test has no MFENCE to leave out: the condition holds in the only state."),
+            ("", "forall (x=1)", "No fence is needed: the condition holds in the only state."),
+            ("", "forall (x=2)", "The test has no MFENCE to leave out: the condition does not hold in the only state."),
+            (" MFENCE ;\n MOV EAX,[y] ;\n", "exists (x=1)", "The fence changes nothing: with it and without it the test ends in the same state, and "
              "the condition holds in it."),
         ):
-            text = f"X86 One\n{{}}\n P0 ;\n MOV [x],$1 ;\n{rows}exists (x=1)\n"
+            text = f"X86 One\n{{}}\n P0 ;\n MOV [x],$1 ;\n{rows}{question}\n"
             user.open(f"#text={quote(text)}&view=fences")
             self.assertEqual(verdict, user.text("#fences .verdict"))
 
@@ -354,7 +357,7 @@ class Fences(PageCase):
         self.assertSays("Forbidden.", "#outcome .verdict")
         self.assertEqual(before.replace(" MOV EAX", " MFENCE      | MFENCE      ;\n MOV EAX", 1), user.value())
         user.open_listed("#example=MP-x86&view=fences")
-        self.assertSays("The test has no MFENCE to leave out", "#fences .verdict")
+        self.assertSays("No fence is needed", "#fences .verdict")
         self.assertEqual([], user.all("#fences .find-fences"))
         user.open_listed("#example=FastLock-x86&view=fences")
         self.assertSays("The fewest fences that forbid it:", "#fences .next-step")
@@ -376,7 +379,7 @@ class Fences(PageCase):
         """Of each exchange a table says which states are added without its lock, by the question or by everything; a state is watched."""
         user = self.user
         user.open_listed("#example=SB%2Bxchgs-x86&view=fences")
-        self.assertSays("The test has no MFENCE to leave out", "#fences .verdict")
+        self.assertSays("No fence is needed", "#fences .verdict")
         self.assertSays("Which exchanges need their lock, by the question ~exists", "#fences .locks")
         rows = user.texts("#fences .locks tbody tr")
         self.assertEqual(["P0, XCHG [x],EAX", "P1, XCHG [y],EAX"], user.texts("#fences .locks tbody th"))
