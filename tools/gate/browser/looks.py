@@ -436,6 +436,38 @@ class Projector(PageCase):
             self.assertTrue(user.run(IN_SIGHT, "#outcome .states-place, #outcome .verdict, svg.graph, #watching .machine"), (name, size))
             user.press(user.keys.ESCAPE)
 
+    def test_four_threads(self) -> None:
+        """Four threads have the whole width, with all code far from its frame, and the graph is below them, at 1920 by 1080."""
+        user = self.user
+        for name in ("IRIW-x86", "4.SB-x86"):
+            self.present(f"#example={name}", 1920, 1080)
+            user.find("#answers > #graph-place svg.graph")
+            width = "return document.querySelector('#watching .machine').clientWidth / innerWidth"
+            self.assertSoon(True, lambda: user.run(width) > 0.95)
+            self.assertEqual([], user.run(TOUCHING.replace(".next ", "")), name)
+            self.assertTrue(user.run("return document.querySelector('.graph').getBoundingClientRect().top >= "
+                                     "document.querySelector('#watching .memory').getBoundingClientRect().bottom"), name)
+            user.press(user.keys.END)
+            self.assertStep("The run has ended")
+            self.assertTrue(user.run(IN_SIGHT, ".graph, #watching .machine, #outcome .states-place, #graph-place .legend"), name)
+            user.press(user.keys.ESCAPE)
+
+    def test_text_with_fences(self) -> None:
+        """With the fences the text is shown, below what is said of them or beside all, and without them it is not."""
+        user = self.user
+        for name, place in (("MP-x86", "below"), ("Peterson%2Bmfences-x86", "beside")):
+            user.resize(1280, 720)
+            user.open_listed(f"#example={name}&view=fences")
+            user.find("#fences .verdict")
+            present(user)
+            user.find("#text")
+            self.assertEqual(place, user.run("return document.documentElement.dataset.text"))
+            self.assertTrue(user.run(IN_SIGHT, "#editor, #fences .verdict"), name)
+            user.press(user.keys.ESCAPE)
+        self.present("#example=MP-x86", 1280, 720)
+        self.assertEqual([], user.all("#text"))
+        user.press(user.keys.ESCAPE)
+
     def test_no_graph(self) -> None:
         """With a source run no graph is shown, since the sentence on whose it is has no room; with the compiled run its graph is."""
         user = self.user
