@@ -48,11 +48,13 @@ function makeCode(text) {
 }
 
 /**
- * Makes the mark of what is not proved.
+ * Makes the mark of what is not proved, which names it if something that is proved is near.
+ * @param {string} [what]
  * @returns {Element}
  */
-export function makePlainMark() {
-  return el("span", { class: "plain", title: "found by the page's own code, which is not proved" }, "not proved");
+export function makePlainMark(what = "this") {
+  const words = what === "this" ? "not proved" : `${what}: not proved`;
+  return el("span", { class: "plain", title: `${what} is found by the page's own code, which is not proved` }, words);
 }
 
 /**

@@ -153,5 +153,5 @@ export function makeGraphParts(answer, tints, lead = null) {
   const inWords = el("details", {}, el("summary", {}, "In words"), el("pre", {}, answer.words.join("\n")));
   const body = el("div", { class: "graph-body" }, graph, makeLegend(graph));
   const keep = makeButton("Save this graph", () => save("execution.svg", "image/svg+xml", answer.graph));
-  return [el("p", { class: "graph-head" }, lead, words, missing, makePlainMark()), body, el("div", { class: "row" }, inWords, keep)];
+  return [el("p", { class: "graph-head" }, lead, words, missing, makePlainMark("this graph")), body, el("div", { class: "row" }, inWords, keep)];
 }

@@ -258,7 +258,7 @@ export class States {
     const others = interleaved && report.states.filter(({ line }) => !interleaved.includes(line)).map(({ line }) => line);
     this.strip.markBuffered(others ?? []);
     const words = describe(report, interleaved);
-    place.replaceChildren(el("span", { class: "state-words", title: words.replaceAll("`", "") }, renderSentence(words)), " ", makePlainMark());
+    place.replaceChildren(el("span", { class: "state-words", title: words.replaceAll("`", "") }, renderSentence(words)), " ", makePlainMark("this note"));
     this.run.onDraw();
   }
 

@@ -19,7 +19,7 @@ const CIRCLE = "They form a cycle, so no run can end this way.";
 const FORBIDS = "x86-TSO forbids ";
 // How the answer begins if no execution has a state.
 const NO_CANDIDATE = "No candidate execution ends in ";
-const PROVED = "Proved: the list has all states. ";
+const PROVED = "Proved: the list is complete. ";
 const PROVED_ALL_THE_SAME = " The list is complete (proved), so no run ends there.";
 const DRAWN = "The execution and its cycle are found by the page: ";
 // How large the first cycle or a run may be drawn, as factors of its own size, the largest first.

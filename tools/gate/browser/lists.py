@@ -75,13 +75,13 @@ class FirstView(PageCase):
         """Of an x86 test that is no example a note says which of its states interleaving gives, too; it is marked as not proved."""
         user = self.user
         own = "X86 Mine\n{}\n P0 | P1 ;\n MOV [x],$1 | MOV [y],$1 ;\n MOV EAX,[y] | MOV EAX,[x] ;\nexists (0:EAX=0 /\\ 1:EAX=0)\n"
-        some = "Interleaving gives 3 of the 4 states. Only with store buffers (◆): 0:EAX=0; 1:EAX=0. not proved"
-        all_of_it = "Interleaving gives all 3 states, too: store buffers add none in what the question names. not proved"
-        the_one = "Interleaving gives the only state, too: store buffers add none in what the question names. not proved"
+        some = "Interleaving gives 3 of the 4 states. Only with store buffers (◆): 0:EAX=0; 1:EAX=0. this note: not proved"
+        all_of_it = "Interleaving gives all 3 states, too: store buffers add none in what the question names. this note: not proved"
+        the_one = "Interleaving gives the only state, too: store buffers add none in what the question names. this note: not proved"
         no_loads = "X86 Mine\n{}\n P0 ;\n MOV [x],$1 ;\n~exists (x=0)\n"
         fenced = own.replace(" MOV EAX", " MFENCE | MFENCE ;\n MOV EAX", 1)
         listed = own.replace("exists", "locations [x; y;]\nexists")
-        several = "Interleaving gives 3 of the 4 states. Only with store buffers (◆): 0:EAX=0; 1:EAX=0; x=1; y=1. not proved"
+        several = "Interleaving gives 3 of the 4 states. Only with store buffers (◆): 0:EAX=0; 1:EAX=0; x=1; y=1. this note: not proved"
         other = own.replace(" | P1 ;", " | P1 | P2 ;").replace("[y],$1 ;", "[y],$1 | MOV EAX,[x] ;").replace("EAX,[x] ;\nexists", "EAX,[x] | MOV EBX,[y] ;\nlocations [2:EAX; 2:EBX;]\nexists")
         apart = "Only with store buffers (◆): 0:EAX=0; 1:EAX=0; 2:EAX=0; 2:EBX=0 · 0:EAX=0; 1:EAX=0; 2:EAX=0; 2:EBX=1 · "
         user.open_listed(f"#text={quote(other)}")
@@ -96,8 +96,8 @@ class FirstView(PageCase):
         """Of an x86 example the states that only store buffers reach are marked, and counted beside the condition; of a source test there are none."""
         user = self.user
         for name, words, marked in (
-            ("SB-x86", ["◆ 1 of 4 only by store buffers. not proved"], ["0:EAX=0; 1:EAX=0;"]),
-            ("MP-x86", ["Interleaving gives all 3 states, too. not proved"], []),
+            ("SB-x86", ["◆ 1 of 4 only by store buffers. this note: not proved"], ["0:EAX=0; 1:EAX=0;"]),
+            ("MP-x86", ["Interleaving gives all 3 states, too. this note: not proved"], []),
             ("SB", [], []),
         ):
             user.open_listed(f"#example={name}")

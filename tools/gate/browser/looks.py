@@ -408,7 +408,7 @@ class Projector(PageCase):
         """The mark of the states that only store buffers reach has its sentence, and no other note is shown."""
         user = self.user
         self.present("#example=SB-x86", 1280, 720)
-        self.assertSoon(["◆ 1 of 4 only by store buffers. not proved"], lambda: user.texts("#outcome .note"))
+        self.assertSoon(["◆ 1 of 4 only by store buffers. this note: not proved"], lambda: user.texts("#outcome .note"))
         self.assertTrue(user.run(IN_SIGHT, "#outcome .note, #watching .machine"))
         user.press(user.keys.ESCAPE)
 

@@ -48,7 +48,7 @@ class WhyNot(PageCase):
         """That a state is forbidden is proved, since the list lacks it; what is drawn is not, which its caption says."""
         user = self.user
         user.open_listed("#example=MP-x86&view=why")
-        self.assertSays("x86-TSO forbids 1:EAX=1; 1:EBX=0; Proved: the list has all states.", "#why .why-head")
+        self.assertSays("x86-TSO forbids 1:EAX=1; 1:EBX=0; Proved: the list is complete.", "#why .why-head")
         self.assertEqual([], user.all("#why .why-head .plain"))
         self.assertSays("The execution and its cycle are found by the page: not proved", "#why figcaption")
 
@@ -99,7 +99,7 @@ class WhyNot(PageCase):
         rows = " MOV [x],$1 | MOV [y],$1 ;\n MOV EAX,[y] | MOV EAX,[x] ;\n MOV EBX,[z] | MOV [z],$1 ;\n MOV ECX,[z] | ;\n"
         user.run_text(f"X86 Cut\n{{}}\n P0 | P1 ;\n{rows}exists (0:EAX=0 /\\ 1:EAX=0 /\\ 0:EBX=1 /\\ 0:ECX=0)\n")
         user.click("#tab-why")
-        self.assertSays("Proved: the list has all states.", "#why .why-head")
+        self.assertSays("Proved: the list is complete.", "#why .why-head")
         self.assertEqual(False, user.run(cut))
 
     def test_no_candidate(self) -> None:

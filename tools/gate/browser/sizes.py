@@ -137,6 +137,12 @@ class InSight(PageCase):
         finally:
             user.click("#large")
 
+    def test_why(self) -> None:
+        """The cycle that forbids a state of four threads is in sight with all that is said of it, at 1280 by 720."""
+        self.open_at("IRIW-x86&view=why", 1280, 720)
+        self.user.find("#why figure svg.graph")
+        self.assertSoon(True, lambda: self.user.run(IN_SIGHT, "#outcome .verdict, #why .why-head, #why figure, #why .legend, #why .rule"))
+
     def test_compared(self) -> None:
         """With two tests side by side no part of the machines is covered, also with large type, at 1280 by 720."""
         user = self.user
