@@ -4,7 +4,7 @@
 
 - There are twelve slides, each with a title of its own; the page names no other site and loads nothing; the same sources give the same bytes.
   With the address of lw's page each slide that shows a test has a link that opens that test there.
-- What is shown of a test is what the program says of it: each list is that of its report, with the verdict, and each picture of the
+- What is shown of a test is what the program says of it: each list is that of its report, with the verdict in words, and each picture of the
   machine has the registers, the store buffers and the words of its replay. An execution's loads have the words that the replay ends with.
 - Code has the colours that the page's own JavaScript gives it, in node if it is there, and each has a contrast of 4.5 at least.
 - The slides are in the order of the timetable. Before the tasks none shows a test of tasks 2 to 4, except the text of A1 and A2 and the
@@ -85,6 +85,7 @@ TINT_TAG = re.compile(r"</?(?:span|tspan)\b[^>]*>")
 # The grounds on which code is shown in light and in dark: the fills of pictures, by their classes.
 FILL = re.compile(r"\.(?:ground|box|entry|word) \{ fill: (#\w+)")
 MIN_CONTRAST = 4.5
+NUMBERS = ["none", "one", "two", "three", "four"]
 # A page of a printed document.
 PAGE = re.compile(rb"/Type\s*/Page\b")
 
@@ -141,9 +142,11 @@ def check_lists(page: str, tests: dict[str, bytes]) -> Iterator[Comparison]:
             continue
         lines = ask_program(["states"], tests[name]).splitlines()
         count = int(lines[1].split()[1])
-        yield f"the list of {name}", [*lines[1 : count + 2], lines[-1]], text.splitlines()
+        yield f"the list of {name}", [f"{count} final states", *lines[2 : count + 2]], text.splitlines()
         _, _, verdict, positive, negative = lines[-1].split()
-        yield f"the verdict on {name} is glossed", True, f"<p>{verdict} {positive} {negative}: the end that we ask about is " in page
+        number, total = NUMBERS[int(positive)], NUMBERS[count]
+        yield f"the counts of {name}", count, int(positive) + int(negative)
+        yield f"the verdict on {name} is in words", True, f"<p>{verdict}: the end that we ask about is {number} of the {total} states.</p>" in page
 
 
 def parse_picture(svg: str) -> tuple[list[list[str]], list[str] | None]:

@@ -41,7 +41,7 @@ class Code(NamedTuple):
 
 
 class States(NamedTuple):
-    """The list of the report of `lw states` on a test, and how often the condition holds there."""
+    """The list of the report of `lw states` on a test, with its length in words."""
 
     test: str
 
@@ -84,7 +84,7 @@ SLIDES: list[Slide] = [
     ]),
     ("All that interleaving can do", [
         States("A1-turns"),
-        Words("Never 0 3: the end that we ask about is none of the three states."),
+        Words("Never: the end that we ask about is none of the three states."),
         Words("Some load is the last statement of all. By then both stores are done, so it finds a 1."),
         Note("Never is the verdict: no run ends this way. That is a proof for all runs, since the list is complete."),
     ]),
@@ -116,7 +116,7 @@ SLIDES: list[Slide] = [
     ]),
     ("The same program on x86", [
         States("A1"),
-        Words("Sometimes 1 3: the end that we ask about is one of the four states."),
+        Words("Sometimes: the end that we ask about is one of the four states."),
         Words("One state more than by interleaving. The program lists all states and no others; that is proved."),
         Note("After the tasks. Compare with slide 3."),
     ]),
@@ -200,10 +200,11 @@ def draw_graph(part: Graph, text: bytes) -> str:
 
 
 def shorten_report(report: str) -> str:
-    """Returns the lines of a report that list the states, and the line `Observation`, which says how often the condition holds. The other lines
-    need the words of docs/FORMAT.md: a reader takes `Allowed`, a kind of question, for the verdict.
+    """Returns how many states a report lists, in the page's words, and their lines. The other lines need the words of docs/FORMAT.md: a reader takes
+    `Allowed`, a kind of question, for the verdict. A slide says in a sentence how often the condition holds.
     """
-    return "".join(it for it in report.splitlines(keepends=True) if it.startswith(("States ", "Observation ")) or it.endswith(";\n"))
+    states = [it for it in report.splitlines(keepends=True) if it.endswith(";\n")]
+    return "".join([f"{len(states)} final states\n", *states])
 
 
 def render_part(part: Part, tests: dict[str, bytes]) -> str:
