@@ -189,10 +189,10 @@ function scrollToAnswers() {
   if (top < 0 || top > 0.6 * innerHeight) findById("answers").scrollIntoView({ block: "start" });
 }
 
-/** Unfolds the text of the test and brings it into sight, or folds it. */
-function toggleText() {
-  fold(!isFolded());
-  if (!isFolded()) findById("unfold").scrollIntoView({ block: "start", behavior: isStill() ? "auto" : "smooth" });
+/** Folds the text of the test, or unfolds it and brings it into sight; with no argument it does what was not done last. */
+function toggleText(isClosed = !isFolded()) {
+  fold(isClosed);
+  if (!isClosed) findById("unfold").scrollIntoView({ block: "start", behavior: isStill() ? "auto" : "smooth" });
 }
 
 /** Asks why no run ends in a state that is missing. */
@@ -391,7 +391,8 @@ async function copyLink(status) {
 
 /** Connects the buttons of the editor. */
 function listenToTools() {
-  findById("unfold").addEventListener("click", toggleText);
+  findById("unfold").addEventListener("click", () => toggleText());
+  findById("to-text").addEventListener("click", () => toggleText(false));
   findById("file").addEventListener("change", openFile);
   findById("save").addEventListener("click", () => save(makeFileName(parseName(editor.text), "litmus"), "text/plain", editor.text));
   findById("link").addEventListener("click", () => copyLink(findById("said")));

@@ -480,6 +480,19 @@ class Phone(PageCase):
                 user.run("scrollTo(0, arguments[0] * (document.documentElement.scrollHeight - innerHeight))", part)
                 self.assertEqual([], user.run(over), (name, part))
 
+    def test_to_text(self) -> None:
+        """A button at the top, which takes no row of its own, unfolds the text below the answers and brings it into sight; a wide window has none."""
+        user = self.user
+        bottom = "return document.querySelector(arguments[0]).getBoundingClientRect().bottom"
+        self.assertAlmostEqual(user.run(bottom, "#theme"), user.run(bottom, "#to-text"), delta=4)
+        for _ in range(2):
+            user.click("#to-text")
+            self.assertEqual("true", user.find("#unfold").get_attribute("aria-expanded"))
+            self.assertSoon(True, lambda: user.run(IN_SIGHT, "#unfold, #text, #run-it"))
+            user.run("scrollTo(0, 0)")
+        user.resize(1280, 720)
+        self.assertEqual([], user.all("#to-text"))
+
     def test_unfolded(self) -> None:
         """A button unfolds the text, which is edited and run; a fault unfolds it. *Link* is beside the button, also if the text is folded."""
         user = self.user
