@@ -6,7 +6,7 @@
 import { alignCells } from "./aligned.js";
 import { readBlocks, rewriteReturns } from "./assembly_reader.js";
 import { rewriteWhole } from "./notation.js";
-import { isReserved } from "./token_reader.js";
+import { isReserved, WORD } from "./token_reader.js";
 
 const MAX_THREADS = 4;
 // More instructions of a thread than this are not rewritten.
@@ -30,7 +30,8 @@ const VARIABLES = [
   /(\b[dq]?word\s+ptr\s+)([A-Za-z_][\w.$]*)(?:\+(\d+))?(?=\s*(?:,|$))/gi,
 ];
 const REGISTER = /^(?:[re]?(?:[abcd]x|[sd]i|[bs]p|ip)|r(?:[89]|1[0-5])[dwb]?)$/i;
-const IS_WIDE = /\bqword\b|\bmov(?:abs)?q\b|\br(?:[abcd]x|[sd]i)\b/i;
+// An instruction of 64 bits.
+const WIDE = /\bqword\b|\b(?:mov|x?add|sub|xchg|cmp|inc|dec|x?or|and)q\b|\br(?:[abcd]x|[sd]i|\d\d?)\b/i;
 // A location in an instruction, in brackets or relative to the next instruction.
 const LOCATION = /\[\s*(?:rip\s*\+\s*|rel\s+)?(\w+)\s*\]|(?<![\w.$])([A-Za-z_]\w*)(?:\(%rip\)|\[rip\])/gi;
 // Functions that are no threads: they start these, or set variables before them.
@@ -101,15 +102,31 @@ function rewriteVariables(line, renamed) {
     if (name !== variable) renamed.set(Number(offset) ? `${variable}+${offset}` : variable, name);
     return before + name;
   };
-  return VARIABLES.reduce((code, pattern) => code.replace(pattern, rewrite), line.replace(/\[rip\s*\+\s*(\d+)\]/i, "+$1[rip]"));
+  const written = line.replace(/\[rip\s*\+\s*(\d+)\]/i, "+$1[rip]").replace(/(?<![\w+.$])(\d+)\+([A-Za-z_][\w.$]*)(?=\(%rip\))/, "$2+$1");
+  return VARIABLES.reduce((code, pattern) => code.replace(pattern, rewrite), written);
 }
 
-/** Returns the initial values that variables have, if code names them, as entries of a block. */
+/** Returns whether a part of a variable, as the keys of a map of names say it, is no word of the size that code accesses. */
+function isMisaligned(lines, renamed) {
+  const size = lines.some((it) => WIDE.test(it) && it.search(LOCATION) >= 0) ? 8 : 4;
+  return [...renamed.keys()].some((it) => Number(/\+(\d+)$/.exec(it)?.[1] ?? 0) % size);
+}
+
+/** Returns the words of variables that code names, each with the `name` of its location. */
+function listWords(variables, lines) {
+  const entries = variables.flatMap(({ name, words }) => words.map(({ offset, ...it }) => ({ name: formatLocation(name, offset), ...it })));
+  const named = new Set(lines.flatMap((it) => it.match(/[\w.$]+/g) ?? []));
+  return entries.filter((it) => named.has(it.name));
+}
+
+/** Returns the name of a location that code names, and whose initial value of 64 bits is no word; undefined if there is none. */
+function findLargeWord(variables, lines) {
+  return listWords(variables, lines).find(({ word, bytes }) => bytes === 8 && !(word >= 0 && word < WORD))?.name;
+}
+
+/** Returns the initial values other than 0 that variables have, if code names them, as entries of a block. */
 function formatWords(variables, lines) {
-  const entries = variables.flatMap(({ name, words }) => words.map(({ offset, word }) => ({ name: formatLocation(name, offset), word })));
-  const code = lines.join("\n");
-  const isUsed = ({ name, word }) => word && new RegExp(`(?<![\\w.$])${name}\\b`).test(code);
-  return entries.filter(isUsed).map(({ name, word }) => `${name}=${((word % 2 ** 32) + 2 ** 32) % 2 ** 32};`).join(" ");
+  return listWords(variables, lines).filter((it) => it.word).map(({ name, word }) => `${name}=${((word % WORD) + WORD) % WORD};`).join(" ");
 }
 
 /** Returns the locations in lines that are before a comma (`isFirst`), or after one, in AT&T's order or not. */
@@ -188,8 +205,9 @@ export function explainAssembly(place) {
   const renamed = new Map();
   const threads = read.threads.map((it) => rewriteReturns(it).map((line) => rewriteVariables(line, renamed)));
   const refused = refuseLines(threads, read.names);
-  const isOdd = [...renamed.keys()].some((it) => Number(/\+(\d+)$/.exec(it)?.[1] ?? 0) % (IS_WIDE.test(text) ? 8 : 4));
-  if (refused !== null || isOdd) return refused ?? "";
+  if (refused !== null || isMisaligned(threads.flat(), renamed)) return refused ?? "";
+  const large = findLargeWord(read.variables, threads.flat());
+  if (large) return `${BEGIN}: the initial value of \`${large}\` does not fit into the 32 bits of a word of lw.`;
   const names = threads.map((_, thread) => `P${thread}`);
   const rows = Array.from({ length: Math.max(...threads.map((it) => it.length)) }, (_, row) => threads.map((it) => it[row] ?? ""));
   const { list, question, isAsked } = makeQuestion(threads);

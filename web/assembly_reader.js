@@ -2,7 +2,8 @@
 // function, and the words of variables. Not proved.
 //
 // An `AssemblyBlock` has the `name` in the line that begins it, or "", the `number` of the thread that this line names, or null, its `lines`, each an
-// instruction, a label with a colon, or "" for a blank line, and the `words` of a variable, each with its `offset` in bytes.
+// instruction, a label with a colon, or "" for a blank line, and the `words` of a variable, each with its `offset` and its size
+// (`bytes`).
 
 // A line before the code of a thread, as `P0:` or `// Thread 1`: the groups are its name, the number in it, and the code after the colon.
 const HEADING = /^(?:(?:#|\/\/|;)\s*)?((?:P|T|CPU|core|processor|thread)[\s_]*(\d+))\s*(?:\(\)\s*)?(?::(?!:)(.*))?$/i;
@@ -38,11 +39,11 @@ function parseLabelLine(line) {
   return name && (!/\s/.test(name) || OF_FUNCTION.test(name)) ? name : undefined;
 }
 
-/** Returns the words that a directive gives a variable, each with its offset. */
+/** Returns the words that a directive gives a variable, each with its number of bytes. */
 function parseWords(directive, list) {
-  const isZero = /^(?:zero|space|skip)$/i.test(directive);
-  const numbers = isZero ? ["0"] : list.split(",").map((it) => it.trim());
-  return numbers.map((it, at) => ({ offset: at * (BYTES[directive.toLowerCase()] ?? 0), word: Number(it.replace(/^0?([\da-f]+)h$/i, "0x$1")) }));
+  const numbers = list.split(",").map((it) => Number(it.trim().replace(/^0?([\da-f]+)h$/i, "0x$1")));
+  const bytes = BYTES[directive.toLowerCase()];
+  return bytes ? numbers.map((word) => ({ word, bytes })) : [{ word: 0, bytes: numbers[0] }];
 }
 
 /** Reads the lines of a text, from first to last. */
@@ -105,12 +106,13 @@ class AssemblyReader {
     return isNamed || this.declared.has(label) || !code.length || LEAVES.test(code.at(-1)) || DATA.test(next ?? "");
   }
 
-  /** Adds the words of a directive to those of the block, at their places after these. */
-  addWords(words) {
-    const last = this.block.words.at(-1);
-    const begin = last ? last.offset + last.bytes : 0;
-    const bytes = words.length > 1 ? words[1].offset : 4;
-    this.block.words.push(...words.map(({ offset, word }) => ({ offset: begin + offset, word, bytes })));
+  /** Adds the words of a directive to those of the block, after these. */
+  addWords(added) {
+    const { words } = this.block;
+    for (const { word, bytes } of added) {
+      const last = words.at(-1);
+      words.push({ offset: last ? last.offset + last.bytes : 0, word, bytes });
+    }
   }
 }
 
