@@ -5,6 +5,8 @@
 // instruction, a label with a colon, or "" for a blank line, and the `words` of a variable, each with its `offset` and its size
 // (`bytes`).
 
+import { orderSteps } from "./block_order.js";
+
 // A line before the code of a thread, as `P0:` or `// Thread 1`: the groups are its name, the number in it, and the code after the colon.
 const HEADING = /^(?:(?:#|\/\/|;)\s*)?((?:P|T|CPU|core|processor|thread)[\s_]*(\d+))\s*(?:\(\)\s*)?(?::(?!:)(.*))?$/i;
 // Where a comment begins. (`#1` may be a constant.)
@@ -152,9 +154,10 @@ export function rewriteReturns(lines) {
   const isReturn = (it) => RETURN.test(it.code);
   const ends = new Set([...steps.filter(isReturn).flatMap((it) => it.labels), ...labels]);
   const rewriteJump = (code) => code.replace(JUMP, (jump, label) => jump.slice(0, -label.length) + (ends.has(label) ? end : rewriteLabel(label)));
-  const written = steps.map((it) => ({ labels: isReturn(it) ? [] : it.labels, code: isReturn(it) ? `jmp ${end}` : rewriteJump(it.code) }));
+  const rewriteStep = (it) => ({ labels: isReturn(it) ? [] : it.labels.map(rewriteLabel), code: isReturn(it) ? `jmp ${end}` : rewriteJump(it.code) });
+  const written = orderSteps(steps.map(rewriteStep), end);
   const isLast = ({ labels: before, code }) => !before.length && new RegExp(`^jmp\\s+(?:short\\s+)?${end}$`, "i").test(code);
   while (written.length && isLast(written.at(-1))) written.pop();
-  const code = written.map((it) => [...it.labels.map((label) => `${rewriteLabel(label)}:`), it.code].join(" "));
+  const code = written.map((it) => [...it.labels.map((label) => `${label}:`), it.code].join(" "));
   return written.some((it) => it.code.endsWith(` ${end}`)) ? [...code, `${end}:`] : code;
 }

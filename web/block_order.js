@@ -1,0 +1,91 @@
+// Orders the code of a thread so that its jumps go forward, as lw wants them: compilers put code that runs rarely at the end, from where it jumps back.
+// Only the jump back of a loop stays one. Not proved.
+//
+// A `Step` has its `labels`, and its `code`: an instruction. A block is a list of steps that a run enters at the first one only, and leaves at the last one.
+
+const JUMP = /^j(\w+)\s+(?:short\s+)?(\w+)$/i;
+// More steps than this are not ordered.
+const MAX_STEPS = 256;
+// A jump that is taken if another one is not.
+const OPPOSITES = { e: "ne", ne: "e", z: "nz", nz: "z" };
+
+/** Returns the label and the condition of a step that is a jump, `mp` without one; none if it is another step. */
+function parseJump({ code }) {
+  const [, condition, label] = JUMP.exec(code) ?? [];
+  return label ? { condition: condition.toLowerCase(), label } : {};
+}
+
+/** Returns the blocks of steps. */
+function splitBlocks(steps) {
+  const blocks = [];
+  for (const [at, step] of steps.entries()) {
+    if (!at || step.labels.length || parseJump(steps[at - 1]).label) blocks.push([]);
+    blocks.at(-1).push(step);
+  }
+  return blocks;
+}
+
+/** Returns the indices of blocks that follow the one at an index: that to which it jumps, and that to which it continues. */
+function listNext(blocks, indices, at) {
+  const { condition, label } = parseJump(blocks[at].at(-1));
+  return { jumped: label && indices.get(label), continued: condition === "mp" ? undefined : at + 1 };
+}
+
+/**
+ * Returns the indices of the blocks that a run may reach, each one after those from which runs come to it, unless they are in a loop with it.
+ * @param {{jumped?: number, continued?: number}[]} next
+ * @returns {number[]}
+ */
+function sortBlocks(next) {
+  const [visited, sorted] = [new Set(), []];
+  const visit = (at) => {
+    if (at === undefined || at >= next.length || visited.has(at)) return;
+    visited.add(at);
+    visit(next[at].jumped);
+    visit(next[at].continued);
+    sorted.unshift(at);
+  };
+  visit(0);
+  return sorted;
+}
+
+/** Returns the steps of a block before another one, after which a run is where it would have continued. `label` returns the label of a block. */
+function linkBlock(block, { jumped, continued }, following, label) {
+  const { condition } = parseJump(block.at(-1));
+  const front = condition ? block.slice(0, -1) : block;
+  const makeJump = (name, to) => ({ labels: condition ? block.at(-1).labels : [], code: `j${name} ${label(to)}` });
+  if (condition === "mp") return jumped === following && !block.at(-1).labels.length ? front : block;
+  if (continued === following) return block;
+  if (jumped === following && OPPOSITES[condition]) return [...front, makeJump(OPPOSITES[condition], continued)];
+  return [...block, { labels: [], code: `jmp ${label(continued)}` }];
+}
+
+/** Returns a label for the block at an index, and records it. */
+function makeLabel(indices, at) {
+  let name = `B${at}`;
+  while (indices.has(name)) name += "_";
+  indices.set(name, at);
+  return name;
+}
+
+/**
+ * Returns steps in an order in which jumps go forward, except those of loops; the same ones if they do already. `end` is the label after the last step.
+ * @param {Step[]} steps
+ * @param {string} end
+ * @returns {Step[]}
+ */
+export function orderSteps(steps, end) {
+  if (steps.length > MAX_STEPS) return steps;
+  const blocks = splitBlocks(steps);
+  const indices = new Map([...blocks.flatMap((block, at) => block[0].labels.map((label) => [label, at])), [end, blocks.length]]);
+  const next = blocks.map((_, at) => listNext(blocks, indices, at));
+  if (!next.some(({ jumped }, at) => jumped <= at) || blocks.some((it) => it.some((step) => !indices.has(parseJump(step).label ?? end)))) return steps;
+  const sorted = sortBlocks(next);
+  const label = (at) => {
+    if (at === blocks.length) return end;
+    const [first] = blocks[at];
+    if (!first.labels.length) first.labels.push(makeLabel(indices, at));
+    return first.labels[0];
+  };
+  return sorted.flatMap((at, place) => linkBlock(blocks[at], next[at], sorted[place + 1] ?? blocks.length, label));
+}
