@@ -31,8 +31,21 @@ function listNext(blocks, indices, at) {
   return { jumped: label && indices.get(label), continued: condition === "mp" ? undefined : at + 1 };
 }
 
+/** Returns whether a run may come from one block to another one. */
+function isReachable(next, from, to) {
+  const [visited, open] = [new Set(), [from]];
+  for (let at = open.pop(); at !== undefined; at = open.pop()) {
+    if (at === to) return true;
+    if (visited.has(at) || at >= next.length) continue;
+    visited.add(at);
+    open.push(...[next[at].jumped, next[at].continued].filter((it) => it !== undefined));
+  }
+  return false;
+}
+
 /**
- * Returns the indices of the blocks that a run may reach, each one after those from which runs come to it, unless they are in a loop with it.
+ * Returns the indices of the blocks that a run may reach, each one after those from which runs come to it, unless they are in a loop with it. The blocks of a
+ * loop are together.
  * @param {{jumped?: number, continued?: number}[]} next
  * @returns {number[]}
  */
@@ -41,8 +54,11 @@ function sortBlocks(next) {
   const visit = (at) => {
     if (at === undefined || at >= next.length || visited.has(at)) return;
     visited.add(at);
-    visit(next[at].jumped);
-    visit(next[at].continued);
+    const { jumped, continued } = next[at];
+    const isInLoop = (it) => it !== undefined && isReachable(next, it, at);
+    // What is visited last is sorted first.
+    const isTurned = isInLoop(jumped) && !isInLoop(continued);
+    for (const it of isTurned ? [continued, jumped] : [jumped, continued]) visit(it);
     sorted.unshift(at);
   };
   visit(0);

@@ -17,6 +17,7 @@ import { readTest } from "./tests.js";
 import { REGISTERS, WORD } from "./token_reader.js";
 import { explainTypography } from "./typography.js";
 import { beginsWithX86, blankComments, findToken } from "./tokens.js";
+import { explainWaiting } from "./waiting.js";
 
 const STATEMENTS =
   "A statement is `x := 1` or `x := r0` (a store), `r0 := x` (a load), `r0 := 1`, `r0 := r1 + 1`, `r0 := swap x r1`, `r0 := fetchadd x r1`, " +
@@ -466,7 +467,8 @@ const SENTENCES = {
     `The thread has no label ${place.tokenWords} to jump to.` +
     place.proposeNearest([...place.text.matchAll(/([A-Za-z_]\w*)\s*:(?!=)/g)].map(([, label]) => label)),
   "cell LabelTwice": ({ tokenWords }) => `The thread has the label ${tokenWords} already.`,
-  "cell Backward": ({ tokenWords }) => `The jump to ${tokenWords} goes back. Jumps go forward only: a loop is written out as often as it is tried.`,
+  "cell Backward": (place) =>
+    explainWaiting(place) || `The jump to ${place.tokenWords} goes back. Jumps go forward only: a loop is written out as often as it is tried.`,
   "cell TooMany": ({ isX86 }) =>
     `A thread has ${isX86 ? "32 instructions" : "16 statements"} at most, and a test eight locations.`,
 };

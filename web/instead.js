@@ -76,7 +76,7 @@ function listSumSteps(code, register) {
 }
 
 /** Returns a register that a thread does not use and of which the text says nothing; undefined if there is none. */
-function findFreeRegister(text, thread, names) {
+export function findFreeRegister(text, thread, names) {
   const cells = text.split(";").map((row) => row.split("|")[thread] ?? "");
   const sites = text.match(new RegExp(`\\b${thread}\\s*:\\s*\\w+`, "g")) ?? [];
   const used = [...cells, ...sites].join(" ");
@@ -105,7 +105,7 @@ function makeRowsLike(row, thread, instructions) {
  * @param {string[]} instructions
  * @returns {{rows: string, end: number}}
  */
-function makeRowsBelow(text, row, thread, instructions) {
+export function makeRowsBelow(text, row, thread, instructions) {
   const below = parseCells(text).filter((it) => it.thread === thread && it.front > row.end);
   const isBlank = (it) => !text.slice(it.front, it.end).trim();
   const taken = below.findIndex((it) => !isBlank(it));
