@@ -1,7 +1,7 @@
 // Makes an x86 test of instructions that have none around them, as a compiler prints them or as somebody writes them below the names of threads. Not
 // proved.
 //
-// The record `AssemblyBlock` is that of assembly_reader.js. A `Renaming` maps the names of variables to those of locations.
+// The record `AssemblyBlock` is that of assembly_reader.js.
 
 import { alignCells } from "./aligned.js";
 import { readBlocks, rewriteReturns } from "./assembly_reader.js";
@@ -19,15 +19,18 @@ const FRAME = /^(?!lock\b).*(?:\[[er][sb]p\s*[-+]|\d\(%[er][sb]p\))/i;
 // A line of assembly: labels, an instruction, or both. And instructions that no test has.
 const ASSEMBLY = /^(?:\w+:\s*)+$|^(?:\w+:\s*)*(?:(?:lock|rep)\s+)?(?:mov|x?add|sub|cmp|xchg|inc|dec|test|x?or|and|j[nmez]|[mls]fence|nop|pause)\w*(?:\s[^;|{}=]*)?$/i;
 const OTHER_INSTRUCTION = /^(?:\w+:\s*)*(?:lock\s+)?(?:call|lea|cdqe?|cltq|imul|set\w+|cmov\w+|cmpxchg|bt[src]?|sh[lr]|sa[lr]|neg|not|j\w+|push|pop|leave)\w*(?:\s[^;|{}=]*)?$/i;
+// What may be another instruction: a name, with operands or without.
+const UNKNOWN_INSTRUCTION = /^(?:\w+:\s*)*(?:lock\s+)?[a-z]\w{1,9}(?:\s[^\s,;|{}=]+(?:\s?,[^;|{}=]*)?)?$/i;
 // A load, with its register, which is first, or last in AT&T's order; and a register that is an operand.
 const LOAD = /^(?:\w+:\s*)*mov[lq]?\s+(?:[re]([abcd]x|[sd]i)\s*,.*\[.*|[^$%,][^,]*,\s*%[re]([abcd]x|[sd]i))$/i;
 const OPERAND = /(?<!\[|\(%|\w)%?[er]([abcd]x|[sd]i)\b/gi;
-// A variable in an instruction, perhaps with a number of bytes after it: relative to the next instruction, in brackets, or after its size. The groups are
-// what is before it, its name, and the number.
+// A variable in an instruction, perhaps in a class and with a number of bytes after it: relative to the next instruction, in brackets, or after its size. The
+// groups are what is before it, its name, and the number.
+const NAME = "([A-Za-z_][\\w.$]*(?:::[A-Za-z_][\\w.$]*)*)";
 const VARIABLES = [
-  /(?<![\w.$])()([A-Za-z_][\w.$]*)(?:\+(\d+))?(?=\(%rip\)|\[rip\])/gi,
-  /(\[(?:rip\s*\+\s*|rel\s+)?)([A-Za-z_][\w.$]*)(?:\s*\+\s*(\d+))?(?=\s*\])/gi,
-  /(\b[dq]?word\s+ptr\s+)([A-Za-z_][\w.$]*)(?:\+(\d+))?(?=\s*(?:,|$))/gi,
+  new RegExp(`(?<![\\w.$:])()${NAME}(?:\\+(\\d+))?(?=\\(%rip\\)|\\[rip\\])`, "gi"),
+  new RegExp(`(\\[(?:rip\\s*\\+\\s*|rel\\s+)?)${NAME}(?:\\s*\\+\\s*(\\d+))?(?=\\s*\\])`, "gi"),
+  new RegExp(`(\\b[dq]?word\\s+ptr\\s+)${NAME}(?:\\+(\\d+))?(?=\\s*(?:,|$))`, "gi"),
 ];
 const REGISTER = /^(?:[re]?(?:[abcd]x|[sd]i|[bs]p|ip)|r(?:[89]|1[0-5])[dwb]?)$/i;
 // An instruction of 64 bits.
@@ -94,22 +97,29 @@ function formatLocation(variable, offset) {
   return isReserved(name) ? `${name}_` : name;
 }
 
-/** Returns an instruction in which variables have names of locations, and adds those that change to a map of names. */
-function rewriteVariables(line, renamed) {
+/** Returns an instruction in which variables have names of locations, and adds these to a map of names. */
+function rewriteVariables(line, locations) {
   const rewrite = (whole, before, variable, offset) => {
     if (REGISTER.test(variable)) return whole;
     const name = formatLocation(variable, offset);
-    if (name !== variable) renamed.set(Number(offset) ? `${variable}+${offset}` : variable, name);
+    locations.set(Number(offset) ? `${variable}+${Number(offset)}` : variable, name);
     return before + name;
   };
-  const written = line.replace(/\[rip\s*\+\s*(\d+)\]/i, "+$1[rip]").replace(/(?<![\w+.$])(\d+)\+([A-Za-z_][\w.$]*)(?=\(%rip\))/, "$2+$1");
+  const written = line.replace(/\[rip\s*\+\s*(\d+)\]/i, "+$1[rip]").replace(/(?<![\w+.$])(\d+)\+([A-Za-z_][\w.$:]*)(?=\(%rip\))/, "$2+$1");
   return VARIABLES.reduce((code, pattern) => code.replace(pattern, rewrite), written);
 }
 
 /** Returns whether a part of a variable, as the keys of a map of names say it, is no word of the size that code accesses. */
-function isMisaligned(lines, renamed) {
+function isMisaligned(lines, locations) {
   const size = lines.some((it) => WIDE.test(it) && it.search(LOCATION) >= 0) ? 8 : 4;
-  return [...renamed.keys()].some((it) => Number(/\+(\d+)$/.exec(it)?.[1] ?? 0) % size);
+  return [...locations.keys()].some((it) => Number(/\+(\d+)$/.exec(it)?.[1] ?? 0) % size);
+}
+
+/** Returns two variables whose locations would have one name; undefined if there are none. */
+function findNamesakes(locations) {
+  const variables = [...locations.keys()];
+  const other = variables.find((it, at) => variables.findIndex((one) => locations.get(one) === locations.get(it)) < at);
+  return other && [variables.find((it) => locations.get(it) === locations.get(other)), other];
 }
 
 /** Returns the words of variables that code names, each with the `name` of its location. */
@@ -159,11 +169,19 @@ function makeQuestion(threads) {
   return { list: listed.length ? `locations [${listed.map((it) => `${it};`).join(" ")}]\n` : "", question, isAsked: asked.length > 0 };
 }
 
+/** Returns whether lines are instructions, also if the page does not know all of them. */
+function areInstructions(lines) {
+  const known = lines.filter((it) => ASSEMBLY.test(it));
+  const unknown = lines.filter((it) => !ASSEMBLY.test(it) && !OTHER_INSTRUCTION.test(it));
+  if (!known.length || !unknown.every((it) => UNKNOWN_INSTRUCTION.test(it))) return false;
+  return !unknown.length || (known.some((it) => it.includes(",")) && unknown.length * 2 <= lines.length);
+}
+
 /** Returns a sentence that refuses the lines of a text of instructions, or null: "" says that they are no instructions. */
 function refuseLines(threads, names) {
   const lines = threads.flat();
   const others = lines.filter((it) => !ASSEMBLY.test(it));
-  if (others.length === lines.length || !others.every((it) => OTHER_INSTRUCTION.test(it))) return "";
+  if (!areInstructions(lines)) return "";
   if (lines.some((it) => FRAME.test(it))) return UNOPTIMIZED;
   if (threads.length > MAX_THREADS) return `${BEGIN}, in ${threads.length} parts${names.length ? `, as \`${names[0]}\` and \`${names[1]}\`` : ""}: a test has four threads at most.`;
   if (threads.some((it) => it.length > MAX_LINES)) return `${BEGIN}: a thread has 32 at most.`;
@@ -182,13 +200,14 @@ export function numberThreads(question, first) {
 }
 
 /** Returns what is said of the threads of a text of instructions. */
-function describeThreads({ threads, names, first, leftOut }, renamed) {
+function describeThreads({ threads, names, first, leftOut }, locations) {
+  const renamed = [...locations].filter(([from, to]) => from !== to);
   const others = leftOut.map((it) => `\`${it}\``);
   return [
     threads.length > 1 && !names.length && "A blank line begins the next thread.",
     first && `\`${names[0]}\` is P0 here, since the first thread has the number 0.`,
     others.length && `${formatNames(others)} ${others.length === 1 ? "is" : "are"} left out.`,
-    ...[...renamed].slice(0, 2).map(([from, to]) => `The location of \`${from}\` is \`${to}\`.`),
+    ...renamed.slice(0, 2).map(([from, to]) => `The location of \`${from}\` is \`${to}\`.`),
   ].filter(Boolean);
 }
 
@@ -202,10 +221,12 @@ export function explainAssembly(place) {
   const [front = ""] = FRONT.exec(text) ?? [];
   const end = text.search(QUESTION);
   const read = readThreads(text.slice(front.length, end < front.length ? text.length : end));
-  const renamed = new Map();
-  const threads = read.threads.map((it) => rewriteReturns(it).map((line) => rewriteVariables(line, renamed)));
+  const locations = new Map();
+  const threads = read.threads.map((it) => rewriteReturns(it).map((line) => rewriteVariables(line, locations)));
   const refused = refuseLines(threads, read.names);
-  if (refused !== null || isMisaligned(threads.flat(), renamed)) return refused ?? "";
+  if (refused !== null || isMisaligned(threads.flat(), locations)) return refused ?? "";
+  const namesakes = findNamesakes(locations);
+  if (namesakes) return `${BEGIN}, in which ${formatNames(namesakes.map((it) => `\`${it}\``))} would have one name.`;
   const large = findLargeWord(read.variables, threads.flat());
   if (large) return `${BEGIN}: the initial value of \`${large}\` does not fit into the 32 bits of a word of lw.`;
   const names = threads.map((_, thread) => `P${thread}`);
@@ -217,5 +238,5 @@ export function explainAssembly(place) {
   place.proposeChange(threads.length > 1 ? alignCells(made) : made, 0, text.length);
   place.change.title = threads.length > 1 ? `Make ${formatNames(names)} of them` : "Make it P0 of a test";
   const guess = isAsked ? "The question is a guess: change it to yours." : "The question `true` holds always: look at the list of states.";
-  return [`${BEGIN}.`, ...describeThreads(read, renamed), end < front.length && guess, words].filter(Boolean).join(" ").trim();
+  return [`${BEGIN}.`, ...describeThreads(read, locations), end < front.length && guess, words].filter(Boolean).join(" ").trim();
 }
