@@ -109,10 +109,11 @@ function rewriteVariables(line, locations) {
   return VARIABLES.reduce((code, pattern) => code.replace(pattern, rewrite), written);
 }
 
-/** Returns whether a part of a variable, as the keys of a map of names say it, is no word of the size that code accesses. */
-function isMisaligned(lines, locations) {
-  const size = lines.some((it) => WIDE.test(it) && it.search(LOCATION) >= 0) ? 8 : 4;
-  return [...locations.keys()].some((it) => Number(/\+(\d+)$/.exec(it)?.[1] ?? 0) % size);
+/** Returns a part of a variable, as a key of a map of names, that is no word of the size that code accesses; undefined if there is none. */
+function findPartOfWord(lines, locations) {
+  const hasLocation = (line) => [...line.matchAll(LOCATION)].some(({ 1: bare, 2: relative }) => !REGISTER.test(bare ?? relative));
+  const size = lines.some((it) => WIDE.test(it) && hasLocation(it)) ? 8 : 4;
+  return [...locations.keys()].find((it) => Number(/\+(\d+)$/.exec(it)?.[1] ?? 0) % size);
 }
 
 /** Returns two variables whose locations would have one name; undefined if there are none. */
@@ -188,6 +189,16 @@ function refuseLines(threads, names) {
   return others.length ? `${BEGIN}, of which the page does not rewrite \`${others[0]}\`.` : null;
 }
 
+/** Returns a sentence that refuses the variables of lines, of which a map has the locations, or null. */
+function refuseVariables(lines, locations, variables) {
+  const part = findPartOfWord(lines, locations);
+  if (part) return `${BEGIN}: \`${part}\` is in the middle of a word.`;
+  const namesakes = findNamesakes(locations);
+  if (namesakes) return `${BEGIN}, in which ${formatNames(namesakes.map((it) => `\`${it}\``))} would have one name.`;
+  const large = findLargeWord(variables, lines);
+  return large ? `${BEGIN}: the initial value of \`${large}\` does not fit into the 32 bits of a word of lw.` : null;
+}
+
 /**
  * Returns a question in which threads have the numbers of a test, given the number of the first thread in it.
  * @param {string} question
@@ -223,12 +234,8 @@ export function explainAssembly(place) {
   const read = readThreads(text.slice(front.length, end < front.length ? text.length : end));
   const locations = new Map();
   const threads = read.threads.map((it) => rewriteReturns(it).map((line) => rewriteVariables(line, locations)));
-  const refused = refuseLines(threads, read.names);
-  if (refused !== null || isMisaligned(threads.flat(), locations)) return refused ?? "";
-  const namesakes = findNamesakes(locations);
-  if (namesakes) return `${BEGIN}, in which ${formatNames(namesakes.map((it) => `\`${it}\``))} would have one name.`;
-  const large = findLargeWord(read.variables, threads.flat());
-  if (large) return `${BEGIN}: the initial value of \`${large}\` does not fit into the 32 bits of a word of lw.`;
+  const refused = refuseLines(threads, read.names) ?? refuseVariables(threads.flat(), locations, read.variables);
+  if (refused !== null) return refused;
   const names = threads.map((_, thread) => `P${thread}`);
   const rows = Array.from({ length: Math.max(...threads.map((it) => it.length)) }, (_, row) => threads.map((it) => it[row] ?? ""));
   const { list, question, isAsked } = makeQuestion(threads);

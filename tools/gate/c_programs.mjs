@@ -529,7 +529,7 @@ function findQuestion(text) {
 }
 
 /** Returns the page's modules of some names. */
-async function loadModules(names) {
+export async function loadModules(names) {
   const room = fs.mkdtempSync(path.join(os.tmpdir(), "lw-programs-"));
   try {
     fs.writeFileSync(`${room}/package.json`, '{"type": "module"}');

@@ -16,6 +16,7 @@ import readline from "node:readline";
 import { fileURLToPath, pathToFileURL } from "node:url";
 import { isDeepStrictEqual, parseArgs } from "node:util";
 import { MessageChannel, Worker, receiveMessageOnPort } from "node:worker_threads";
+import { compareAssemblyTexts } from "./assembly_texts.mjs";
 import { compareCPrograms } from "./c_programs.mjs";
 
 const HOME = path.dirname(path.dirname(path.dirname(fileURLToPath(import.meta.url))));
@@ -1156,6 +1157,7 @@ async function main() {
   compareMendedTexts(page, program, tally);
   compareSourceHints(page, program, tally);
   await compareCPrograms((...compared) => tally.compare(...compared));
+  await compareAssemblyTexts((...compared) => tally.compare(...compared));
   await compareFurtherFaults(page, program, tally, texts);
   if (!chosen.length) compareFinding(page, tally, familiesOfPage());
   if (!chosen.length) compareTyped(page, program, tally);

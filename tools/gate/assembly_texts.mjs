@@ -1,0 +1,387 @@
+// Compares what the page makes of instructions without a test around them, and of loops that only wait, with what is typed in here: its words, and the test
+// that its button puts into the text.
+//
+//     node tools/gate/assembly_texts.mjs      compares; the last line is 'N passed, M failed'
+//
+// tools/gate/check_site.mjs compares this too. It needs neither a browser nor the module.
+
+import { fileURLToPath } from "node:url";
+import { isDeepStrictEqual } from "node:util";
+import { loadModules } from "./c_programs.mjs";
+
+const PARTS = ["faults", "other_tools"];
+const BEGIN = "These are instructions without a test around them";
+const GUESS = "The question is a guess: change it to yours.";
+const TRUE = "The question `true` holds always: look at the list of states.";
+
+// A text, how the words on it begin after `BEGIN`, and the test that is made of it, or null.
+const TEXTS = [
+  ["a return in the middle", "P0:\n\tmov\tdword ptr [x], 1\n\tmov\teax, dword ptr [y]\n\ttest\teax, eax\n\tje\t.L2\n\tret\n.L2:\n\tmov\tdword ptr [z], 1\n\tret\n",
+    `. ${TRUE}`,
+    "X86 Mine\n{}\n P0 ;\n MOV [x],1 ;\n MOV EAX,[y] ;\n CMP EAX,$0 ;\n je L2 ;\n jmp END ;\n L2: MOV [z],1 ;\n END: ;\nlocations [0:EAX; x; z;]\nexists (true)\n"],
+  ["a jump back to a lone return", "f:\n.L0:\n\tcmpl $0, x(%rip)\n\tjne .L3\n.L1:\n\tret\n.L3:\n\tmovl $1, y(%rip)\n\tjmp .L1\n",
+    `. ${TRUE}`,
+    "X86 Mine\n{}\n P0 ;\n cmpl $0, x(%rip) ;\n jne L3 ;\n jmp END ;\n L3: movl $1, y(%rip) ;\n END: ;\nlocations [x; y;]\nexists (true)\n"],
+  ["a jump back to code", "P0:\n\tmovl x(%rip), %eax\n\ttestl %eax, %eax\n\tjne .L2\n.L3:\n\tmovl $1, y(%rip)\n\tret\n.L2:\n\tmovl $2, z(%rip)\n\tjmp .L3\n",
+    `. ${TRUE}`,
+    "X86 Mine\n{}\n P0 ;\n MOV EAX,[x] ;\n CMP EAX,$0 ;\n je L3 ;\n L2: MOV [z],$2 ;\n L3: MOV [y],$1 ;\nlocations [0:EAX; z; y;]\nexists (true)\n"],
+  ["a jump back to code that a branch in it leaves", "f:\n\tmov eax, [x]\n\tcmp eax, 1\n\tje .L4\n.L2:\n\tmov [y], 1\n\tret\n.L4:\n\tmov ebx, [z]\n\tcmp ebx, 2\n\tje .L2\n\tmov [z], 3\n\tjmp .L2\n",
+    `. ${TRUE}`,
+    "X86 Mine\n{}\n P0 ;\n mov eax, [x] ;\n cmp eax, 1 ;\n jne L2 ;\n L4: mov ebx, [z] ;\n cmp ebx, 2 ;\n je L2 ;\n mov [z], 3 ;\n L2: mov [y], 1 ;\nlocations [0:EAX; 0:EBX; y;]\nexists (true)\n"],
+  ["a loop with a pause at the end", "f:\n.L2:\n\tmov eax, [x]\n\ttest eax, eax\n\tje .L3\n\tmov [y], 1\n\tret\n.L3:\n\tpause\n\tjmp .L2\n",
+    `. ${TRUE}`,
+    "X86 Mine\n{}\n P0 ;\n L2: mov eax, [x] ;\n test eax, eax ;\n jne B1 ;\n L3: pause ;\n jmp L2 ;\n B1: mov [y], 1 ;\nlocations [0:EAX; y;]\nexists (true)\n"],
+  ["five functions", "a:\n mov [x],1\n ret\nb:\n mov [x],2\n ret\nc:\n mov [x],3\n ret\nd:\n mov [x],4\n ret\ne:\n mov [x],5\n ret\n",
+    ", in 5 parts, as `a` and `b`: a test has four threads at most.",
+    null],
+  ["initial words", "f:\n        mov     DWORD PTR x[rip], 1\n        mov     eax, DWORD PTR y[rip]\n        ret\nx:\n        .long   5\ny:\n        .zero   4\n",
+    `. ${GUESS}`,
+    "X86 Mine\n{ x=5; }\n P0 ;\n MOV [x],1 ;\n MOV EAX,[y] ;\nlocations [x;]\nexists (0:EAX=0)\n"],
+  ["initial words of NASM, with comments", "section .text\nglobal f\nf: ; the writer\n  mov dword [rel x], 1 ; store\n  mov eax, [rel y]     ; load\n  ret\nsection .data\nx: dd 0\ny: dd 7\n",
+    `. ${GUESS}`,
+    "X86 Mine\n{ y=7; }\n P0 ;\n MOV [x],1 ;\n MOV EAX,[y] ;\nlocations [x;]\nexists (0:EAX=0)\n"],
+  ["initial words of arrays", "f:\n\tmovl $1, 4+a(%rip)\n\tmovl b+8(%rip), %eax\n\tret\ng:\n\tmovl $1, 8+b(%rip)\n\tmovl 4+a(%rip), %eax\n\tret\na:\n\t.zero 4\n\t.long 3\nb:\n\t.zero 8\n\t.long 7\n",
+    `. The location of \`a+4\` is \`a_4\`. The location of \`b+8\` is \`b_8\`. ${GUESS}`,
+    "X86 Mine\n{ a_4=3; b_8=7; }\n P0            | P1            ;\n MOV [a_4],$1  | MOV [b_8],$1  ;\n MOV EAX,[b_8] | MOV EAX,[a_4] ;\nexists (0:EAX=0 /\\ 1:EAX=0)\n"],
+  ["an initial word of 64 bits", "f:\n movq x(%rip), %rax\n movq %rax, y(%rip)\n ret\nx:\n .quad -1\n",
+    ": the initial value of `x` does not fit into the 32 bits of a word of lw.",
+    null],
+  ["P1 before P0", "P1:\n  mov eax,[x]\n  mov ebx,[y]\nP0:\n  mov [y],1\n  mov [x],1\n",
+    `. ${TRUE}`,
+    "X86 Mine\n{}\n P0        | P1          ;\n mov [y],1 | mov eax,[x] ;\n mov [x],1 | mov ebx,[y] ;\nlocations [1:EAX; 1:EBX;]\nexists (true)\n"],
+  ["threads with the numbers 1 and 2", "Thread 1\nmov [x],1\nmov eax,[y]\nThread 2\nmov [y],1\nmov ebx,[x]\nexists (1:eax=0 /\\ 2:ebx=0)\n",
+    ".",
+    "X86 Mine\n{}\n P0          | P1          ;\n mov [x],1   | mov [y],1   ;\n mov eax,[y] | mov ebx,[x] ;\nexists (0:eax=0 /\\ 1:ebx=0)\n"],
+  ["main and an initializer", "main:\n\tmovl $0, x(%rip)\n\tret\n_GLOBAL__sub_I_x:\n\tmovl $0, x(%rip)\n\tret\nf:\n\tmovl $1, x(%rip)\n\tret\ng:\n\tmovl x(%rip), %eax\n\tret\n",
+    `. \`main\` and \`_GLOBAL__sub_I_x\` are left out. ${TRUE}`,
+    "X86 Mine\n{}\n P0         | P1          ;\n MOV [x],$1 | MOV EAX,[x] ;\nlocations [1:EAX;]\nexists (true)\n"],
+  ["a label to which nothing jumps", "writer:\n mov [x],1\nmarker:\n mov [y],1\n ret\nreader:\n mov eax,[y]\n mov ebx,[x]\n ret\n",
+    `. ${TRUE}`,
+    "X86 Mine\n{}\n P0        | P1          ;\n mov [x],1 | mov eax,[y] ;\n mov [y],1 | mov ebx,[x] ;\nlocations [1:EAX; 1:EBX;]\nexists (true)\n"],
+  ["comments of clang", "f:                                      # @f\n# %bb.0:\n\tmovl\t$1, x(%rip)\n\tmovl\ty(%rip), %eax\n\tretq\n                                        # -- End function\ng:                                      # @g\n# %bb.0:                                # %entry\n\tmovl\t$1, y(%rip)\n\tmovl\tx(%rip), %eax\n\tretq\n",
+    `. ${GUESS}`,
+    "X86 Mine\n{}\n P0          | P1          ;\n MOV [x],$1  | MOV [y],$1  ;\n MOV EAX,[y] | MOV EAX,[x] ;\nexists (0:EAX=0 /\\ 1:EAX=0)\n"],
+  ["assembly in a program", "f:\n\tmovl\t$1, x(%rip)\n#APP\n# 5 \"a.c\" 1\n\tmfence\n# 0 \"\" 2\n#NO_APP\n\tmovl\ty(%rip), %eax\n\tret\n",
+    `. ${GUESS}`,
+    "X86 Mine\n{}\n P0 ;\n MOV [x],$1 ;\n mfence ;\n MOV EAX,[y] ;\nlocations [x;]\nexists (0:EAX=0)\n"],
+  ["a lock with a semicolon", "f:\n\tlock; addl $1, x(%rip)\n\tmovl y(%rip), %eax\n\tret\n",
+    `. ${GUESS}`,
+    "X86 Mine\n{}\n P0 ;\n lock addl $1, x(%rip) ;\n movl y(%rip), %eax ;\nlocations [x;]\nexists (0:EAX=0)\n"],
+  ["a name that is a register of a source test", "f:\n movl %eax, r1(%rip)\n ret\n",
+    `. The location of \`r1\` is \`r1_\`. ${TRUE}`,
+    "X86 Mine\n{}\n P0 ;\n MOV [r1_],EAX ;\nlocations [0:EAX; r1_;]\nexists (true)\n"],
+  ["a part of an array", "f:\n mov DWORD PTR x[rip+4], 1\n lock or QWORD PTR [rsp], 0\n mov eax, DWORD PTR x[rip]\n ret\n",
+    `. The location of \`x+4\` is \`x_4\`. ${GUESS}`,
+    "X86 Mine\n{}\n P0 ;\n MOV [x_4],1 ;\n MFENCE ;\n MOV EAX,[x] ;\nlocations [x_4;]\nexists (0:EAX=0)\n"],
+  ["two variables of one name", "f:\n movl $1,a_4(%rip)\n movl 4+a(%rip),%eax\n ret\n",
+    ", in which `a_4` and `a+4` would have one name.",
+    null],
+  ["a part of a word", "f:\n movl $1,a+2(%rip)\n movl a(%rip),%eax\n ret\n",
+    ": `a+2` is in the middle of a word.",
+    null],
+  ["an instruction that is not rewritten", "f:\n mov [x],1\n ret\ng:\n mov ecx,[x]\n imul eax,ecx\n ret\n",
+    ", of which the page does not rewrite `imul eax,ecx`.",
+    null],
+  ["an unknown instruction", "f:\n mov [x],1\n bsf eax,ebx\n ret\ng:\n imul eax, ebx\n ret\n",
+    ", of which the page does not rewrite `bsf eax,ebx`.",
+    null],
+  ["code that is not optimized", "f:\n\tpushq\t%rbp\n\tmovq\t%rsp, %rbp\n\tmovl\t$1, x(%rip)\n\tmovl\ty(%rip), %eax\n\tmovl\t%eax, -4(%rbp)\n\tnop\n\tpopq\t%rbp\n\tret\n",
+    "These are instructions of a compiler without optimization, which keep variables on the stack: compile with `-O2`.",
+    null],
+  ["the front of a test, and blocks", "X86 SB\n{ x=0; y=0; }\nP0:\n MOV [x],$1\n MOV EAX,[y]\nP1:\n MOV [y],$1\n MOV EAX,[x]\nexists (0:EAX=0 /\\ 1:EAX=0)\n",
+    ".",
+    "X86 SB\n{ x=0; y=0; }\n P0          | P1          ;\n MOV [x],$1  | MOV [y],$1  ;\n MOV EAX,[y] | MOV EAX,[x] ;\nexists (0:EAX=0 /\\ 1:EAX=0)\n"],
+  ["mangled names", "_ZN1A4takeEv:\n\tmovl\t$1, _ZN1A1xE(%rip)\n\tmovl\t_ZN1A1yE(%rip), %eax\n\tret\nA::take(std::atomic<int>&):\n\tmovl\t$1, A::y(%rip)\n\tret\n",
+    `. The location of \`A::y\` is \`A__y\`. ${TRUE}`,
+    "X86 Mine\n{}\n P0                 | P1            ;\n MOV [_ZN1A1xE],$1  | MOV [A__y],$1 ;\n MOV EAX,[_ZN1A1yE] |               ;\nlocations [0:EAX; _ZN1A1xE; A__y;]\nexists (true)\n"],
+  ["names of classes", "writer():\n        mov     DWORD PTR A::x[rip], 1\n        mov     eax, 1\n        xchg    eax, DWORD PTR flag[rip]\n        ret\nreader():\n        mov     eax, DWORD PTR flag[rip]\n        test    eax, eax\n        je      .L5\n        mov     eax, DWORD PTR A::x[rip]\n        mov     DWORD PTR r1[rip], eax\n.L5:\n        ret\nr1:\n        .long   -1\nflag:\n        .zero   4\nA::x:\n        .zero   4\n",
+    `. The location of \`A::x\` is \`A__x\`. The location of \`r1\` is \`r1_\`. ${TRUE}`,
+    "X86 Mine\n{ r1_=4294967295; }\n P0              | P1             ;\n MOV [A__x],1    | MOV EAX,[flag] ;\n mov eax, 1      | CMP EAX,$0     ;\n XCHG EAX,[flag] | je END         ;\n                 | MOV EAX,[A__x] ;\n                 | MOV [r1_],EAX  ;\n                 | END:           ;\nlocations [0:EAX; 1:EAX; r1_;]\nexists (true)\n"],
+  ["no instructions", "hello my world\nand so on, and so on\n",
+    "`hello` is not expected here. A test is `SRC` or `X86` and a name, the initial values in `{ }`, the row `P0 | P1 ;`, the rows of code, and a question.",
+    null],
+  ["code above the first name", "mov [x],1\nP1:\nmov eax,[x]\n",
+    `. ${TRUE}`,
+    "X86 Mine\n{}\n P0        | P1          ;\n mov [x],1 | mov eax,[x] ;\nlocations [1:EAX;]\nexists (true)\n"],
+];
+
+const ONE = "This loop only waits, so one try is enough: its thread can leave it by a jump forward";
+const MORE = "These loops only wait, so one try is enough: threads can leave them by jumps forward";
+const ASKED = ", and the question leaves them out.";
+const BACK = "The jump to `L` goes back. Jumps go forward only: a loop is written out as often as it is tried.";
+// Tests with a loop, the words on it, or null if it does more than wait, and the test that is made of it.
+const LOOPS = [
+  ["a loop that waits", `X86 MP
+{ x=0; flag=0; }
+ P0             | P1                ;
+ MOV [x],$1     | L: MOV EAX,[flag] ;
+ MOV [flag],$1  | CMP EAX,$0        ;
+                | JE L              ;
+                | MOV EBX,[x]       ;
+exists (1:EBX=0)
+`, `${ONE}. States in which it has not ended are in the list, too${ASKED}`, `X86 MP
+{ x=0; flag=0; }
+ P0             | P1                ;
+ MOV [x],$1     | L: MOV EAX,[flag] ;
+ MOV [flag],$1  | CMP EAX,$0        ;
+                | JE END            ;
+                | MOV EBX,[x]       ;
+                | END:              ;
+exists (~1:EAX=0 /\\ 1:EBX=0)
+`],
+  ["a loop of a source test", `SRC MP
+{ x=0; flag=0; }
+ P0        | P1 ;
+ x := 1    | L: r0 := flag ;
+ flag := 1 | if r0 = 0 goto L ;
+           | r1 := x ;
+~exists (1:r1=0 \\/ x=2)
+`, `${ONE}. States in which it has not ended are in the list, too${ASKED}`, `SRC MP
+{ x=0; flag=0; }
+ P0        | P1 ;
+ x := 1    | L: r0 := flag ;
+ flag := 1 | if r0 = 0 goto END ;
+           | r1 := x ;
+           | END:    ;
+~exists (~1:r0=0 /\\ (1:r1=0 \\/ x=2))
+`],
+  ["a loop that a jump leaves, whose register is set later", `X86 MP
+{ x=0; flag=0; }
+ P0            | P1                 ;
+ MOV [x],$1    | JMP T              ;
+ MOV [flag],$1 | L: T: MOV EAX,[flag] ;
+               | CMP EAX,$1         ;
+               | JE D               ;
+               | JMP L              ;
+               | D: MOV EBX,[x]     ;
+               | MOV EAX,EBX        ;
+forall (1:EBX=1)
+`, `${ONE}, with \`ECX\` in place of \`EAX\`, which is set again later. States in which it has not ended are in the list, too${ASKED}`, `X86 MP
+{ x=0; flag=0; }
+ P0            | P1                 ;
+ MOV [x],$1    | JMP T              ;
+ MOV [flag],$1 | L: T: MOV ECX,[flag] ;
+               | CMP ECX,$1         ;
+               | JE D               ;
+               | JMP END            ;
+               | D: MOV EBX,[x]     ;
+               | MOV EAX,EBX        ;
+               | END:               ;
+forall (~1:ECX=1 \\/ 1:EBX=1)
+`],
+  ["a register that is set later", `X86 MP
+{ x=0; flag=0; }
+ P0             | P1                ;
+ MOV [x],$1     | L: MOV EAX,[flag] ;
+ MOV [flag],$1  | CMP EAX,$0        ;
+                | JE L              ;
+                | MOV EAX,[x]       ;
+locations [1:EAX]
+exists (1:EAX=0)
+`, `${ONE}, with \`EBX\` in place of \`EAX\`, which is set again later. States in which it has not ended are in the list, too${ASKED}`, `X86 MP
+{ x=0; flag=0; }
+ P0             | P1                ;
+ MOV [x],$1     | L: MOV EBX,[flag] ;
+ MOV [flag],$1  | CMP EBX,$0        ;
+                | JE END            ;
+                | MOV EAX,[x]       ;
+                | END:              ;
+locations [1:EAX]
+exists (~1:EBX=0 /\\ 1:EAX=0)
+`],
+  ["a label at the end of the thread", `SRC MP
+{ x=0; flag=0; }
+ P0        | P1                   ;
+ x := 1    | M: r0 := flag        ;
+ flag := 1 | if r0 != 1 goto M    ;
+           | r0 := x              ;
+           | if r0 = 1 goto DONE  ;
+           | y := 1               ;
+           | DONE:                ;
+forall (1:r0=1 \\/ x=2)
+`, `${ONE}, with \`r1\` in place of \`r0\`, which is set again later. States in which it has not ended are in the list, too${ASKED}`, `SRC MP
+{ x=0; flag=0; }
+ P0        | P1                   ;
+ x := 1    | M: r1 := flag        ;
+ flag := 1 | if r1 != 1 goto DONE ;
+           | r0 := x              ;
+           | if r0 = 1 goto DONE  ;
+           | y := 1               ;
+           | DONE:                ;
+forall (~1:r1=1 \\/ 1:r0=1 \\/ x=2)
+`],
+  ["three loops", `X86 MP
+{ x=0; flag=0; }
+ P0                  | P1                ;
+ MOV [x],$1          | L: MOV EAX,[flag] ;
+ MOV [flag],$1       | CMP EAX,$0        ;
+ Z: MOV EBX,[done]   | JE L              ;
+ CMP EBX,$1          | MOV EBX,[x]       ;
+ JNE Z               | M: MOV EAX,[go]   ;
+                     | CMP EAX,$3        ;
+                     | JE M              ;
+exists (1:EBX=0)
+`, `${MORE}, with \`ECX\` in place of \`EAX\`, which is set again later. States in which one has not ended are in the list, too${ASKED}`, `X86 MP
+{ x=0; flag=0; }
+ P0                  | P1                ;
+ MOV [x],$1          | L: MOV ECX,[flag] ;
+ MOV [flag],$1       | CMP ECX,$0        ;
+ Z: MOV EBX,[done]   | JE END            ;
+ CMP EBX,$1          | MOV EBX,[x]       ;
+ JNE END             | M: MOV EAX,[go]   ;
+ END:                | CMP EAX,$3        ;
+                     | JE END            ;
+                     | END:              ;
+exists (~1:ECX=0 /\\ ~1:EAX=3 /\\ 0:EBX=1 /\\ 1:EBX=0)
+`],
+  ["a loop that a branch passes", `X86 MP
+{ x=0; flag=0; }
+ P0                  | P1                ;
+ MOV [x],$1          | MOV ECX,[y]       ;
+ MOV [flag],$1       | CMP ECX,$1        ;
+                     | JE OUT            ;
+                     | L: MOV EAX,[flag] ;
+                     | CMP EAX,$0        ;
+                     | JE L              ;
+                     | OUT: MOV EBX,[x]  ;
+exists (1:EBX=0)
+`, `${ONE}. States in which it has not ended are in the list, too.`, `X86 MP
+{ x=0; flag=0; }
+ P0                  | P1                ;
+ MOV [x],$1          | MOV ECX,[y]       ;
+ MOV [flag],$1       | CMP ECX,$1        ;
+                     | JE OUT            ;
+                     | L: MOV EAX,[flag] ;
+                     | CMP EAX,$0        ;
+                     | JE END            ;
+                     | OUT: MOV EBX,[x]  ;
+                     | END:              ;
+exists (1:EBX=0)
+`],
+  ["a loop with an exchange", `X86 MP
+{ x=0; flag=0; }
+ P0             | P1                ;
+ MOV [x],$1     | MOV EAX,$1  ;
+ MOV [flag],$1  | L: XCHG [flag],EAX ;
+                | CMP EAX,$0        ;
+                | JE L              ;
+                | MOV EBX,[x]       ;
+exists (1:EBX=0)
+`, BACK, null],
+  ["a jump into a loop", `X86 A
+{}
+ P0                ;
+ JMP M             ;
+ L: MOV EAX,[flag] ;
+ M: CMP EAX,$0     ;
+ JE L              ;
+exists (x=1)
+`, BACK, null],
+  ["a loop with two loads", `X86 A
+{}
+ P0                ;
+ L: MOV EAX,[flag] ;
+ MOV EBX,[x]       ;
+ CMP EAX,$0        ;
+ JE L              ;
+exists (x=1)
+`, BACK, null],
+  ["a loop that compares registers, at the end of its thread", `X86 A
+{}
+ P0          | P1                ;
+ MOV [x],$1  | L: MOV EAX,[flag] ;
+ MOV EAX,[y] | CMP EAX,ECX       ;
+             | JNE L             ;
+exists (x=1)
+`, `${ONE}. States in which it has not ended are in the list, too.`, `X86 A
+{}
+ P0          | P1                ;
+ MOV [x],$1  | L: MOV EAX,[flag] ;
+ MOV EAX,[y] | CMP EAX,ECX       ;
+             | JNE END           ;
+             | END:              ;
+exists (x=1)
+`],
+];
+
+// A part of a text that is repeated, in each kind of text; and the time in milliseconds that is bearable on a slow machine.
+const LONG = 60000;
+const LONG_TEXTS = [
+  ["instructions in AT&T's order", (count) => `f:\n${"\tmovl\t$1, x(%rip)\n".repeat(count)}\tret\n`, 19],
+  ["instructions in Intel's order", (count) => `f:\n${"  mov eax, DWORD PTR x[rip]\n".repeat(count)}  ret\n`, 28],
+  ["functions", (count) => Array.from({ length: count }, (_, at) => `f${at}:\n mov [x],1\n ret\n`).join(""), 24],
+  ["labels and jumps", (count) => `f:\n${Array.from({ length: count }, (_, at) => `.L${at}:\n jne .L${count - at}\n`).join("")} ret\n`, 20],
+  ["jumps back", (count) => `f:\n${Array.from({ length: count }, (_, at) => `.L${at}:\n jne .L${Math.max(0, at - 1)}\n`).join("")} ret\n`, 20],
+  ["initial words", (count) => `f:\n mov [x],1\n ret\nx:\n${" .long 1\n".repeat(count)}`, 9],
+  ["variables", (count) => `f:\n mov [x],1\n ret\n${Array.from({ length: count }, (_, at) => `v${at}: .long ${at}\n`).join("")}`, 17],
+  ["directives", (count) => `f:\n${"\t.cfi_startproc\n".repeat(count)} mov [x],1\n`, 16],
+  ["comments", (count) => `f:\n${"# %bb.0: # one\n".repeat(count)} mov [x],1\n`, 15],
+  ["blank lines", (count) => `mov [x],1\n${"\n".repeat(count)}mov eax,[x]\n`, 1],
+  ["blanks", (count) => `mov [x],${" ".repeat(count)}1\nmov eax,[x]\n`, 1],
+  ["parts of a name", (count) => `f:\n movl $1, ${"a::".repeat(count)}x(%rip)\n ret\n`, 3],
+  ["statements of a line", (count) => `f: ${"mov [x],1; ".repeat(count)}\n`, 11],
+  ["rows of a test with a loop", (count) => `X86 A\n{}\n P0 ;\n${" L: MOV EAX,[x] ;\n CMP EAX,$0 ;\n JE L ;\n".repeat(count)}exists (x=1)\n`, 42],
+];
+const SLOWEST = 2000;
+
+/** Returns the fault of a text that is no test, as lw reports it. */
+function makeFault(text) {
+  const index = Math.max(0, text.search(/\S/));
+  return { kind: "text", number: 4, name: "Unexpected", row: text.slice(0, index).split("\n").length, column: 1, index };
+}
+
+/** Returns the fault of the first jump back of a text, as lw reports it. */
+function makeJumpFault(text) {
+  const { index } = [...text.matchAll(/(?<=\b(?:J\w+|goto) )\w+(?= *[|;])/g)].find(({ 0: label, index: at }) => text.slice(0, at).includes(`${label}:`));
+  return { kind: "cell", number: 5, name: "Backward", row: text.slice(0, index).split("\n").length, column: 1, index };
+}
+
+/** Returns the text that a hint makes of another one; null if it proposes none. */
+function applyChange(text, { change }) {
+  return change ? text.slice(0, change.begin) + change.text + text.slice(change.end) : null;
+}
+
+/** Compares the time that long texts take. */
+function compareTimes(page, compare) {
+  for (const [name, make, length] of LONG_TEXTS) {
+    const text = make(Math.ceil(LONG / length));
+    const fault = text.startsWith("X86") ? makeJumpFault(text) : makeFault(text);
+    const begin = performance.now();
+    page.faults.explainFault(fault, text);
+    const took = performance.now() - begin;
+    compare(`the time for a long text of ${name}`, true, took < SLOWEST || took);
+  }
+}
+
+/**
+ * Compares what the page makes of instructions, by its own modules.
+ * @param {function(string, any, any)} compare
+ */
+export async function compareAssemblyTexts(compare) {
+  const page = await loadModules(PARTS);
+  for (const [name, text, words, made] of TEXTS) {
+    const hint = page.faults.explainFault(makeFault(text), text);
+    const expected = words.replace(/^(?=[:,.])/, BEGIN);
+    compare(`the words on ${name}`, expected, hint.words.slice(0, expected.length));
+    compare(`the test of ${name}`, made, applyChange(text, hint));
+  }
+  for (const [name, text, words, made] of LOOPS) {
+    const hint = page.faults.explainFault(makeJumpFault(text), text);
+    compare(`the words on ${name}`, words, hint.words);
+    const test = applyChange(text, hint);
+    compare(`the test of ${name}`, [made, made !== null], [test, test !== null && page.other_tools.isRead(test)]);
+  }
+  compareTimes(page, compare);
+}
+
+if (process.argv[1] === fileURLToPath(import.meta.url)) {
+  const counts = [0, 0];
+  const compare = (what, expected, found) => {
+    const isSame = isDeepStrictEqual(expected, found);
+    counts[Number(!isSame)] += 1;
+    if (!isSame) console.log(`${what}\n  wanted: ${JSON.stringify(expected)}\n  found:  ${JSON.stringify(found)}`);
+  };
+  await compareAssemblyTexts(compare);
+  console.log(`${counts[0]} passed, ${counts[1]} failed`);
+  process.exitCode = counts[1] ? 1 : 0;
+}
