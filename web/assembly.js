@@ -11,14 +11,16 @@ import { isReserved, WORD } from "./token_reader.js";
 const MAX_THREADS = 4;
 // More instructions of a thread than this are not rewritten.
 const MAX_LINES = 64;
-// What a text of instructions may begin with: the front of a test. And how a question begins, or the list of locations before it.
+// The front of a test, with which a text of instructions may begin; and how a question begins, or the list of locations before it.
 const FRONT = /^\s*X86[^{|;]*\{[^}|]*\}/;
 const QUESTION = /^[ \t]*(?:locations\b|filter\b|forall\b|(?:(?:[~!]|not\b)[ \t]*)?exists\b)/m;
 // An instruction on a variable in a function's frame on the stack.
 const FRAME = /^(?!lock\b).*(?:\[[er][sb]p\s*[-+]|\d\(%[er][sb]p\))/i;
-// A line of assembly: labels, an instruction, or both. And instructions that no test has.
-const ASSEMBLY = /^(?:\w+:\s*)+$|^(?:\w+:\s*)*(?:(?:lock|rep)\s+)?(?:mov|x?add|sub|cmp|xchg|inc|dec|test|x?or|and|j[nmez]|[mls]fence|nop|pause)\w*(?:\s[^;|{}=]*)?$/i;
-const OTHER_INSTRUCTION = /^(?:\w+:\s*)*(?:lock\s+)?(?:call|lea|cdqe?|cltq|imul|set\w+|cmov\w+|cmpxchg|bt[src]?|sh[lr]|sa[lr]|neg|not|j\w+|push|pop|leave)\w*(?:\s[^;|{}=]*)?$/i;
+// A line of instructions that a test may have: labels, an instruction, or both. And instructions that no test has.
+const NAMES = "mov|x?add|sub|cmp|xchg|inc|dec|test|x?or|and|j[nmez]|[mls]fence|nop|pause";
+const OTHER_NAMES = "call|lea|cdqe?|cltq|imul|set\\w+|cmov\\w+|cmpxchg|bt[src]?|sh[lr]|sa[lr]|neg|not|j\\w+|push|pop|leave";
+const ASSEMBLY = new RegExp(`^(?:\\w+:\\s*)+$|^(?:\\w+:\\s*)*(?:(?:lock|rep)\\s+)?(?:${NAMES})\\w*(?:\\s[^;|{}=]*)?$`, "i");
+const OTHER_INSTRUCTION = new RegExp(`^(?:\\w+:\\s*)*(?:lock\\s+)?(?:${OTHER_NAMES})\\w*(?:\\s[^;|{}=]*)?$`, "i");
 // What may be another instruction: a name, with operands or without.
 const UNKNOWN_INSTRUCTION = /^(?:\w+:\s*)*(?:lock\s+)?[a-z]\w{1,9}(?:\s[^\s,;|{}=]+(?:\s?,[^;|{}=]*)?)?$/i;
 // A load, with its register, which is first, or last in AT&T's order; and a register that is an operand.
@@ -52,7 +54,7 @@ export function formatNames(words) {
   return words.length === 1 ? words[0] : `${words.slice(0, -1).join(", ")} and ${words.at(-1)}`;
 }
 
-/** Returns the codes of threads that a blank line separates; one, if there are too many, or if a jump leaves its thread then. */
+/** Returns the codes of threads that a blank line separates; one, if there are too many, or if a jump would leave its thread. */
 function splitAtBlankLines(lines) {
   const threads = [[]];
   for (const line of lines) {
@@ -67,9 +69,10 @@ function splitAtBlankLines(lines) {
   return filled.length > MAX_THREADS || filled.some(isLeft) ? [filled.flat()] : filled;
 }
 
-/** Returns whether blocks have the numbers of threads, each another one, from a first number on without a gap. */
+/** Returns whether the numbers of blocks are those of threads, from a first number on without a gap, in any order. */
 function areNumbered(blocks, first) {
-  return blocks.every((it) => it.number !== null && blocks.length > it.number - first && it.number >= first) && new Set(blocks.map((it) => it.number)).size === blocks.length;
+  const numbers = new Set(blocks.map((it) => it.number));
+  return blocks.every((_, at) => numbers.has(first + at));
 }
 
 /**
@@ -111,8 +114,7 @@ function rewriteVariables(line, locations) {
 
 /** Returns a part of a variable, as a key of a map of names, that is no word of the size that code accesses; undefined if there is none. */
 function findPartOfWord(lines, locations) {
-  const hasLocation = (line) => [...line.matchAll(LOCATION)].some(({ 1: bare, 2: relative }) => !REGISTER.test(bare ?? relative));
-  const size = lines.some((it) => WIDE.test(it) && hasLocation(it)) ? 8 : 4;
+  const size = lines.some((it) => WIDE.test(it) && findLocations(it).length) ? 8 : 4;
   return [...locations.keys()].find((it) => Number(/\+(\d+)$/.exec(it)?.[1] ?? 0) % size);
 }
 
@@ -140,13 +142,18 @@ function formatWords(variables, lines) {
   return listWords(variables, lines).filter((it) => it.word).map(({ name, word }) => `${name}=${((word % WORD) + WORD) % WORD};`).join(" ");
 }
 
-/** Returns the locations in lines that are before a comma (`isFirst`), or after one, in AT&T's order or not. */
-function listLocations(lines, isFirst) {
-  const found = lines.flatMap((line) => [...line.matchAll(LOCATION)].map(({ 1: bare, 2: relative, index }) => ({ name: bare ?? relative, isFirst: line.indexOf(",") > index })));
-  return found.filter((it) => it.isFirst === isFirst && !REGISTER.test(it.name)).map((it) => it.name);
+/** Returns the locations in a line, each with whether it is before a comma (`isFirst`). */
+function findLocations(line) {
+  const found = [...line.matchAll(LOCATION)].map(({ 1: bare, 2: relative, index }) => ({ name: bare ?? relative, isFirst: line.indexOf(",") > index }));
+  return found.filter((it) => !REGISTER.test(it.name));
 }
 
-/** Returns the locations that threads store, and of which no register tells the last word: no thread loads them, or several store them. */
+/** Returns the locations in lines that are before a comma (`isFirst`), or those that are not. */
+function listLocations(lines, isFirst) {
+  return lines.flatMap(findLocations).filter((it) => it.isFirst === isFirst).map((it) => it.name);
+}
+
+/** Returns the locations that threads store, and whose last word no register shows: no thread loads them, or several store them. */
 function listStoredLocations(threads) {
   const isAtt = /%e?[a-z]{2}\b|\$\w/.test(threads.flat().join("\n"));
   const stored = threads.map((it) => listLocations(it.filter((line) => /\b(?:mov|xchg|xadd|add|inc|dec|sub)/i.test(line)), !isAtt));
@@ -156,7 +163,7 @@ function listStoredLocations(threads) {
 
 /**
  * Returns the end of a test of some threads of instructions: it asks for 0 in the registers that the last loads write, if each thread ends with a load, and
- * lists the other registers, and the locations of which no register tells the last word; all locations, if there are no registers.
+ * lists the other registers, and the locations whose last word no register shows; all locations, if there are no registers.
  * @param {string[][]} threads
  * @returns {{list: string, question: string, isAsked: boolean}}
  */
@@ -184,7 +191,8 @@ function refuseLines(threads, names) {
   const others = lines.filter((it) => !ASSEMBLY.test(it));
   if (!areInstructions(lines)) return "";
   if (lines.some((it) => FRAME.test(it))) return UNOPTIMIZED;
-  if (threads.length > MAX_THREADS) return `${BEGIN}, in ${threads.length} parts${names.length ? `, as \`${names[0]}\` and \`${names[1]}\`` : ""}: a test has four threads at most.`;
+  const parts = names.length ? `, as \`${names[0]}\` and \`${names[1]}\`` : "";
+  if (threads.length > MAX_THREADS) return `${BEGIN}, in ${threads.length} parts${parts}: a test has four threads at most.`;
   if (threads.some((it) => it.length > MAX_LINES)) return `${BEGIN}: a thread has 32 at most.`;
   return others.length ? `${BEGIN}, of which the page does not rewrite \`${others[0]}\`.` : null;
 }

@@ -2,8 +2,8 @@
 // function, and the words of variables. Not proved.
 //
 // An `AssemblyBlock` has the `name` in the line that begins it, or "", the `number` of the thread that this line names, or null, its `lines`, each an
-// instruction, a label with a colon, or "" for a blank line, and the `words` of a variable, each with its `offset` and its size
-// (`bytes`).
+// instruction, a label with a colon, or "" for a blank line, and the `words` of a variable, each a `word` with its `offset` and its size (`bytes`). The record
+// `Step` is that of block_order.js.
 
 import { orderSteps } from "./block_order.js";
 
@@ -16,26 +16,29 @@ const OF_FUNCTION = /\(|::/;
 // A label before more in its line.
 const LABEL_BEFORE = /^([.\w$@]+)\s*:(?!:)\s*(?=\S)/;
 const JUMP = /\bj\w+\s+(?:short\s+)?([.\w$@]+)/gi;
-// What reserves memory: the groups are its directive, and what is in it. And a variable with it in a line, as in NASM.
+// What reserves memory: the groups are its directive, of GNU's assembler or of others, and what is in it. And a variable before it in a line, as in NASM.
 const DATA = /^(?:\.(long|int|4byte|quad|8byte|value|short|2byte|byte|zero|space|skip)|(d[bwdq]))\b\s*(.*)$/i;
 const VARIABLE = /^([A-Za-z_]\w*)\s+(?=d[bwdq]\s)/i;
+// The size of each word of a directive; other directives have a number of bytes.
 const BYTES = { long: 4, int: 4, "4byte": 4, quad: 8, "8byte": 8, value: 2, short: 2, "2byte": 2, byte: 1, db: 1, dw: 2, dd: 4, dq: 8 };
-// Directives, lines of compilers for Windows, and instructions without effect.
-const IGNORED = /^(?:\.|(?:section|segment|global|extern|bits|default|align|public|extrn|include\w*|comm|end)\b|\S+\s+(?:segment|ends|endp)\b|endbr(?:32|64)$|(?:data16\s+|cs\s+)*nop\w*(?:\s|$))/i;
+// What is left out: directives, lines around segments and procedures, and instructions without effect.
+const DIRECTIVE = "\\.|(?:section|segment|global|extern|bits|default|align|public|extrn|include\\w*|comm|end)\\b";
+const IGNORED = new RegExp(`^(?:${DIRECTIVE}|\\S+\\s+(?:segment|ends|endp)\\b|endbr(?:32|64)$|(?:data16\\s+|cs\\s+)*nop\\w*(?:\\s|$))`, "i");
+// The line that begins a procedure of Microsoft's assembler.
 const PROCEDURE = /^(\S+)\s+proc\b/i;
-// What says that a name is one of a function or of a variable.
+// A directive with the name of a function or of a variable.
 const DECLARED = /^\.?(?:globl|global|type)\s+([^\s,]+)/;
 const RETURN = /^(?:(?:rep|bnd)\s+)?ret[lqnf]?\b/i;
-// After what a label begins a function: a return or a jump.
+// An instruction after which a label begins a function.
 const LEAVES = /^(?:(?:rep|bnd)\s+)?(?:ret|jmp|ud2|hlt)/i;
 
-/** Returns the statements of a line without its comment, which `;` may separate. */
+/** Returns the statements of a line, with `;` between them, without its comment. */
 function splitStatements(line) {
   const code = line.replace(COMMENT, "").trim().replace(/\block\s*;\s*/gi, "lock ");
   return code.includes(";") ? code.split(";").map((it) => it.trim()).filter(Boolean) : [code];
 }
 
-/** Returns the label that a line has alone; undefined if there is none. */
+/** Returns the label of a line that has nothing else; undefined if there is none. */
 function parseLabelLine(line) {
   const name = line.endsWith(":") ? line.slice(0, -1).trimEnd() : "";
   return name && (!/\s/.test(name) || OF_FUNCTION.test(name)) ? name : undefined;
@@ -55,7 +58,7 @@ class AssemblyReader {
     this.lines = text.split("\n").map((it) => it.trim());
     const code = this.lines.map((it) => it.replace(COMMENT, "")).join("\n");
     this.targets = new Set([...code.matchAll(JUMP)].map(([, label]) => label));
-    // Whether what is no function is told by returns, or by the threads' names.
+    // Set if returns or the names of threads say where a function ends.
     this.hasEnds = /^(?:\w+:\s*)?(?:(?:rep|bnd)\s+)?ret/im.test(code) || this.lines.some((it) => HEADING.test(it));
     this.declared = new Set(this.lines.flatMap((it) => DECLARED.exec(it)?.[1] ?? []));
     this.blocks = [{ name: "", number: null, lines: [], words: [] }];
@@ -94,13 +97,19 @@ class AssemblyReader {
     else if (rest && !IGNORED.test(rest)) this.block.lines.push(rest.replace(/\s+/g, " "));
   }
 
-  /** Reads a label, before the rest of its line: it is that of a jump, or a name that begins a block, or one to which nothing jumps. */
+  /** Reads a label, which the rest of its line follows: that of a jump, the name of a block, or one to which nothing jumps, which is left out. */
   readLabel(label, rest, at) {
     if (this.targets.has(label)) this.block.lines.push(`${label}:`);
-    else if (!label.startsWith(".") && this.beginsBlock(label, rest, at)) this.beginBlock(label, /^P(\d)(?:\(.*\))?$/.exec(label)?.[1] ?? null);
+    else if (!label.startsWith(".") && this.beginsBlock(label, rest, at)) {
+      const [, digit] = /^P(\d)(?:\(.*\))?$/.exec(label) ?? [];
+      this.beginBlock(label, digit === undefined ? null : Number(digit));
+    }
   }
 
-  /** Returns whether a label begins a block: it is declared, data is after it, or a return or a jump before it, unless only names tell the threads. */
+  /**
+   * Returns whether a label begins a block: it is declared, data follows it, or it follows a return or a jump. Each label does if neither returns nor names
+   * of threads say where a function ends.
+   */
   beginsBlock(label, rest, at) {
     const code = this.block.lines.filter(Boolean);
     const next = rest || this.lines.slice(at + 1).map((it) => it.replace(COMMENT, "").trim()).find((it) => it && (DATA.test(it) || !it.startsWith(".")));
@@ -132,13 +141,8 @@ function rewriteLabel(label) {
   return label.replace(/^\.+/, "").replace(/\W/g, "_");
 }
 
-/**
- * Returns lines of a function with its labels before instructions, in which each return but the last one jumps to a label at the end, and so does what
- * jumps to a return.
- * @param {string[]} lines
- * @returns {string[]}
- */
-export function rewriteReturns(lines) {
+/** Returns the steps of the lines of a function, and the labels after the last one. */
+function readSteps(lines) {
   const steps = [];
   let labels = [];
   for (const line of lines.filter(Boolean)) {
@@ -148,15 +152,32 @@ export function rewriteReturns(lines) {
       labels = [];
     }
   }
-  const names = new Set(steps.flatMap((it) => it.labels).concat(labels).map(rewriteLabel));
+  return { steps, last: labels };
+}
+
+/** Returns a label for the end of a function that has other labels. */
+function makeEnd(labels) {
+  const names = new Set(labels.map(rewriteLabel));
   let end = "END";
   while (names.has(end)) end += "_";
+  return end;
+}
+
+/**
+ * Returns lines of a function with its labels before instructions, in which each return but the last one jumps to a label at the end, and so does what
+ * jumps to a return. Only loops jump back.
+ * @param {string[]} lines
+ * @returns {string[]}
+ */
+export function rewriteReturns(lines) {
+  const { steps, last } = readSteps(lines);
+  const end = makeEnd([...steps.flatMap((it) => it.labels), ...last]);
   const isReturn = (it) => RETURN.test(it.code);
-  const ends = new Set([...steps.filter(isReturn).flatMap((it) => it.labels), ...labels]);
+  const ends = new Set([...steps.filter(isReturn).flatMap((it) => it.labels), ...last]);
   const rewriteJump = (code) => code.replace(JUMP, (jump, label) => jump.slice(0, -label.length) + (ends.has(label) ? end : rewriteLabel(label)));
   const rewriteStep = (it) => ({ labels: isReturn(it) ? [] : it.labels.map(rewriteLabel), code: isReturn(it) ? `jmp ${end}` : rewriteJump(it.code) });
   const written = orderSteps(steps.map(rewriteStep), end);
-  const isLast = ({ labels: before, code }) => !before.length && new RegExp(`^jmp\\s+(?:short\\s+)?${end}$`, "i").test(code);
+  const isLast = ({ labels, code }) => !labels.length && new RegExp(`^jmp\\s+(?:short\\s+)?${end}$`, "i").test(code);
   while (written.length && isLast(written.at(-1))) written.pop();
   const code = written.map((it) => [...it.labels.map((label) => `${label}:`), it.code].join(" "));
   return written.some((it) => it.code.endsWith(` ${end}`)) ? [...code, `${end}:`] : code;

@@ -1,10 +1,11 @@
 // Finds initial values that are written in another way than lw's: with commas, `and` or blanks between them, with `:=` or `:`, or without braces. Not proved.
 
-// The sites that begin with one word, and this word, as in `x = y = 0`.
+// Sites with one initial word, and this word, as in `x = y = 0`; and one of these sites.
 const ENTRY = /((?:(?:\d\s*:\s*%?|\[\s*)?[A-Za-z_]\w*\s*\]?\s*(?::=|=|:)\s*)+)(0x[\da-f]+|\d+)\b/gi;
 const SITE = /((?:\d\s*:\s*%?)?[A-Za-z_]\w*)\s*\]?\s*(?::=|=|:)\s*/g;
 // What may be between entries.
 const BETWEEN = /^(?:[\s,;&]|\band\b|\/\\)*$/i;
+// Entries as lw writes them.
 const REGULAR = /^(?:\s*[^\s=:,;&]+(?:\s*:\s*\w+)?\s*=\s*\w+\s*(?:;|$))*\s*$/;
 // A block of more letters than this is not rewritten.
 const MAX_LETTERS = 500;
@@ -19,7 +20,7 @@ export function rewriteEntries(code) {
   return formatEntries(code);
 }
 
-/** Returns a block of the entries in a code. */
+/** Returns a block of the entries in code as lw writes it, or null if there are none. */
 function formatEntries(code) {
   const entries = [...code.matchAll(ENTRY)].flatMap(([, sites, word]) => [...sites.matchAll(SITE)].map(([, site]) => `${site.replace(/[\s%]/g, "")}=${word};`));
   return entries.length ? `{ ${entries.join(" ")} }` : null;

@@ -3,7 +3,9 @@
 // Loads change nothing: a run in which such a loop ends has the states of a run in which only its last load is executed. A run in which the loop would go
 // on leaves the thread; the question is asked of the other ones, if the loaded register says which these are.
 //
-// A `Step` has the `labels` and the `code` of a `cell`. A `Comparison` of a `register` with an `operand` says whether they are to be equal (`isEqual`).
+// A `Step` has the `labels` and the `code` of a `cell`. A `Jump` has a `label`, `isAlways`, and the `comparison` of a `register` with an `operand` on which it
+// depends, which says whether they are to be equal (`isEqual`); or null. A `Loop` has the `steps` of its thread, the indices of its `begin`, its `end` and its
+// load (`loaded`), the `label` to which it jumps back, the `register` that it loads, and its `jumps`.
 
 import { alignCells } from "./aligned.js";
 import { limitQuestion } from "./c_question.js";
@@ -63,7 +65,8 @@ function findTarget({ code }, patterns) {
  * Returns the register that the steps of a loop load, and the jumps in it, of which the last one goes back; null if they do more than load once, compare and
  * jump.
  * @param {Step[]} steps
- * @returns {{register: string, jumps: object[]} | null}
+ * @param {object} patterns
+ * @returns {{register: string, jumps: Jump[]} | null}
  */
 function parseLoop(steps, patterns) {
   const [first, ...others] = steps.map((it) => it.code).filter((it) => !IDLE.test(it));
@@ -91,7 +94,7 @@ function isEntered({ steps, begin, end, loaded, jumps }, patterns) {
  * @param {Step[]} steps
  * @param {number} end
  * @param {object} patterns
- * @returns {object | null}
+ * @returns {Loop | null}
  */
 function findLoop(steps, end, patterns) {
   const label = findTarget(steps[end], patterns);
@@ -168,8 +171,15 @@ function listLeavingEdits(text, cells, { steps, end: at, label }, thread) {
 /** Returns the edits by which a loop loads another register. */
 function listRegisterEdits({ steps, begin, end, register }, other) {
   const uses = new RegExp(`\\b${register}\\b`, "gi");
-  const cells = steps.slice(begin, end + 1).map((it) => it.cell);
-  return cells.flatMap((cell) => [...cell.code.matchAll(uses)].map(({ index }) => ({ begin: cell.begin + index, end: cell.begin + index + register.length, text: other })));
+  const makeEdit = (index) => ({ begin: index, end: index + register.length, text: other });
+  return steps.slice(begin, end + 1).flatMap(({ cell }) => [...cell.code.matchAll(uses)].map(({ index }) => makeEdit(cell.begin + index)));
+}
+
+/** Returns the register that a loop loads in a new test, of which the question may ask: another one if the thread sets its own again; or null. */
+function chooseRegister(text, loop, thread, language) {
+  const patterns = PATTERNS[language];
+  if (!mayChange(loop, patterns)) return loop.register;
+  return (isSetNext(loop, patterns) && findFreeRegister(text, thread, REGISTERS[language])) || null;
 }
 
 /**
@@ -186,17 +196,15 @@ function leaveLastLoop(text, thread, language) {
   const steps = listSteps(cells, thread);
   const loop = steps.map((_, at) => findLoop(steps, at, patterns)).findLast(Boolean);
   if (!loop) return null;
-  const { register } = loop;
+  const { register: from } = loop;
   const ended = describeEnd(loop, patterns);
-  const isFree = ended && mayChange(loop, patterns) && isSetNext(loop, patterns);
-  const other = !ended ? null : isFree ? findFreeRegister(text, thread, REGISTERS[language]) : mayChange(loop, patterns) ? null : register;
+  const to = ended && chooseRegister(text, loop, thread, language);
   const tail = text.slice(cells.at(-1).end + 1);
-  const name = language === "X86" ? other?.toUpperCase() : other;
-  const question = name ? limitQuestion(tail.trim(), [{ name: `${thread}:${name}`, ...ended }]) : null;
-  const instead = question && other !== register ? { from: register, to: other } : null;
-  const edits = [...(instead ? listRegisterEdits(loop, other) : []), ...listLeavingEdits(text, cells, loop, thread)];
+  const question = to && limitQuestion(tail.trim(), [{ name: `${thread}:${language === "X86" ? to.toUpperCase() : to}`, ...ended }]);
+  const instead = question && to !== from ? { from, to } : null;
+  const edits = [...(instead ? listRegisterEdits(loop, to) : []), ...listLeavingEdits(text, cells, loop, thread)];
   const code = edits.reduceRight((whole, it) => whole.slice(0, it.begin) + it.text + whole.slice(it.end), text.slice(0, text.length - tail.length));
-  return { text: code + (question ? `\n${question}\n` : tail), instead, isAsked: question !== null };
+  return { text: code + (question ? `\n${question}\n` : tail), instead, isAsked: Boolean(question) };
 }
 
 /** Returns a text in which threads leave all loops that only wait, with what `leaveLastLoop` returns of each. */
@@ -214,11 +222,13 @@ function leaveLoops(text, language) {
 
 /** Returns sentences on loops that only wait. */
 function describeLoops(left) {
-  const [is, isAsked] = [left.length === 1, left.every((it) => it.isAsked)];
+  const isSingle = left.length === 1;
   const { from, to } = left.find((it) => it.instead)?.instead ?? {};
+  const only = isSingle ? "This loop only waits" : "These loops only wait";
+  const leave = isSingle ? "its thread can leave it by a jump forward" : "threads can leave them by jumps forward";
   const renamed = from ? `, with \`${to}\` in place of \`${from}\`, which is set again later` : "";
-  const begin = is ? "This loop only waits, so one try is enough: its thread can leave it by a jump forward" : "These loops only wait, so one try is enough: threads can leave them by jumps forward";
-  return `${begin}${renamed}. States in which ${is ? "it has" : "one has"} not ended are in the list, too${isAsked ? ", and the question leaves them out" : ""}.`;
+  const asked = left.every((it) => it.isAsked) ? ", and the question leaves them out" : "";
+  return `${only}, so one try is enough: ${leave}${renamed}. States in which ${isSingle ? "it has" : "one has"} not ended are in the list, too${asked}.`;
 }
 
 /**
