@@ -16,6 +16,9 @@ const FRONT = /^\s*X86[^{|;]*\{[^}|]*\}/;
 const QUESTION = /^[ \t]*(?:locations\b|filter\b|forall\b|(?:(?:[~!]|not\b)[ \t]*)?exists\b)/m;
 // An instruction on a variable in a function's frame on the stack.
 const FRAME = /^(?!lock\b).*(?:\[[er][sb]p\s*[-+]|\d\(%[er][sb]p\))/i;
+// An instruction that loads the address of a variable from a table; and one with an address in a register, other than that of the stack.
+const OF_TABLE = /@GOTPCREL\b/i;
+const ADDRESS = /[[(][^\])]*(?<!\w)%?(?:[re](?:[abcd]x|[sd]i)|r(?:[89]|1[0-5])d?)\b/i;
 // A line of instructions that a test may have: labels, an instruction, or both. And instructions that no test has.
 const NAMES = "mov|x?add|sub|cmp|xchg|inc|dec|test|x?or|and|j[nmez]|[mls]fence|nop|pause";
 const OTHER_NAMES = "call|lea|cdqe?|cltq|imul|set\\w+|cmov\\w+|cmpxchg|bt[src]?|sh[lr]|sa[lr]|neg|not|j\\w+|push|pop|leave";
@@ -41,8 +44,10 @@ const WIDE = /\bqword\b|\b(?:mov|x?add|sub|xchg|cmp|inc|dec|x?or|and)q\b|\br(?:[
 const LOCATION = /\[\s*(?:rip\s*\+\s*|rel\s+)?(\w+)\s*\]|(?<![\w.$])([A-Za-z_]\w*)(?:\(%rip\)|\[rip\])/gi;
 // Functions that are no threads: they start these, or set variables before them.
 const NO_THREAD = /^(?:main|_start|_GLOBAL__sub_I_.*|__cxx_global_var_init.*)(?:\(.*\))?$/;
-/** The sentence on code that is not optimized. */
+// The sentence on code that is not optimized.
 const UNOPTIMIZED = "These are instructions of a compiler without optimization, which keep variables on the stack: compile with `-O2`.";
+// The sentence on code of a library.
+const POSITION_INDEPENDENT = "These are instructions of a library, which loads the address of each variable from a table: compile without `-fPIC`.";
 const BEGIN = "These are instructions without a test around them";
 
 /**
@@ -114,8 +119,10 @@ function rewriteVariables(line, locations) {
 
 /** Returns a part of a variable, as a key of a map of names, that is no word of the size that code accesses; undefined if there is none. */
 function findPartOfWord(lines, locations) {
-  const size = lines.some((it) => WIDE.test(it) && findLocations(it).length) ? 8 : 4;
-  return [...locations.keys()].find((it) => Number(/\+(\d+)$/.exec(it)?.[1] ?? 0) % size);
+  const wide = new Set(lines.filter((it) => WIDE.test(it)).flatMap(findLocations).map((it) => it.name));
+  const findVariable = (key) => key.replace(/\+\d+$/, "");
+  const variables = new Set([...locations].filter(([, name]) => wide.has(name)).map(([key]) => findVariable(key)));
+  return [...locations.keys()].find((it) => Number(/\+(\d+)$/.exec(it)?.[1] ?? 0) % (variables.has(findVariable(it)) ? 8 : 4));
 }
 
 /** Returns two variables whose locations would have one name; undefined if there are none. */
@@ -185,18 +192,6 @@ function areInstructions(lines) {
   return !unknown.length || (known.some((it) => it.includes(",")) && unknown.length * 2 <= lines.length);
 }
 
-/** Returns a sentence that refuses the lines of a text of instructions, or null: "" says that they are no instructions. */
-function refuseLines(threads, names) {
-  const lines = threads.flat();
-  const others = lines.filter((it) => !ASSEMBLY.test(it));
-  if (!areInstructions(lines)) return "";
-  if (lines.some((it) => FRAME.test(it))) return UNOPTIMIZED;
-  const parts = names.length ? `, as \`${names[0]}\` and \`${names[1]}\`` : "";
-  if (threads.length > MAX_THREADS) return `${BEGIN}, in ${threads.length} parts${parts}: a test has four threads at most.`;
-  if (threads.some((it) => it.length > MAX_LINES)) return `${BEGIN}: a thread has 32 at most.`;
-  return others.length ? `${BEGIN}, of which the page does not rewrite \`${others[0]}\`.` : null;
-}
-
 /** Returns a sentence that refuses the variables of lines, of which a map has the locations, or null. */
 function refuseVariables(lines, locations, variables) {
   const part = findPartOfWord(lines, locations);
@@ -205,6 +200,21 @@ function refuseVariables(lines, locations, variables) {
   if (namesakes) return `${BEGIN}, in which ${formatNames(namesakes.map((it) => `\`${it}\``))} would have one name.`;
   const large = findLargeWord(variables, lines);
   return large ? `${BEGIN}: the initial value of \`${large}\` does not fit into the 32 bits of a word of lw.` : null;
+}
+
+/** Returns a sentence that refuses the lines of a text of instructions, or null: "" says that they are no instructions. */
+function refuseLines(threads, names) {
+  const lines = threads.flat();
+  const others = lines.filter((it) => !ASSEMBLY.test(it));
+  if (!areInstructions(lines)) return "";
+  if (lines.some((it) => FRAME.test(it))) return UNOPTIMIZED;
+  if (lines.some((it) => OF_TABLE.test(it))) return POSITION_INDEPENDENT;
+  const parts = names.length ? `, as \`${names[0]}\` and \`${names[1]}\`` : "";
+  if (threads.length > MAX_THREADS) return `${BEGIN}, in ${threads.length} parts${parts}: a test has four threads at most.`;
+  if (threads.some((it) => it.length > MAX_LINES)) return `${BEGIN}: a thread has 32 at most.`;
+  if (others.length) return `${BEGIN}, of which the page does not rewrite \`${others[0]}\`.`;
+  const address = lines.find((it) => ADDRESS.test(it));
+  return address ? `${BEGIN}: \`${address}\` has an address in a register, and lw has locations by their names only.` : null;
 }
 
 /**

@@ -17,12 +17,13 @@ const MAX_THREADS = 4;
 // The loops of a thread with more cells are not looked for.
 const MAX_CELLS = 64;
 const LABELS = /^(?:\w+\s*:(?!=)\s*)*/;
-// In each language: a load, with its register; a comparison that sets a flag; a jump, with what it compares, if it does, and its label; and patterns of what may
+// In each language: a load, with its register; a comparison that sets a flag; a sum that does; a jump, with what it compares, if it does, and its label; and patterns of what may
 // change a register, and of what does so whatever is in it, given its name.
 const PATTERNS = {
   X86: {
     load: /^MOV\s+(?<register>E\w\w)\s*,\s*\[\s*\w+\s*\]$/i,
     compare: /^CMP\s+(?<register>E\w\w)\s*,\s*\$?(?<operand>\w+)$/i,
+    sum: /^ADD\s+(E\w\w)\s*,\s*\$?\d\w*$/i,
     jump: /^J(?<condition>E|NE|MP)\s+(?<label>\w+)$/i,
     makeChange: (register) => new RegExp(`^(?!CMP\\b|MOV\\s+(?!${register}\\b)).*\\b${register}\\b`, "i"),
     makeSet: (register) => new RegExp(`^MOV\\s+${register}\\b(?!.*\\b${register}\\b)`, "i"),
@@ -30,6 +31,7 @@ const PATTERNS = {
   SRC: {
     load: /^(?<register>r\d)\s*:=\s*(?!r\d\b)[A-Za-z_]\w*$/,
     compare: /^(?!)/,
+    sum: /^(?!)/,
     jump: /^(?:if\s+(?<register>r\d)\s*(?<condition>!?=)\s*(?<operand>\w+)\s+)?goto\s+(?<label>\w+)$/,
     makeChange: (register) => new RegExp(`^${register}\\s*:=`),
     makeSet: (register) => new RegExp(`^${register}\\s*:=(?!.*\\b${register}\\b)`),
@@ -61,9 +63,16 @@ function findTarget({ code }, patterns) {
   return parseJump(code, patterns, null)?.label;
 }
 
+/** Returns the registers or words that code compares, whose loop loads a register; null if it does not compare. A sum is compared with 0. */
+function parseComparison(code, register, patterns) {
+  const sum = patterns.sum.exec(code)?.[1];
+  if (sum) return sum.toUpperCase() === register?.toUpperCase() ? { register: sum, operand: "0" } : null;
+  return patterns.compare.exec(code)?.groups ?? null;
+}
+
 /**
- * Returns the register that the steps of a loop load, and the jumps in it, of which the last one goes back; null if they do more than load once, compare and
- * jump.
+ * Returns the register that the steps of a loop load, and the jumps in it, of which the last one goes back; null if they do more than load once, compare
+ * and jump.
  * @param {Step[]} steps
  * @param {object} patterns
  * @returns {{register: string, jumps: Jump[]} | null}
@@ -76,7 +85,7 @@ function parseLoop(steps, patterns) {
   for (const code of others) {
     const jump = parseJump(code, patterns, compared);
     if (jump) jumps.push(jump);
-    else compared = patterns.compare.exec(code)?.groups ?? null;
+    else compared = parseComparison(code, register, patterns);
     if (jump ? !jump.isAlways && !jump.comparison : !compared) return null;
   }
   return register && jumps.some((it) => it.comparison) ? { register, jumps } : null;

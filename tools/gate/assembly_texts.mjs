@@ -97,6 +97,18 @@ const TEXTS = [
   ["names of classes", "writer():\n        mov     DWORD PTR A::x[rip], 1\n        mov     eax, 1\n        xchg    eax, DWORD PTR flag[rip]\n        ret\nreader():\n        mov     eax, DWORD PTR flag[rip]\n        test    eax, eax\n        je      .L5\n        mov     eax, DWORD PTR A::x[rip]\n        mov     DWORD PTR r1[rip], eax\n.L5:\n        ret\nr1:\n        .long   -1\nflag:\n        .zero   4\nA::x:\n        .zero   4\n",
     `. The location of \`A::x\` is \`A__x\`. The location of \`r1\` is \`r1_\`. ${TRUE}`,
     "X86 Mine\n{ r1_=4294967295; }\n P0              | P1             ;\n MOV [A__x],1    | MOV EAX,[flag] ;\n mov eax, 1      | CMP EAX,$0     ;\n XCHG EAX,[flag] | je END         ;\n                 | MOV EAX,[A__x] ;\n                 | MOV [r1_],EAX  ;\n                 | END:           ;\nlocations [0:EAX; 1:EAX; r1_;]\nexists (true)\n"],
+  ["variables of 64 bits and of 32", "f:\n movq x(%rip), %rax\n movl 4+a(%rip), %ecx\n ret\n",
+    `. The location of \`a+4\` is \`a_4\`. ${GUESS}`,
+    "X86 Mine\n{}\n P0 ;\n MOV EAX,[x] ;\n MOV ECX,[a_4] ;\nlocations [0:EAX;]\nexists (0:ECX=0)\n"],
+  ["P1 before P0, with parameters", "P1(std::atomic<int>&):\n mov DWORD PTR y[rip], 1\n ret\nP0(std::atomic<int>&):\n mov DWORD PTR x[rip], 1\n ret\n",
+    `. ${TRUE}`,
+    "X86 Mine\n{}\n P0        | P1        ;\n MOV [x],1 | MOV [y],1 ;\nlocations [x; y;]\nexists (true)\n"],
+  ["code of a library", "f:\n movq x@GOTPCREL(%rip), %rax\n movl $1, (%rax)\n ret\n",
+    "These are instructions of a library, which loads the address of each variable from a table: compile without `-fPIC`.",
+    null],
+  ["an address in a register", "f:\n mov eax, DWORD PTR x[rip]\n mov DWORD PTR [rdi], eax\n ret\n",
+    ": `mov DWORD PTR [rdi], eax` has an address in a register, and lw has locations by their names only.",
+    null],
   ["no instructions", "hello my world\nand so on, and so on\n",
     "`hello` is not expected here. A test is `SRC` or `X86` and a name, the initial values in `{ }`, the row `P0 | P1 ;`, the rows of code, and a question.",
     null],
@@ -301,6 +313,24 @@ exists (x=1)
              | JNE END           ;
              | END:              ;
 exists (x=1)
+`],
+  ["a loop with a sum", `X86 A
+{}
+ P0            | P1             ;
+ MOV [x],$1    | L: MOV EAX,[y] ;
+ MOV [y],$7    | ADD EAX,$1     ;
+               | JE L           ;
+               | MOV EBX,[x]    ;
+exists (1:EBX=0)
+`, `${ONE}. States in which it has not ended are in the list, too${ASKED}`, `X86 A
+{}
+ P0            | P1             ;
+ MOV [x],$1    | L: MOV EAX,[y] ;
+ MOV [y],$7    | ADD EAX,$1     ;
+               | JE END         ;
+               | MOV EBX,[x]    ;
+               | END:           ;
+exists (~1:EAX=0 /\\ 1:EBX=0)
 `],
 ];
 
