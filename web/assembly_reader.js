@@ -16,6 +16,8 @@ const OF_FUNCTION = /\(|::/;
 // A label before more in its line.
 const LABEL_BEFORE = /^([.\w$@]+)\s*:(?!:)\s*(?=\S)/;
 const JUMP = /\bj\w+\s+(?:short\s+)?([.\w$@]+)/gi;
+// The jump that is all code of a function: the group is the name of another function.
+const ONLY_JUMP = /^jmp\s+([A-Za-z_$][^\s,]*(?:\(.*\))?)$/i;
 // What reserves memory: the groups are its directive, of GNU's assembler or of others, and what is in it. And a variable before it in a line, as in NASM.
 const DATA = /^(?:\.(long|int|4byte|quad|8byte|value|short|2byte|byte|zero|space|skip)|(d[bwdq]))\b\s*(.*)$/i;
 const VARIABLE = /^([A-Za-z_]\w*)\s+(?=d[bwdq]\s)/i;
@@ -51,13 +53,26 @@ function parseWords(directive, list) {
   return bytes ? numbers.map((word) => ({ word, bytes })) : [{ word: 0, bytes: numbers[0] }];
 }
 
+/** Returns the names of functions to which others only jump, as compilers make one function of two that do the same, given lines without comments. */
+function listSharedFunctions(lines) {
+  const code = lines.map((it) => it.trim()).filter((it) => it && !it.startsWith("."));
+  const beginsFunction = (at) => at === 0 || (at > 0 && LEAVES.test(code[at - 1]));
+  return code.flatMap((line, at) => {
+    const [, name] = ONLY_JUMP.exec(line) ?? [];
+    const isWhole = name && at && code[at - 1].endsWith(":") && (code[at + 1] ?? ":").endsWith(":");
+    return isWhole && beginsFunction(code.indexOf(`${name}:`)) ? [name] : [];
+  });
+}
+
 /** Reads the lines of a text, from first to last. */
 class AssemblyReader {
   /** @param {string} text */
   constructor(text) {
     this.lines = text.split("\n").map((it) => it.trim());
-    const code = this.lines.map((it) => it.replace(COMMENT, "")).join("\n");
-    this.targets = new Set([...code.matchAll(JUMP)].map(([, label]) => label));
+    const written = this.lines.map((it) => it.replace(COMMENT, ""));
+    const code = written.join("\n");
+    const shared = new Set(listSharedFunctions(written));
+    this.targets = new Set([...code.matchAll(JUMP)].map(([, label]) => label).filter((it) => !shared.has(it)));
     // Set if returns or the names of threads say where a function ends.
     this.hasEnds = /^(?:\w+:\s*)?(?:(?:rep|bnd)\s+)?ret/im.test(code) || this.lines.some((it) => HEADING.test(it));
     this.declared = new Set(this.lines.flatMap((it) => DECLARED.exec(it)?.[1] ?? []));
@@ -128,12 +143,18 @@ class AssemblyReader {
 }
 
 /**
- * Returns the blocks of a text of instructions. The first one has no name.
+ * Returns the blocks of a text of instructions. The first one has no name. A function that only jumps to another one has the lines of that one.
  * @param {string} text
  * @returns {AssemblyBlock[]}
  */
 export function readBlocks(text) {
-  return new AssemblyReader(text).readAll();
+  const blocks = new AssemblyReader(text).readAll();
+  const named = new Map(blocks.filter((it) => it.name).map((it) => [it.name, it.lines]));
+  return blocks.map((block) => {
+    const [only, another] = block.lines.filter(Boolean);
+    const [, name] = (another === undefined && ONLY_JUMP.exec(only ?? "")) || [];
+    return name && name !== block.name && named.has(name) ? { ...block, lines: named.get(name) } : block;
+  });
 }
 
 /** Returns a label of a compiler as a name of lw. */

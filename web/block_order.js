@@ -84,18 +84,15 @@ function makeLabel(indices, at) {
   return name;
 }
 
-/**
- * Returns steps in an order in which jumps go forward, except those of loops; the same ones if they do already. `end` is the label after the last step.
- * @param {Step[]} steps
- * @param {string} end
- * @returns {Step[]}
- */
-export function orderSteps(steps, end) {
-  if (steps.length > MAX_STEPS) return steps;
-  const blocks = splitBlocks(steps);
-  const indices = new Map([...blocks.flatMap((block, at) => block[0].labels.map((label) => [label, at])), [end, blocks.length]]);
+/** Returns over how many steps all jumps back go together. */
+function measureJumpsBack(steps) {
+  const indices = new Map(steps.flatMap(({ labels }, at) => labels.map((label) => [label, at])));
+  return steps.reduce((sum, step, at) => sum + Math.max(0, at + 1 - (indices.get(parseJump(step).label) ?? at + 1)), 0);
+}
+
+/** Returns the steps of blocks in an order in which only loops jump back. `indices` has the blocks' labels, of which `end` is after the last one. */
+function joinBlocks(blocks, indices, end) {
   const next = blocks.map((_, at) => listNext(blocks, indices, at));
-  if (!next.some(({ jumped }, at) => jumped <= at) || blocks.some((it) => it.some((step) => !indices.has(parseJump(step).label ?? end)))) return steps;
   const sorted = sortBlocks(next);
   const label = (at) => {
     if (at === blocks.length) return end;
@@ -104,4 +101,19 @@ export function orderSteps(steps, end) {
     return first.labels[0];
   };
   return sorted.flatMap((at, place) => linkBlock(blocks[at], next[at], sorted[place + 1] ?? blocks.length, label));
+}
+
+/**
+ * Returns steps in an order in which jumps go forward, except those of loops; the same ones if that is no gain. `end` is the label after the last step.
+ * @param {Step[]} steps
+ * @param {string} end
+ * @returns {Step[]}
+ */
+export function orderSteps(steps, end) {
+  if (steps.length > MAX_STEPS || !measureJumpsBack(steps)) return steps;
+  const blocks = splitBlocks(steps.map((it) => ({ ...it, labels: [...it.labels] })));
+  const indices = new Map([...blocks.flatMap((block, at) => block[0].labels.map((label) => [label, at])), [end, blocks.length]]);
+  if (steps.some((it) => !indices.has(parseJump(it).label ?? end))) return steps;
+  const ordered = joinBlocks(blocks, indices, end);
+  return measureJumpsBack(ordered) < measureJumpsBack(steps) ? ordered : steps;
 }
