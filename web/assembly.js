@@ -18,7 +18,7 @@ const QUESTION = /^[ \t]*(?:locations\b|filter\b|forall\b|(?:(?:[~!]|not\b)[ \t]
 const FRAME = /^(?!lock\b).*(?:\[[er][sb]p\s*[-+]|\d\(%[er][sb]p\))/i;
 // An instruction that loads the address of a variable from a table; and one with an address in a register, other than that of the stack.
 const OF_TABLE = /@GOTPCREL\b/i;
-const ADDRESS = /[[(][^\])]*(?<!\w)%?(?:[re](?:[abcd]x|[sd]i)|r(?:[89]|1[0-5])d?)\b/i;
+const ADDRESS = /[[(][^[\]()]*(?<!\w)%?(?:[re](?:[abcd]x|[sd]i)|r(?:[89]|1[0-5])d?)\b/i;
 // A line of instructions that a test may have: labels, an instruction, or both. And instructions that no test has.
 const NAMES = "mov|x?add|sub|cmp|xchg|inc|dec|test|x?or|and|j[nmez]|[mls]fence|nop|pause";
 const OTHER_NAMES = "call|lea|cdqe?|cltq|imul|set\\w+|cmov\\w+|cmpxchg|bt[src]?|sh[lr]|sa[lr]|neg|not|j\\w+|push|pop|leave";

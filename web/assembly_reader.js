@@ -17,7 +17,7 @@ const OF_FUNCTION = /\(|::/;
 const LABEL_BEFORE = /^([.\w$@]+)\s*:(?!:)\s*(?=\S)/;
 const JUMP = /\bj\w+\s+(?:short\s+)?([.\w$@]+)/gi;
 // The jump that is all code of a function: the group is the name of another function.
-const ONLY_JUMP = /^jmp\s+([A-Za-z_$][^\s,]*(?:\(.*\))?)$/i;
+const ONLY_JUMP = /^jmp\s+([A-Za-z_$].*)$/i;
 // What reserves memory: the groups are its directive, of GNU's assembler or of others, and what is in it. And a variable before it in a line, as in NASM.
 const DATA = /^(?:\.(long|int|4byte|quad|8byte|value|short|2byte|byte|zero|space|skip)|(d[bwdq]))\b\s*(.*)$/i;
 const VARIABLE = /^([A-Za-z_]\w*)\s+(?=d[bwdq]\s)/i;
@@ -56,12 +56,25 @@ function parseWords(directive, list) {
 /** Returns the names of functions to which others only jump, as compilers make one function of two that do the same, given lines without comments. */
 function listSharedFunctions(lines) {
   const code = lines.map((it) => it.trim()).filter((it) => it && !it.startsWith("."));
+  const labels = new Map(code.map((it, at) => [it, at]));
   const beginsFunction = (at) => at === 0 || (at > 0 && LEAVES.test(code[at - 1]));
   return code.flatMap((line, at) => {
     const [, name] = ONLY_JUMP.exec(line) ?? [];
     const isWhole = name && at && code[at - 1].endsWith(":") && (code[at + 1] ?? ":").endsWith(":");
-    return isWhole && beginsFunction(code.indexOf(`${name}:`)) ? [name] : [];
+    return isWhole && beginsFunction(labels.get(`${name}:`)) ? [name] : [];
   });
+}
+
+/** Returns, for each of some lines without comments, the next one that is no directive other than data; undefined if there is none. */
+function listFollowing(lines) {
+  const following = [];
+  let next;
+  for (let at = lines.length - 1; at >= 0; at -= 1) {
+    following[at] = next;
+    const line = lines[at].trim();
+    if (line && (DATA.test(line) || !line.startsWith("."))) next = line;
+  }
+  return following;
 }
 
 /** Reads the lines of a text, from first to last. */
@@ -75,6 +88,7 @@ class AssemblyReader {
     this.targets = new Set([...code.matchAll(JUMP)].map(([, label]) => label).filter((it) => !shared.has(it)));
     // Set if returns or the names of threads say where a function ends.
     this.hasEnds = /^(?:\w+:\s*)?(?:(?:rep|bnd)\s+)?ret/im.test(code) || this.lines.some((it) => HEADING.test(it));
+    this.following = listFollowing(written);
     this.declared = new Set(this.lines.flatMap((it) => DECLARED.exec(it)?.[1] ?? []));
     this.blocks = [{ name: "", number: null, lines: [], words: [] }];
   }
@@ -127,7 +141,7 @@ class AssemblyReader {
    */
   beginsBlock(label, rest, at) {
     const code = this.block.lines.filter(Boolean);
-    const next = rest || this.lines.slice(at + 1).map((it) => it.replace(COMMENT, "").trim()).find((it) => it && (DATA.test(it) || !it.startsWith(".")));
+    const next = rest || this.following[at];
     const isNamed = !this.hasEnds && !this.blocks[0].lines.some(Boolean);
     return isNamed || this.declared.has(label) || !code.length || LEAVES.test(code.at(-1)) || DATA.test(next ?? "");
   }

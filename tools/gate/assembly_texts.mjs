@@ -358,6 +358,9 @@ const LONG_TEXTS = [
   ["blank lines", (count) => `mov [x],1\n${"\n".repeat(count)}mov eax,[x]\n`, 1],
   ["blanks", (count) => `mov [x],${" ".repeat(count)}1\nmov eax,[x]\n`, 1],
   ["parts of a name", (count) => `f:\n movl $1, ${"a::".repeat(count)}x(%rip)\n ret\n`, 3],
+  ["parentheses", (count) => `f:\n jmp a${"(".repeat(count)} x\n`, 1],
+  ["labels", (count) => `${Array.from({ length: count }, (_, at) => `f${at}:\n`).join("")} mov [x],1\n`, 7],
+  ["functions of one jump", (count) => Array.from({ length: count }, (_, at) => `f${at}:\n jmp f0\n`).join(""), 15],
   ["statements of a line", (count) => `f: ${"mov [x],1; ".repeat(count)}\n`, 11],
   ["rows of a test with a loop", (count) => `X86 A\n{}\n P0 ;\n${" L: MOV EAX,[x] ;\n CMP EAX,$0 ;\n JE L ;\n".repeat(count)}exists (x=1)\n`, 42],
 ];
