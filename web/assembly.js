@@ -14,6 +14,8 @@ const MAX_LINES = 64;
 // The front of a test, with which a text of instructions may begin; and how a question begins, or the list of locations before it.
 const FRONT = /^\s*X86[^{|;]*\{[^}|]*\}/;
 const QUESTION = /^[ \t]*(?:locations\b|filter\b|forall\b|(?:(?:[~!]|not\b)[ \t]*)?exists\b)/m;
+// The row of the threads' names, which a test has.
+const NAMES_ROW = /^[ \t]*P0[ \t]*[|;]/m;
 // An instruction on a variable in a function's frame on the stack.
 const FRAME = /^(?!lock\b).*(?:\[[er][sb]p\s*[-+]|\d\(%[er][sb]p\))/i;
 // An instruction that loads the address of a variable from a table; and one with an address in a register, other than that of the stack.
@@ -113,7 +115,7 @@ function rewriteVariables(line, locations) {
     locations.set(Number(offset) ? `${variable}+${Number(offset)}` : variable, name);
     return before + name;
   };
-  const written = line.replace(/\[rip\s*\+\s*(\d+)\]/i, "+$1[rip]").replace(/(?<![\w+.$])(\d+)\+([A-Za-z_][\w.$:]*)(?=\(%rip\))/, "$2+$1");
+  const written = line.replace(/\[rip\s*\+\s*(\d+)\]/i, "+$1[rip]").replace(/(?<![-\w+.$])(\d+)\+([A-Za-z_][\w.$:]*)(?=\(%rip\))/, "$2+$1");
   return VARIABLES.reduce((code, pattern) => code.replace(pattern, rewrite), written);
 }
 
@@ -247,6 +249,7 @@ function describeThreads({ threads, names, first, leftOut }, locations) {
  */
 export function explainAssembly(place) {
   const { text } = place;
+  if (NAMES_ROW.test(text)) return "";
   const [front = ""] = FRONT.exec(text) ?? [];
   const end = text.search(QUESTION);
   const read = readThreads(text.slice(front.length, end < front.length ? text.length : end));

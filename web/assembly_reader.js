@@ -7,8 +7,9 @@
 
 import { orderSteps } from "./block_order.js";
 
-// A line before the code of a thread, as `P0:` or `// Thread 1`: the groups are its name, the number in it, and the code after the colon.
-const HEADING = /^(?:(?:#|\/\/|;)\s*)?((?:P|T|CPU|core|processor|thread)[\s_]*(\d+))\s*(?:\(\)\s*)?(?::(?!:)(.*))?$/i;
+// A line before the code of a thread, as `P0:` or `// Thread 1`: the groups are the mark of its comment, its name, the number in it, and the code after the
+// colon.
+const HEADING = /^(?:(#|\/\/|;)\s*)?((?:P|T|CPU|core|processor|thread)[\s_]*(\d+))\s*(?:\(\)\s*)?(?::(?!:)(.*))?$/i;
 // Where a comment begins. (`#1` may be a constant.)
 const COMMENT = /(?:^|[ \t])(?:#(?!\d)|;|\/\/).*$/;
 // The name of a function in C++ has blanks only if it has one of these.
@@ -106,9 +107,10 @@ class AssemblyReader {
   /** Returns all blocks; the first one has what is before all names. */
   readAll() {
     for (const [at, line] of this.lines.entries()) {
-      const [heading, name, number, code = ""] = HEADING.exec(line) ?? [];
-      if (heading !== undefined) this.beginBlock(name, Number(number));
-      const statements = splitStatements(heading === undefined ? line : code);
+      const [, mark, name, number, code = ""] = HEADING.exec(line) ?? [];
+      const isHeading = name !== undefined && !this.targets.has(name);
+      if (isHeading) this.beginBlock(name, Number(number));
+      const statements = splitStatements(!isHeading ? line : mark ? "" : code);
       if (!line) this.block.lines.push("");
       for (const it of statements.filter(Boolean)) this.readStatement(it, at);
     }

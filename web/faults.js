@@ -424,9 +424,9 @@ const SENTENCES = {
     explainMissingInQuestion(place) ||
     "The text ends too early. The last row may lack its `;`, a comment its `*)`, or the test its question, as `exists (x=1)`.",
   "text Unexpected": (place) =>
+    explainAssembly(place) ||
     explainComment(place) ||
     explainOpenBlock(place) ||
-    explainAssembly(place) ||
     explainName(place) ||
     explainThreadNames(place) ||
     explainMissingFront(place) ||
