@@ -15,7 +15,7 @@ const MAX_LINES = 64;
 const FRONT = /^\s*X86[^{|;]*\{[^}|]*\}/;
 const QUESTION = /^[ \t]*(?:locations\b|filter\b|forall\b|(?:(?:[~!]|not\b)[ \t]*)?exists\b)/m;
 // The row of the threads' names, which a test has.
-const NAMES_ROW = /^[ \t]*P0[ \t]*[|;]/m;
+const NAMES_ROW = /^[ \t]*P0[ \t]*(?:[|;,]|P1\b)/m;
 // An instruction on a variable in a function's frame on the stack.
 const FRAME = /^(?!lock\b).*(?:\[[er][sb]p\s*[-+]|\d\(%[er][sb]p\))/i;
 // An instruction that loads the address of a variable from a table; and one with an address in a register, other than that of the stack.
