@@ -68,8 +68,12 @@ async function showFault(fault, notice, editor) {
   const words = [...describeFault(fault, hint), ...end];
   if (editor.isAlone) {
     const { row } = showFaultInEditor(fault, words, hint, hints, editor);
-    notice.className = "no-answer";
-    notice.append(`No answer: line ${row} of the text has a fault.`);
+    const headline = hint.isOffer ? "This text is no test yet. The page can make one of it." : `No answer: line ${row} of the text has a fault.`;
+    // On a phone the text, with its fault, is far below.
+    const [reason, apply] = [describeFault(fault, hint), makeApplyButtons(hint, editor)];
+    notice.append(headline, el("div", { class: "reason" }, hint.isOffer ? [apply, el("p", {}, reason)] : [reason, " ", apply]));
+    notice.className = `no-answer${hint.isOffer ? " offer" : ""}`;
+    findById("answers").classList.toggle("offered", Boolean(hint.isOffer));
   } else notice.append(...words, makeFaultLine(fault));
 }
 
@@ -108,7 +112,7 @@ function makeFaultLine({ line }) {
 function describeFault(fault, hint = { words: null }) {
   if (fault.kind === "limit") return [`The list could take too long, so it is refused. ${LIMITS[fault.name]}.`];
   const { row, column } = hint.at ?? fault;
-  const place = row ? el("b", {}, `Line ${row}, column ${column}: `) : "";
+  const place = row && !hint.isOffer ? el("b", {}, `Line ${row}, column ${column}: `) : "";
   const named = fault.name ? [fault.name, ": ", ...renderSentence(findSentence(fault.kind, fault.number)), ". "] : [];
   return [place, ...(hint.words ? renderSentence(`${hint.words} `) : named)];
 }
@@ -124,22 +128,26 @@ function describeFault(fault, hint = { words: null }) {
  */
 function showFaultInEditor(fault, words, hint, hints, editor) {
   const marked = { ...fault, ...hint.at };
-  const { change, also, command, more } = hint;
+  const { change, command, more } = hint;
   fold(false);
-  editor.mark(marked);
+  if (!hint.isOffer) editor.mark(marked);
   const [file, title] = documents.find(([it]) => it === hint.document) ?? [];
   const read = file && el("a", { href: file, target: "reading" }, title);
-  const makeApply = (it) => it && makeButton(it.title ?? `Change it to ${it.text}`, () => applyChange(it, editor), { class: "apply" });
   const copyIt = command && makeButton("Copy the command", () => copy(command, findById("said")), { class: "apply" });
   const goTo = makeButton("Go to it", () => editor.goTo(marked.index), { class: "go-to" });
   const other = more && el("details", { class: "small", open: !change }, el("summary", {}, "With a compiler"), renderSentence(`${more} `), read, " ", copyIt);
   const further = el("div", { class: "further", role: "status" });
-  const buttons = [makeApply(change), makeApply(also), other ? "" : copyIt, " ", goTo];
-  findById("fault").replaceChildren(
-    el("p", { class: "notice" }, words, " ", other ? "" : read, " ", buttons, other, makeFaultLine(fault), further),
-  );
+  const buttons = [makeApplyButtons(hint, editor), other ? "" : copyIt, " ", hint.isOffer ? "" : goTo];
+  const line = hint.isOffer ? "" : makeFaultLine(fault);
+  findById("fault").replaceChildren(el("p", { class: "notice" }, words, " ", other ? "" : read, " ", buttons, other, line, further));
   if (hints) showFurtherFaults({ fault, hint }, hints, further, editor);
   return marked;
+}
+
+/** Returns buttons that apply what a hint proposes. */
+function makeApplyButtons({ change, also, isOffer }, editor) {
+  const makeApply = (it) => makeButton(it.title ?? `Change it to ${it.text}`, () => applyChange(it, editor), { class: isOffer ? "apply main" : "apply" });
+  return [change, also].filter(Boolean).map(makeApply);
 }
 
 /**
@@ -191,6 +199,7 @@ function applyChange(change, editor) {
  */
 export function clearFault(editor) {
   if (!editor.isAlone) return;
+  findById("answers").classList.remove("offered");
   findById("fault").replaceChildren();
   editor.mark(null);
 }

@@ -46,13 +46,13 @@ function describeToken(token) {
 }
 
 /**
- * The place of a fault: its token, what is before it in its cell and after it in the text, the `change` of the text that is proposed, or null, and `at`,
- * where the text is to be changed, or undefined if that is the fault's place.
+ * The place of a fault: its token, what is before it in its cell and after it in the text, the `change` of the text that is proposed, or null, `isOffer`,
+ * whether the text is no test, of which the change makes one, and `at`, where the text is to be changed, or undefined if that is the fault's place.
  */
 class FaultPlace {
   constructor(text, index) {
     const token = findToken(text, index);
-    Object.assign(this, { text, index, token, tokenWords: describeToken(token), change: null, at: undefined, isX86: beginsWithX86(text) });
+    Object.assign(this, { text, index, token, tokenWords: describeToken(token), change: null, at: undefined, isOffer: false, isX86: beginsWithX86(text) });
     Object.assign(this, { before: findCellBefore(text, index), after: text.slice(index + token.length) });
   }
 
@@ -476,7 +476,7 @@ const SENTENCES = {
 /**
  * Returns the explanation of a text's fault, a `Hint`: `words`, a sentence in which code is between backquotes, or null if the fault is not known;
  * `more` words on what else can be done, the `document` on it and the `command` to call, if there are some; the proposed `change`, a text with the `begin` and the `end` of the part that it replaces, and a `title` if
- * the text says little, or null; `also` another one, if two are likely; and where the text is to be changed (`at`), if that is not the place of the fault.
+ * the text says little, or null; `isOffer`, if the text is no test, and the change makes one of it; `also` another one, if two are likely; and where the text is to be changed (`at`), if that is not the place of the fault.
  * @param {Fault} fault
  * @param {string} text
  * @returns {{words: string | null, more?: string, document?: string, command?: string, change: {begin: number, end: number, text: string, title?: string} | null, also?: object, at?: object}}
@@ -490,10 +490,10 @@ export function explainFault(fault, text) {
   const other = kind === "text" && findOtherLanguage(place);
   const choice = rewriting?.also ? " The other button makes x86 code of the rows, which may have more states." : "";
   if (rewriting?.isWhole && (rewriting.count > 1 || other)) return { ...rewriting, words: rewriting.words + choice };
-  if (other) return { ...other, change: place.change };
+  if (other) return { ...other, change: place.change, isOffer: place.change !== null };
   const rows = explainSpareEnds(name, text) ?? explainRowsWithoutEnd(fault, text) ?? (/^(?:Ragged|Form|Unexpected)$/.test(name) ? explainRaggedRows(text) : null);
   if (rows) return rows;
   const words = SENTENCES[`${kind} ${name}`]?.(place) ?? null;
   if (rewriting && (rewriting.count !== 1 || !place.change || rewriting.isBetter)) return rewriting;
-  return { words, change: place.change, at: place.at };
+  return { words, change: place.change, at: place.at, isOffer: place.isOffer };
 }
