@@ -265,6 +265,7 @@ export function explainAssembly(place) {
   const { text: made, words } = rewriteWhole(`${head}\n${[names, ...rows].map((it) => ` ${it.join(" | ")} ;\n`).join("")}${tail}`);
   place.proposeChange(threads.length > 1 ? alignCells(made) : made, 0, text.length);
   place.change.title = threads.length > 1 ? `Make ${formatNames(names)} of them` : "Make it P0 of a test";
+  place.isOffer = true;
   const guess = isAsked ? "The question is a guess: change it to yours." : "The question `true` holds always: look at the list of states.";
   return [`${BEGIN}.`, ...describeThreads(read, locations), end < front.length && guess, words].filter(Boolean).join(" ").trim();
 }
