@@ -467,10 +467,36 @@ class Faults(PageCase):
         self.assertSays("The question is a guess: change it to yours.", "#fault")
         user.click("#fault .apply")
         self.assertSoon("exists (0:EAX=0 /\\ 1:EAX=0)", lambda: user.value().splitlines()[-1])
-        user.run_text(program.replace("int r0 = x", "while (x) ;int r0 = x"))
-        why = "in place of a loop that waits, load once, and ask for the value that ends it."
-        self.assertSays(f"Line 4, column 24: The page would rewrite this program in C as an x86 test, but not while (x): {why}", "#fault")
+        user.run_text(program.replace("int r0 = x", "goto L;int r0 = x"))
+        why = "goto and labels are not rewritten."
+        self.assertSays(f"Line 4, column 24: The page would rewrite this program in C as an x86 test, but not goto L: {why}", "#fault")
         self.assertEqual(["Copy the command"], user.texts("#fault .apply"))
+
+    def test_offer(self) -> None:
+        """Of a program, and of instructions, the page says where the answer will be that it can make a test of them, in place of the answer to the text before."""
+        user = self.user
+        user.open_listed("#example=SB-x86")
+        program = "#include <atomic>\nstd::atomic<int> x;\nvoid f() { x = 1; }\nvoid g() { x = 2; }\n"
+        for text in (program, "mov [x],1\nmov eax,[y]\n\nmov [y],1\nmov eax,[x]\n"):
+            user.run_text(text)
+            self.assertSays("This text is no test yet. The page can make one of it.", "#outcome .no-answer")
+            self.assertEqual([[], [], []], [user.all(it) for it in ("#watching .machine", "#graph-place", "#fault .fault-line")])
+            user.click("#outcome .apply")
+            self.assertSoon("X86 Mine", lambda: user.value()[:8])
+            user.find("#watching .machine")
+            self.assertEqual([], user.all("#outcome .no-answer"))
+        user.run_text("mov [x],eax,1\n")
+        self.assertSays("No answer: line 1 of the text has a fault.", "#outcome .no-answer")
+
+    def test_fault_on_a_phone(self) -> None:
+        """On a phone the sentence on a fault and its button are below the headline, too."""
+        user = self.user
+        user.resize(390, 844)
+        user.open_listed("#example=SB-x86")
+        user.run_text(MENDED.replace("MOV EBX", "MVO EBX"))
+        self.assertSays("Did you mean MOV?", "#outcome .reason")
+        user.click("#outcome .reason .apply")
+        self.assertSoon(MENDED, user.value)
 
     def test_variables(self) -> None:
         """The machine and the list of a test that was made of a program in C name the variable of each register, as a comment says."""
