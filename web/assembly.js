@@ -16,8 +16,8 @@ const FRONT = /^\s*X86[^{|;]*\{[^}|]*\}/;
 const QUESTION = /^[ \t]*(?:locations\b|filter\b|forall\b|(?:(?:[~!]|not\b)[ \t]*)?exists\b)/m;
 // The row of the threads' names, which a test has.
 const NAMES_ROW = /^[ \t]*P0[ \t]*(?:[|;,]|P1\b)/m;
-// An instruction on a variable in a function's frame on the stack.
-const FRAME = /^(?!lock\b).*(?:\[[er][sb]p\s*[-+]|\d\(%[er][sb]p\))/i;
+// An instruction on a variable in a function's frame on the stack, or that begins the frame.
+const FRAME = /^(?!lock\b).*(?:\[[er][sb]p\s*[-+]|\d\(%[er][sb]p\))|^mov\w*\s+(?:[er]bp,\s*[er]sp|%[er]sp,\s*%[er]bp)$/i;
 // An instruction that loads the address of a variable from a table; and one with an address in a register, other than that of the stack.
 const OF_TABLE = /@GOTPCREL\b/i;
 const ADDRESS = /[[(][^[\]()]*(?<!\w)%?(?:[re](?:[abcd]x|[sd]i)|r(?:[89]|1[0-5])d?)\b/i;
@@ -265,6 +265,7 @@ export function explainAssembly(place) {
   const { text: made, words } = rewriteWhole(`${head}\n${[names, ...rows].map((it) => ` ${it.join(" | ")} ;\n`).join("")}${tail}`);
   place.proposeChange(threads.length > 1 ? alignCells(made) : made, 0, text.length);
   place.change.title = threads.length > 1 ? `Make ${formatNames(names)} of them` : "Make it P0 of a test";
+  place.change.done = "Rewritten.";
   place.isOffer = true;
   const guess = isAsked ? "The question is a guess: change it to yours." : "The question `true` holds always: look at the list of states.";
   return [`${BEGIN}.`, ...describeThreads(read, locations), end < front.length && guess, words].filter(Boolean).join(" ").trim();

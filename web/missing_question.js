@@ -34,6 +34,7 @@ export function explainMissingQuestion(place) {
   const { begin, end: to, text: put } = makeChange(text, found.text.replace(SHORTEST, () => question));
   place.proposeChange(put, begin, to);
   place.change.title = "Put in a question";
+  place.change.done = "Rewritten.";
   const words = `The test has no question at its end. ${/true/.test(question) ? "" : "The one of the button is a guess: change it to yours. "}`;
   return `${words}${found.words}`.trim();
 }
