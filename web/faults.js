@@ -11,6 +11,7 @@ import { findNearest } from "./nearest.js";
 import { CONSTANT, findRewriting, NEGATIVE, rewriteWhole } from "./notation.js";
 import { convertRegister, explainCode, explainOtherFirstWord, isAllIn, parseCells } from "./other_language.js";
 import { explainComment, explainMissingFront, findOtherLanguage, isRead } from "./other_tools.js";
+import { explainPseudoCode } from "./pseudo_code.js";
 import { explainRaggedRows } from "./ragged.js";
 import { TEMPLATE } from "./template.js";
 import { readTest } from "./tests.js";
@@ -491,6 +492,8 @@ export function explainFault(fault, text) {
   const choice = rewriting?.also ? " The other button makes x86 code of the rows, which may have more states." : "";
   if (rewriting?.isWhole && (rewriting.count > 1 || other)) return { ...rewriting, words: rewriting.words + choice };
   if (other) return { ...other, change: place.change, isOffer: place.change !== null };
+  const pseudo = kind === "text" ? explainPseudoCode(text) : null;
+  if (pseudo) return pseudo;
   const rows = explainSpareEnds(name, text) ?? explainRowsWithoutEnd(fault, text) ?? (/^(?:Ragged|Form|Unexpected)$/.test(name) ? explainRaggedRows(text) : null);
   if (rows) return rows;
   const words = SENTENCES[`${kind} ${name}`]?.(place) ?? null;

@@ -16,8 +16,16 @@ const MAX_LETTERS = 500;
  * @returns {string | null}
  */
 export function rewriteEntries(code) {
-  if (code.length > MAX_LETTERS || REGULAR.test(code) || !BETWEEN.test(code.replace(ENTRY, ""))) return null;
-  return formatEntries(code);
+  return code.length > MAX_LETTERS || REGULAR.test(code) ? null : makeBlock(code);
+}
+
+/**
+ * Returns a block of initial values that have no braces; null if there are none, or if code has something else, too.
+ * @param {string} code
+ * @returns {string | null}
+ */
+export function makeBlock(code) {
+  return code.length <= MAX_LETTERS && BETWEEN.test(code.replace(ENTRY, "")) ? formatEntries(code) : null;
 }
 
 /** Returns a block of the entries in code as lw writes it, or null if there are none. */
@@ -37,7 +45,6 @@ export function findBareEntries(code, end) {
   const line = code.search(/\S/);
   const begin = code.indexOf("\n", line) + 1;
   const part = begin > 0 && begin < end ? code.slice(begin, end).replace(/^\s*\(|\)\s*$/g, "") : "";
-  const isBare = part.trim() && part.length <= MAX_LETTERS && BETWEEN.test(part.replace(ENTRY, ""));
-  const block = isBare ? formatEntries(part) : null;
+  const block = makeBlock(part);
   return block && { begin, block };
 }
