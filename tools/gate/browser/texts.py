@@ -466,7 +466,7 @@ class Faults(PageCase):
         user.run_text(program.replace("int r0 = x", "int r0 = 1; if (x) r0 = y").split("//", maxsplit=1)[0])
         self.assertSays("The question is a guess: change it to yours.", "#fault")
         user.click("#fault .apply")
-        self.assertSoon("exists (0:EAX=0 /\\ 1:EAX=0)", lambda: user.value().splitlines()[-1])
+        self.assertSoon("exists (0:EAX=0 /\\ ~1:EBX=0 /\\ 1:EAX=0)", lambda: user.value().splitlines()[-1])
         user.run_text(program.replace("int r0 = x", "goto L;int r0 = x"))
         why = "goto and labels are not rewritten."
         self.assertSays(f"Line 4, column 24: The page would rewrite this program in C as an x86 test, but not goto L: {why}", "#fault")
@@ -485,7 +485,7 @@ class Faults(PageCase):
             self.assertSoon("X86 Mine", lambda: user.value()[:8])
             user.find("#watching .machine")
             self.assertEqual([], user.all("#outcome .no-answer"))
-        user.run_text("mov [x],eax,1\n")
+        user.run_text("No test.\n")
         self.assertSays("No answer: line 1 of the text has a fault.", "#outcome .no-answer")
 
     def test_fault_on_a_phone(self) -> None:
