@@ -8,6 +8,7 @@ import { startThreads } from "./c_main.js";
 import { formatAssertion, formatFormula, limitQuestion } from "./c_question.js";
 import { checkThreads, readProgram, refusePart } from "./c_reader.js";
 import { RESULT, ThreadWriter } from "./c_thread.js";
+import { guessProposition } from "./guess_question.js";
 import { readTest } from "./tests.js";
 import { WORD } from "./token_reader.js";
 
@@ -152,17 +153,32 @@ function listLostAdditions({ words }, accesses) {
 
 /**
  * Returns a question for a test that has none: whether an addition can be lost, if a load and a store make one; and otherwise whether all variables
- * that threads loaded last can be 0, if these loads are reached. It is `true` if no thread loads.
+ * that threads loaded last can be 0, if these loads are reached, and if what a thread loaded before is not 0. It is `true` if a thread loads otherwise,
+ * or none loads.
  */
 function guessQuestion(program, writers, accesses) {
   const lost = listLostAdditions(program, accesses);
   if (lost.length) return `exists (${formatFormula({ sign: "\\/", parts: lost })})`;
+  if (!writers.some((it) => it.loadedBranches.length)) {
+    const loads = writers.map((writer) => {
+      const awaited = writer.waits.flatMap(listNames);
+      const sites = writer.loads.map(({ variable, location }) => ({ site: writer.makeSite(variable), location }));
+      return sites.filter(({ site }) => !awaited.includes(site));
+    });
+    const loading = writers.filter((it) => it.loaded);
+    return `exists (${loading.every((it) => isAskedOf(it) && !it.hasBranch) ? guessProposition(loads) : "true"})`;
+  }
   const asked = writers.filter(isAskedOf).flatMap((writer) => {
     const branches = writer.loadedBranches.flatMap((it) => it.comparisons);
     const atoms = [...branches, { variable: writer.loaded, word: 0, isEqual: true }];
     return atoms.map(({ variable, word, isEqual }) => formatFormula({ name: writer.makeSite(variable), word, isEqual }));
   });
   return `exists (${[...new Set(asked)].join(" /\\ ") || "true"})`;
+}
+
+/** Returns the names in a formula. */
+function listNames({ parts, name }) {
+  return parts ? parts.flatMap(listNames) : [name];
 }
 
 /** Returns whether a question can ask of the variable that a thread loaded last: it has a value, or it is known in which states it has one. */

@@ -126,6 +126,8 @@ export class ThreadWriter extends ValueWriter {
     // How many labels there are, and the variable that was loaded last.
     this.labelCount = 0;
     this.loaded = null;
+    this.loads = [];
+    this.hasBranch = false;
     // The formula of the end of each loop that waits and of each lock; and the variables of loops that exchange, with the words that these may have.
     this.waits = [];
     this.isWaiting = false;
@@ -247,6 +249,7 @@ export class ThreadWriter extends ValueWriter {
 
   /** Writes an `if`: its comparisons jump over its first branch, which jumps over the second one if there is one. */
   writeBranch({ condition, then, otherwise }, isLast) {
+    this.hasBranch = true;
     const other = isLast && !otherwise.length ? END : this.makeLabel();
     const end = isLast ? END : otherwise.length ? this.makeLabel() : other;
     const { index } = this.statement;
@@ -510,6 +513,8 @@ export class ThreadWriter extends ValueWriter {
     const limit = this.limits.get(name) ?? WORD;
     const isLoaded = access?.limit <= limit && !another && !/^(?:\w+: )*ADD\b/.test(this.instructions.at(-1));
     if (limit < WORD && !isTruth && !isLoaded && !isBelow(limit, value)) this.refuseStatement(explainLimit(limit));
-    if (access && !access.isWrite && !isTruth) Object.assign(this, { loaded: name, loadedBranches: [...this.branches] });
+    if (!access || access.isWrite || isTruth) return;
+    Object.assign(this, { loaded: name, loadedBranches: [...this.branches] });
+    this.loads.push({ variable: name, location: access.name });
   }
 }

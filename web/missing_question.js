@@ -1,6 +1,7 @@
 // Proposes a question for a test that ends after its rows. Not proved.
 
 import { makeChange } from "./change.js";
+import { guessProposition } from "./guess_question.js";
 import { rewriteWhole } from "./notation.js";
 import { isRead } from "./other_tools.js";
 import { readTest } from "./tests.js";
@@ -11,11 +12,15 @@ const LOADS = ["load", "xchg", "xadd", "swap", "fetchadd"];
 // The shortest question.
 const SHORTEST = "exists (true)\n";
 
-/** Returns a question on the registers that the threads loaded last, each of which may be 0; one on nothing, with a list of locations, if no thread loads. */
+/** Returns a guessed question, with a list of the registers that it does not name and that threads load; of all locations, if they load none. */
 function guessQuestion({ threads, language, locations }) {
-  const loads = threads.map((code) => code.findLast((it) => LOADS.includes(it.kind)));
-  const sites = loads.flatMap((it, thread) => (it ? [`${thread}:${REGISTERS[language][it.register]}=0`] : []));
-  return sites.length ? `exists (${sites.join(" /\\ ")})\n` : `locations [${locations.map((it) => `${it};`).join(" ")}]\n${SHORTEST}`;
+  const makeLoad = (it, thread) => ({ site: `${thread}:${REGISTERS[language][it.register]}`, location: it.location });
+  const loads = threads.map((code, thread) => code.filter((it) => LOADS.includes(it.kind)).map((it) => makeLoad(it, thread)));
+  const proposition = threads.flat().some((it) => it.target !== undefined) ? "true" : guessProposition(loads);
+  const sites = loads.flat().map((it) => it.site);
+  const listed = new Set(sites.length ? sites.filter((it) => !proposition.includes(it)) : locations);
+  const list = listed.size ? `locations [${[...listed].map((it) => `${it};`).join(" ")}]\n` : "";
+  return `${list}exists (${proposition})\n`;
 }
 
 /**

@@ -2,6 +2,7 @@
 
 import { alignCells } from "./aligned.js";
 import { numberThreads } from "./assembly.js";
+import { guessProposition } from "./guess_question.js";
 import { makeBlock } from "./initial_values.js";
 import { findRewriting } from "./notation.js";
 import { isRead } from "./other_tools.js";
@@ -90,18 +91,21 @@ function readPseudoCode(text) {
   return { head: front || `X86 Mine\n${block}`, language, codes, own, asked };
 }
 
-/**
- * Returns a question on the registers that threads set last from a location, each of which may be 0, with a list of the others; if there are none, one on
- * nothing, with a list of all locations.
- */
+/** Returns a guessed question, with a list of the registers that it does not name and that are set from a location; of all locations, if there are none. */
 function guessQuestion(codes) {
-  const listLoads = (code) => code.flatMap((it) => /^(r\d)\s*:?=\s*(?!r\d)[A-Za-z_]/.exec(it)?.[1] ?? []);
-  const loads = codes.flatMap((code, thread) => listLoads(code).map((it) => `${thread}:${it}`));
-  const asked = codes.flatMap((code, thread) => listLoads(code).slice(-1).map((it) => `${thread}:${it}`));
+  const loads = codes.map((code, thread) => code.flatMap((it) => parseLoad(it, thread) ?? []));
+  const proposition = guessProposition(loads);
   const stored = codes.flat().flatMap((it) => /^(?!r\d)[A-Za-z_]\w*(?=\s*:?=)/.exec(it)?.[0] ?? []);
-  const listed = new Set(asked.length ? loads.filter((it) => !asked.includes(it)) : stored);
+  const sites = loads.flat().map((it) => it.site);
+  const listed = new Set(sites.length ? sites.filter((it) => !proposition.includes(it)) : stored);
   const list = listed.size ? `locations [${[...listed].map((it) => `${it};`).join(" ")}]\n` : "";
-  return `${list}exists (${asked.map((it) => `${it}=0`).join(" /\\ ") || "true"})`;
+  return `${list}exists (${proposition})`;
+}
+
+/** Returns the load of a statement of a thread, as guessProposition has it; undefined if it is none. */
+function parseLoad(code, thread) {
+  const [, register, location] = /^(r\d)\s*:?=\s*(?!r\d)([A-Za-z_]\w*)/.exec(code) ?? [];
+  return register && { site: `${thread}:${register}`, location };
 }
 
 /**

@@ -693,8 +693,8 @@ ${SB}`],
  P0           | P1          ;
  MOV EAX,$1   | MOV EAX,[x] ;
  XCHG [x],EAX | MOV EBX,[x] ;
-locations [1:EAX]
-exists (1:EBX=0)
+locations [1:EAX; 1:EBX]
+exists (true)
 `],
   ["no question, in herd's form", `C SB
 {}
@@ -901,8 +901,8 @@ ${BLOCK} P0         | P1          ;
  MOV [x],$1 | MOV EAX,[y] ;
  MOV [y],$1 | MOV EBX,[x] ;
             | MOV ECX,[x] ;
-locations [1:EAX; 1:EBX]
-exists (1:ECX=0)
+locations [1:EAX; 1:EBX; 1:ECX]
+exists (true)
 `],
   ["independent reads of independent writes, with loops that wait (cppreference.com)", `#include <thread>
 #include <atomic>
@@ -1159,8 +1159,8 @@ void P1() { while (ready.load(std::memory_order_acquire) != 1) ; long long r = c
  MOV [on],$1             | MOV EDX,[seq]       ;
  MOV [ready],$1          | ADD EDX,$4294967295 ;
                          | MOV [seq],EDX       ;
-locations [1:EBX; seq]
-exists (1:EAX=1 /\\ 1:ECX=0)
+locations [seq]
+exists (1:EAX=1 /\\ ~1:EBX=0 /\\ 1:ECX=0)
 `],
   ["two questions", `${PROGRAM}/* lw: exists (x=1) */\n`, "`/* lw: exists (x=1) */`: a second comment says what is asked"],
   ["a function without an end", PROGRAM.split("}")[0], "`void P0(void) {`: its `}` is missing"],
