@@ -12,7 +12,7 @@ import { REGISTERS } from "./token_reader.js";
 const LONGEST = 4000;
 const MAX_THREADS = 4;
 // The row of the threads' names in a test. And what a test begins with.
-const TABLE = /^[ \t]*P0[ \t]*\|(?!\|)/m;
+const TABLE = /^[ \t]*P0[ \t]*\|(?!\|)[^;\n]*;/m;
 const FRONT = /^\s*(X86|SRC)\s+\S+\s*\{[^}|;]*\}/;
 const QUESTION = /^(?:locations\b|forall\b|(?:(?:[~!]|not\b)\s*)?exists\b)/i;
 // A line that asks in words, and one with initial values: the group is what is after its first word.
@@ -29,7 +29,7 @@ const BESIDE = /\t|\|\|?| {2,}/;
 /** Returns the statements of a part of a line; null if it has something else. */
 function parseStatements(code) {
   const all = code.split(";").map((it) => it.trim()).filter(Boolean);
-  return all.every((it) => FENCE.test(it) || ASSIGNMENT.test(it)) ? all.map((it) => (FENCE.test(it) ? "MFENCE" : it)) : null;
+  return all.every((it) => FENCE.test(it) || ASSIGNMENT.test(it)) ? all.map((it) => (FENCE.test(it) ? "MFENCE" : it.replace(":=", "="))) : null;
 }
 
 /** Returns the statements of the threads, which are below their names, and the number of the first one; null if lines are something else. */
