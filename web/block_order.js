@@ -56,7 +56,7 @@ function sortBlocks(next) {
     visited.add(at);
     const { jumped, continued } = next[at];
     const isInLoop = (it) => it !== undefined && isReachable(next, it, at);
-    // What is visited last is sorted first.
+    // The block that is visited last is sorted first.
     const isTurned = isInLoop(jumped) && !isInLoop(continued);
     for (const it of isTurned ? [continued, jumped] : [jumped, continued]) visit(it);
     sorted.unshift(at);

@@ -476,11 +476,13 @@ const SENTENCES = {
 
 /**
  * Returns the explanation of a text's fault, a `Hint`: `words`, a sentence in which code is between backquotes, or null if the fault is not known;
- * `more` words on what else can be done, the `document` on it and the `command` to call, if there are some; the proposed `change`, a text with the `begin` and the `end` of the part that it replaces, and a `title` if
- * the text says little, or null; `isOffer`, if the text is no test, and the change makes one of it; `also` another one, if two are likely; and where the text is to be changed (`at`), if that is not the place of the fault.
+ * `more` words on what else can be done, the `document` on it and the `command` to call, if there are some; the proposed `change`, a text with the
+ * `begin` and the `end` of the part that it replaces, and a `title` if the text says little, or null; `isOffer`, if the text is no test, and the change
+ * makes one of it; `also` another one, if two are likely; and where the text is to be changed (`at`), if that is not the place of the fault.
  * @param {Fault} fault
  * @param {string} text
- * @returns {{words: string | null, more?: string, document?: string, command?: string, change: {begin: number, end: number, text: string, title?: string} | null, also?: object, at?: object}}
+ * @returns {{words: string | null, more?: string, document?: string, command?: string, isOffer?: boolean, also?: object, at?: object,
+ *   change: {begin: number, end: number, text: string, title?: string} | null}}
  */
 export function explainFault(fault, text) {
   const { kind, name, index } = fault;

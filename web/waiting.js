@@ -17,8 +17,8 @@ const MAX_THREADS = 4;
 // The loops of a thread with more cells are not looked for.
 const MAX_CELLS = 64;
 const LABELS = /^(?:\w+\s*:(?!=)\s*)*/;
-// In each language: a load, with its register; a comparison that sets a flag; a sum that does; a jump, with what it compares, if it does, and its label; and patterns of what may
-// change a register, and of what does so whatever is in it, given its name.
+// In each language: a load, with its register; a comparison that sets a flag; a sum that does; a jump, with what it compares, if it does, and its label;
+// and patterns of what may change a register, and of what does so whatever is in it, given its name.
 const PATTERNS = {
   X86: {
     load: /^MOV\s+(?<register>E\w\w)\s*,\s*\[\s*\w+\s*\]$/i,
