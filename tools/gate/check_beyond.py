@@ -23,6 +23,7 @@ import pty
 import re
 import subprocess
 import sys
+import time
 from collections.abc import Callable, Iterator
 from typing import Any
 
@@ -43,8 +44,9 @@ from shared.matches import require_match
 # A test of bench/beyond/INDEX.md with more states than this is not listed here, since it takes too long.
 MAX_VISITED = 5_000_000
 LARGE_BUDGET = 100_000_000
-# A search that takes more than two seconds.
+# A search that takes some two seconds, and how many seconds it takes if it shows them for sure.
 LONG_SEARCH = "sb4own-x86"
+SECONDS_OF_LONG_SEARCH = 2.5
 # The maximal number of states that a search of an example within the limits may visit.
 EXAMPLE_BUDGET = 200_000
 # The maximal number of schedules of a list that are replayed.
@@ -242,8 +244,11 @@ def check_seconds() -> Iterator[Comparison]:
     printed, shown = run_on_terminal("examples/beyond/3.TryLock.litmus")
     yield "beyond on a terminal, a short search", "\r\x1b[Kbeyond: listed by a search of 65 states\r\n", shown
     yield "its report", run_tool([BEYOND, "states"], read("examples/beyond/3.TryLock.litmus"))[0], printed
+    begin = time.monotonic()
     printed, shown = run_on_terminal(f"bench/beyond/{LONG_SEARCH}.litmus")
-    yield "beyond on a terminal, a long search: its first line", True, shown.startswith("\rbeyond: searching, 2 s")
+    # A fast machine may need less than two seconds.
+    is_short = time.monotonic() - begin < SECONDS_OF_LONG_SEARCH
+    yield "beyond on a terminal, a long search: its first line", True, is_short or shown.startswith("\rbeyond: searching, 2 s")
     yield "and its last", True, re.search(r"\r\x1b\[Kbeyond: listed by a search of \d+ states\r\n$", shown) is not None
     yield "its report", True, printed.startswith("Test ") and printed.count("\n") > 100_000
 
