@@ -5,6 +5,7 @@ import { el, findById, makeButton, renderSentence } from "./dom.js";
 import { copy } from "./output.js";
 import { fold } from "./placing.js";
 import { documents, fetchTable, loadHints } from "./supplies.js";
+import { findTints, renderText } from "./tint.js";
 
 // The sentences of docs/FORMAT.md, by the kind and the number of a cause, as `cell 2`.
 let sentences = {};
@@ -37,24 +38,25 @@ export function explainRefusal(event, { number }) {
 }
 
 /**
- * Says why there is no answer: in the panel, or at the editor if its text has a fault.
+ * Says why there is no answer: in the panel, or at the editor if its text has a fault. Hides the answers to the text `before` if this is another text.
  * @param {{fault?: Fault, error?: string, refused?: object}} answer
  * @param {Element} panel
  * @param {Editor} editor
+ * @param {string} [before]
  */
-export function showError(answer, panel, editor) {
+export function showError(answer, panel, editor, before = editor.text) {
   const { fault } = answer;
   const notice = el("p", { class: "notice", role: "alert" });
   panel.append(notice);
-  if (isInText(fault)) showFault(fault, notice, editor);
+  if (isInText(fault)) showFault(fault, notice, editor, before);
   else notice.append(...(fault ? [...describeFault(fault), makeFaultLine(fault)] : describeError(answer)));
 }
 
 /**
- * Shows a fault of a text, once the hints are there: at the editor, or in the notice of a panel if there are two editors. Does nothing if the notice or
- * the text has been replaced meanwhile. If the hints do not come, it shows lw's sentence.
+ * Shows a fault of a text, once the hints are there: at the editor, or in the notice of a panel if there are two editors, or if a hint offers to make a
+ * test of the text. Does nothing if the notice or the text has been replaced meanwhile. If the hints do not come, it shows lw's sentence.
  */
-async function showFault(fault, notice, editor) {
+async function showFault(fault, notice, editor, before) {
   const { text } = editor;
   let hints = null;
   try {
@@ -66,15 +68,20 @@ async function showFault(fault, notice, editor) {
   const hint = hints?.explainFault(fault, text) ?? { words: null };
   const end = hints && !hint.at ? renderSentence(hints.explainMissingRowEnd(fault, text)) : [];
   const words = [...describeFault(fault, hint), ...end];
-  if (editor.isAlone) {
-    const { row } = showFaultInEditor(fault, words, hint, hints, editor);
-    const headline = hint.isOffer ? "This text is no test yet. The page can make one of it." : `No answer: line ${row} of the text has a fault.`;
-    // On a phone the text, with its fault, is far below.
-    const [reason, apply] = [describeFault(fault, hint), makeApplyButtons(hint, editor)];
-    notice.append(headline, el("div", { class: "reason" }, hint.isOffer ? [apply, el("p", {}, reason)] : [reason, " ", apply]));
-    notice.className = `no-answer${hint.isOffer ? " offer" : ""}`;
-    findById("answers").classList.toggle("offered", Boolean(hint.isOffer));
-  } else notice.append(...words, makeFaultLine(fault));
+  if (!editor.isAlone) return notice.append(...words, makeFaultLine(fault));
+  const { isOffer = false } = hint;
+  findById("answers").classList.toggle("unanswered", isOffer || Boolean(hints?.isOtherText(before, text)));
+  notice.className = `no-answer${isOffer ? " offer" : ""}`;
+  const [reason, apply] = [describeFault(fault, hint), makeApplyButtons(hint, editor)];
+  if (isOffer) {
+    const { begin, end, text: put } = hint.change;
+    const made = text.slice(0, begin) + put + text.slice(end);
+    const offer = [apply, el("p", {}, reason), makeReading(hint), el("pre", { title: "The test that the button makes" }, renderText(made, findTints(made)))];
+    return notice.append("This text is no test yet. The page can make one of it.", el("div", { class: "reason" }, offer));
+  }
+  const { row } = showFaultInEditor(fault, words, hint, hints, editor);
+  // On a phone the text, with its fault, is far below.
+  notice.append(`No answer: line ${row} of the text has a fault.`, el("div", { class: "reason" }, reason, " ", apply));
 }
 
 /** Returns whether a fault is one of the text of a test. */
@@ -128,20 +135,24 @@ function describeFault(fault, hint = { words: null }) {
  */
 function showFaultInEditor(fault, words, hint, hints, editor) {
   const marked = { ...fault, ...hint.at };
-  const { change, command, more } = hint;
   fold(false);
-  if (!hint.isOffer) editor.mark(marked);
-  const [file, title] = documents.find(([it]) => it === hint.document) ?? [];
-  const read = file && el("a", { href: file, target: "reading" }, title);
-  const copyIt = command && makeButton("Copy the command", () => copy(command, findById("said")), { class: "apply" });
+  editor.mark(marked);
   const goTo = makeButton("Go to it", () => editor.goTo(marked.index), { class: "go-to" });
-  const other = more && el("details", { class: "small", open: !change }, el("summary", {}, "With a compiler"), renderSentence(`${more} `), read, " ", copyIt);
   const further = el("div", { class: "further", role: "status" });
-  const buttons = [makeApplyButtons(hint, editor), other ? "" : copyIt, " ", hint.isOffer ? "" : goTo];
-  const line = hint.isOffer ? "" : makeFaultLine(fault);
-  findById("fault").replaceChildren(el("p", { class: "notice" }, words, " ", other ? "" : read, " ", buttons, other, line, further));
+  const apply = makeApplyButtons(hint, editor);
+  const parts = hint.more ? [" ", apply, " ", goTo, makeReading(hint)] : [" ", makeReading(hint), " ", apply, " ", goTo];
+  findById("fault").replaceChildren(el("p", { class: "notice" }, words, parts, makeFaultLine(fault), further));
   if (hints) showFurtherFaults({ fault, hint }, hints, further, editor);
   return marked;
+}
+
+/** Returns what a hint proposes to read and to do elsewhere: a document, and a command to copy; in a part to unfold if it has more words on that. */
+function makeReading({ document, command, more, change }) {
+  const [file, title] = documents.find(([it]) => it === document) ?? [];
+  const read = file && el("a", { href: file, target: "reading" }, title);
+  const copyIt = command && makeButton("Copy the command", () => copy(command, findById("said")), { class: "apply" });
+  if (!more) return [read, " ", copyIt].filter(Boolean);
+  return [el("details", { class: "small", open: !change }, el("summary", {}, "With a compiler"), renderSentence(`${more} `), read, " ", copyIt)];
 }
 
 /** Returns buttons that apply what a hint proposes. */
@@ -199,7 +210,7 @@ function applyChange(change, editor) {
  */
 export function clearFault(editor) {
   if (!editor.isAlone) return;
-  findById("answers").classList.remove("offered");
+  findById("answers").classList.remove("unanswered");
   findById("fault").replaceChildren();
   editor.mark(null);
 }

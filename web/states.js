@@ -112,7 +112,7 @@ export class States {
   /** Says why there is no list. If it would take too long, a search is offered, and single runs can be made by hand. */
   fail(answer, text, link, isSearched) {
     if (answer.fault) guess.settle(text);
-    showError(answer, this.list, this.editor);
+    showError(answer, this.list, this.editor, this.foundIn);
     if (answer.fault) this.verdict.replaceChildren();
     const search = () => this.ask(link, { search: true });
     if (isSearched || isTooLong(answer)) this.list.append(makeSearchOffer(search, this.editor.makeId("search-instead")));
