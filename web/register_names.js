@@ -1,6 +1,7 @@
 // The names that registers have in the program from which a test was made. The registers of a compiled program have the numbers of the source's. A test that
 // was made of a program in C has a comment with the variable of each register.
 
+import { el } from "./dom.js";
 import { REGISTERS } from "./token_reader.js";
 
 /**
@@ -26,4 +27,13 @@ const ENTRY = /(\d:E\w\w) is (\w+)/g;
  */
 export function listVariables(text) {
   return new Map([...(COMMENT.exec(text)?.[1] ?? "").matchAll(ENTRY)].map(([, register, name]) => [register, name]));
+}
+
+/**
+ * Returns the name that a register has in the program, as an element to follow its own; "" if there is none.
+ * @param {string | undefined} variable
+ * @returns {Element | string}
+ */
+export function makeVariable(variable) {
+  return variable ? el("span", { class: "in-source", title: "its name in the program" }, ` ${variable}`) : "";
 }

@@ -3,6 +3,7 @@
 
 import { el, makeButton } from "./dom.js";
 import { largeType } from "./preferences.js";
+import { makeVariable } from "./register_names.js";
 import { parseReportLine } from "./replays.js";
 import { saveReport } from "./reports.js";
 import { renderSite } from "./tint.js";
@@ -39,17 +40,18 @@ export class Rows {
 
   /** Returns the columns of a row, as a grid has them: the number, the names, the mark, and what is said at the end. */
   measureWidths() {
-    const { names } = this.strip;
+    const { names, variables } = this.strip;
     const measured = this.report.states.slice(0, MEASURED).map(({ line }) => parseReportLine(line).map(([, word]) => String(word).length));
-    const longest = names.map((name, index) => Math.max(name.length, ...measured.map((it) => it[index])));
+    const heads = names.map((it) => [it, variables.get(it)].filter(Boolean).join(" ").length);
+    const longest = heads.map((head, index) => Math.max(head, ...measured.map((it) => it[index])));
     return `5.5ch ${longest.map((it) => `${it + 2}ch`).join(" ")} ${this.report.is_marked ? "3ch" : ""} minmax(0, 1fr)`;
   }
 
   /** Returns the row of names above the list. */
   makeHeadRow() {
-    const { names, tints } = this.strip;
+    const { names, tints, variables } = this.strip;
     const mark = this.report.is_marked ? el("span", { title: "the condition holds there" }, "✓") : null;
-    const cells = [el("span", { class: "index" }, "#"), names.map((name) => el("span", {}, renderSite(name, tints))), mark];
+    const cells = [el("span", { class: "index" }, "#"), names.map((name) => el("span", {}, renderSite(name, tints), makeVariable(variables.get(name)))), mark];
     const head = el("div", { class: "row-head", "aria-hidden": "true" }, cells);
     head.style.gridTemplateColumns = this.columns;
     return head;

@@ -9,6 +9,7 @@ import { listFlights } from "./flights.js";
 import { MAX_SLOTS, hasLongStores, isStacked, listSizeClasses } from "./machine_size.js";
 import { fly, glow, isStill, measurePlaces, settle } from "./motion.js";
 import { caches } from "./preferences.js";
+import { makeVariable } from "./register_names.js";
 import { explainNotNext, explainNotOldest } from "./run_words.js";
 import { makeThreadClass, renderCode } from "./tint.js";
 
@@ -180,8 +181,7 @@ export class Stage {
       const isPut = word !== old.get(name) || (effect?.thread === thread && effect.register === name);
       const isInitial = !isPut && !this.shown.isWritten(thread, name);
       const attributes = { class: `register${isPut ? " changed" : ""}${isInitial ? " initial" : ""}`, "data-key": `r:${thread}:${name}` };
-      const source = this.shown.inSource?.(name, thread);
-      const inSource = source && el("span", { class: "in-source", title: "its name in the program" }, ` ${source}`);
+      const inSource = makeVariable(this.shown.inSource?.(name, thread));
       const initial = isInitial && el("span", { class: "at-first", title: "its initial value: no instruction has written it yet" }, " initial");
       return el("li", attributes, el("span", { class: "name" }, name), inSource, " ", makeValue(word), initial, makeHiddenWords(isPut && "put"));
     });

@@ -4,7 +4,7 @@
 import { makeStateKey } from "./differences.js";
 import { el, makeButton } from "./dom.js";
 import { largeType } from "./preferences.js";
-import { listVariables } from "./register_names.js";
+import { listVariables, makeVariable } from "./register_names.js";
 import { parseReportLine } from "./replays.js";
 import { listNames } from "./reports.js";
 import { Rows } from "./rows.js";
@@ -54,7 +54,8 @@ export class Strip {
 
   /** Shows a report; `missing` is a state that is not in it, or null. */
   show(report, tints, missing) {
-    Object.assign(this, { report, tints, names: listNames(report), missing, rows: null });
+    const variables = listVariables(this.editor.text);
+    Object.assign(this, { report, tints, names: listNames(report), variables, missing, rows: null });
     this.measured.observe(this.wide ?? this.place.parentElement ?? this.place);
     this.draw();
   }
@@ -125,9 +126,10 @@ export class Strip {
   /** Returns how wide the list is as columns, and as rows. */
   measureWidths() {
     const { length } = this.report.states;
-    const names = Math.max(TITLES, ...this.names.map((it) => it.length * LETTER)) + 1;
+    const lengths = this.names.map((it) => it.length + (this.variables.has(it) ? this.variables.get(it).length + 1 : 0));
+    const names = Math.max(TITLES, ...lengths.map((it) => it * LETTER)) + 1;
     const columns = names + length * (this.isNarrow(length) ? NARROW_COLUMN : WIDE_COLUMN) + (this.ghost ? NEVER_COLUMN : 0);
-    const rows = AROUND_ROWS + this.names.reduce((sum, it) => sum + it.length + 2, 0) * LETTER;
+    const rows = AROUND_ROWS + lengths.reduce((sum, it) => sum + it + 2, 0) * LETTER;
     return { columns, rows };
   }
 
@@ -259,9 +261,7 @@ export class Strip {
     const formatWord = (line) => String(parseReportLine(line)[at][1]);
     const cells = this.makeCells((state) => (this.isShown(state) ? formatWord(state.line) : "·"));
     const ofGhost = ghost ? el("td", { class: this.kindOfGhost }, formatWord(ghost)) : null;
-    const variable = listVariables(this.editor.text).get(name);
-    const title = variable && `the variable ${variable} of the program in C`;
-    return el("tr", {}, el("th", { scope: "row", title }, renderSite(name, this.tints)), cells, ofGhost);
+    return el("tr", {}, el("th", { scope: "row" }, renderSite(name, this.tints), makeVariable(this.variables.get(name))), cells, ofGhost);
   }
 
   /** Returns the row that says in which states the condition holds. */

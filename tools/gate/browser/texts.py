@@ -14,6 +14,8 @@ MENDED = (
     "X86 A\n{}\n P0         | P1          ;\n MOV [x],$1 | MOV EAX,[y] ;\n MFENCE     | MFENCE      ;\n MOV [y],$1 | MOV EBX,[x] ;\n"
     "exists (1:EAX=1 /\\ 1:EBX=0)\n"
 )
+# Where the page offers to make a test of a text that is none.
+OFFER = "#outcome .offer"
 OWN = "SRC Own\n{}\n P0 | P1 ;\n x := 1 | r0 := x ;\nexists (1:r0=1)\n"
 
 
@@ -381,15 +383,15 @@ class Faults(PageCase):
         user = self.user
         user.open_listed()
         user.run_text("movl $1,x(%rip)\nmovl y(%rip),%eax\nret\n\nmovl $1,y(%rip)\nmovl x(%rip),%eax\nret\n")
-        self.assertSays("A blank line begins the next thread. The question is a guess: change it to yours. This is AT&T's order", "#fault")
-        self.assertEqual("Make P0 and P1 of them", user.text("#fault .apply"))
-        user.click("#fault .apply")
+        self.assertSays("A blank line begins the next thread. The question is a guess: change it to yours. This is AT&T's order", OFFER)
+        self.assertEqual("Make P0 and P1 of them", user.text(f"{OFFER} .apply"))
+        user.click(f"{OFFER} .apply")
         rows = " P0          | P1          ;\n MOV [x],$1  | MOV [y],$1  ;\n MOV EAX,[y] | MOV EAX,[x] ;\n"
         self.assertSoon(f"X86 Mine\n{{}}\n{rows}exists (0:EAX=0 /\\ 1:EAX=0)\n", user.value)
         self.assertSays("Allowed.", "#outcome .verdict")
         user.run_text("mov [x],1\nmov [y],1\n")
-        self.assertSays("The question true holds always: look at the list of states.", "#fault")
-        user.click("#fault .apply")
+        self.assertSays("The question true holds always: look at the list of states.", OFFER)
+        user.click(f"{OFFER} .apply")
         self.assertSoon("X86 Mine\n{}\n P0 ;\n mov [x],1 ;\n mov [y],1 ;\nlocations [x; y;]\nexists (true)\n", user.value)
         self.assertSays("No question. The list has all states in which a run ends.", "#outcome .verdict")
 
@@ -398,8 +400,8 @@ class Faults(PageCase):
         user = self.user
         user.open_listed()
         user.run_text("P0:\n mov [x], 1\n\n mov eax, [y]\nP1:\n mov [y], 1\n mov eax, [x]\nexists (0:eax=0 && 1:eax=0)\n")
-        self.assertSays("These are instructions without a test around them. In a question, and is /\\, or is \\/, not is ~.", "#fault")
-        user.click("#fault .apply")
+        self.assertSays("These are instructions without a test around them. In a question, and is /\\, or is \\/, not is ~.", OFFER)
+        user.click(f"{OFFER} .apply")
         rows = " P0           | P1           ;\n mov [x], 1   | mov [y], 1   ;\n mov eax, [y] | mov eax, [x] ;\n"
         self.assertSoon(f"X86 Mine\n{{}}\n{rows}exists (0:eax=0 /\\ 1:eax=0)\n", user.value)
         self.assertSays("Allowed.", "#outcome .verdict")
@@ -407,14 +409,14 @@ class Faults(PageCase):
         rows = " P0          | P1          ;\n MOV [x],$1  | MOV [y],$1  ;\n MOV EAX,[y] | MOV EAX,[x] ;\n"
         for first, other in (("first", "second()"), ("P0():", "P1():"), ("put(int)", "A::take(std::atomic<int>&)")):
             user.run_text("\t.text\n" + code(first.rstrip(":"), "x", "y") + code(other.rstrip(":"), "y", "x") + "y:\n\t.zero\t4\n")
-            self.assertEqual("Make P0 and P1 of them", user.text("#fault .apply"))
-            user.click("#fault .apply")
+            self.assertEqual("Make P0 and P1 of them", user.text(f"{OFFER} .apply"))
+            user.click(f"{OFFER} .apply")
             self.assertSoon(f"X86 Mine\n{{}}\n{rows}exists (0:EAX=0 /\\ 1:EAX=0)\n", user.value)
             self.assertSays("Allowed.", "#outcome .verdict")
         user.run_text("P0():\n push rbp\n mov rbp, rsp\n mov DWORD PTR x[rip], 1\n pop rbp\n ret\n")
         self.assertSays("These are instructions of a compiler without optimization, which keep variables on the stack: compile with -O2.", "#fault")
         user.run_text("P0():    # @P0()\n mov dword ptr [rip + x], 1\n ret\n")
-        self.assertEqual("Make it P0 of a test", user.text("#fault .apply"))
+        self.assertEqual("Make it P0 of a test", user.text(f"{OFFER} .apply"))
 
     def test_c_rows(self) -> None:
         """Rows in C become instructions by a button; of calls and of threads in C the page says what compiles them, with the command to copy."""
@@ -448,11 +450,11 @@ class Faults(PageCase):
         rows = " P0           | P1           ;\n MOV EBX,$1   | MOV EBX,$1   ;\n XCHG [x],EBX | XCHG [y],EBX ;\n MOV EAX,[y]  | MOV EAX,[x]  ;\n"
         made = f"X86 Mine\n(* 0:EAX is r0, 1:EAX is r0 *)\n{{ x=0; y=0; }}\n{rows}exists (0:EAX=0 /\\ 1:EAX=0)\n"
         user.run_text(program)
-        self.assertSays("The button makes an x86 test of it: each access as gcc and clang compile it, in the order of the program.", "#fault")
-        self.assertEqual(["Rewrite it as an x86 test"], user.texts("#fault .apply"))
-        user.click("#fault details > summary")
-        self.assertEqual(["Rewrite it as an x86 test", "Copy the command"], user.texts("#fault .apply"))
-        user.click("#fault .apply")
+        self.assertSays("The button makes an x86 test of it: each access as gcc and clang compile it, in the order of the program.", OFFER)
+        self.assertEqual(["Rewrite it as an x86 test"], user.texts(f"{OFFER} .apply"))
+        user.click(f"{OFFER} details > summary")
+        self.assertEqual(["Rewrite it as an x86 test", "Copy the command"], user.texts(f"{OFFER} .apply"))
+        user.click(f"{OFFER} .apply")
         self.assertSoon(made, user.value)
         self.assertSays("Forbidden.", "#outcome .verdict")
         self.assertSays("Rewritten. Undo", "#said")
@@ -460,12 +462,12 @@ class Faults(PageCase):
         self.assertSoon(program, user.value)
         herd = "C SB\n{}\nP0 (volatile int* x, volatile int* y) { *x = 1; int r0 = *y; }\nP1 (volatile int* x, volatile int* y) { *y = 1; int r0 = *x; }\n"
         user.run_text(f"{herd}exists (0:r0=0 /\\ 1:r0=0)\n")
-        user.click("#fault .apply")
+        user.click(f"{OFFER} .apply")
         self.assertSoon("X86 SB", lambda: user.value()[:6])
         self.assertSays("Allowed.", "#outcome .verdict")
         user.run_text(program.replace("int r0 = x", "int r0 = 1; if (x) r0 = y").split("//", maxsplit=1)[0])
-        self.assertSays("The question is a guess: change it to yours.", "#fault")
-        user.click("#fault .apply")
+        self.assertSays("The question is a guess: change it to yours.", OFFER)
+        user.click(f"{OFFER} .apply")
         self.assertSoon("exists (0:EAX=0 /\\ ~1:EBX=0 /\\ 1:EAX=0)", lambda: user.value().splitlines()[-1])
         user.run_text(program.replace("int r0 = x", "goto L;int r0 = x"))
         why = "goto and labels are not rewritten."
@@ -480,13 +482,30 @@ class Faults(PageCase):
         for text in (program, "mov [x],1\nmov eax,[y]\n\nmov [y],1\nmov eax,[x]\n"):
             user.run_text(text)
             self.assertSays("This text is no test yet. The page can make one of it.", "#outcome .no-answer")
-            self.assertEqual([[], [], []], [user.all(it) for it in ("#watching .machine", "#graph-place", "#fault .fault-line")])
-            user.click("#outcome .apply")
+            self.assertEqual([[], [], []], [user.all(it) for it in ("#watching .machine", "#graph-place", "#fault p")])
+            made = user.text(f"{OFFER} pre")
+            user.click(f"{OFFER} .apply")
+            self.assertSoon(made.split(), lambda: user.value().split())
             self.assertSoon("X86 Mine", lambda: user.value()[:8])
             user.find("#watching .machine")
             self.assertEqual([], user.all("#outcome .no-answer"))
         user.run_text("No test.\n")
         self.assertSays("No answer: line 1 of the text has a fault.", "#outcome .no-answer")
+        self.assertEqual([[], []], [user.all(it) for it in ("#watching .machine", ".states-place")])
+
+    def test_edit(self) -> None:
+        """While a test is edited the answer to the text before stays; it is gone after another text."""
+        user = self.user
+        user.open_listed(f"#text={quote(MENDED)}")
+        user.run_text(MENDED.replace("MOV EBX", "MVO EBX"))
+        self.assertSays("No answer: line 6 of the text has a fault.", "#outcome .no-answer")
+        self.assertEqual(1, len(user.all("#watching .machine")))
+        user.run_text(FIVE.replace("x := 1", "x = 1"))
+        self.assertSays("No answer: line 4 of the text has a fault.", "#outcome .no-answer")
+        self.assertEqual([[], []], [user.all(it) for it in ("#watching .machine", ".states-place")])
+        user.run_text(MENDED)
+        self.assertSays("Forbidden.", "#outcome .verdict")
+        self.assertEqual(1, len(user.all("#watching .machine")))
 
     def test_fault_on_a_phone(self) -> None:
         """On a phone the sentence on a fault and its button are below the headline, too."""
@@ -504,7 +523,9 @@ class Faults(PageCase):
         rows = " P0          | P1          ;\n MOV [x],$1  | MOV [y],$1  ;\n MOV EAX,[y] | MOV EAX,[x] ;\n"
         user.open_listed(f"#text={quote('X86 SB' + chr(10) + '(* 0:EAX is r0, 1:EAX is ready *)' + chr(10) + '{}' + chr(10) + rows + 'exists (0:EAX=0)' + chr(10))}")
         self.assertSoon(["r0", "ready"], lambda: user.texts("#watching .in-source"))
-        self.assertEqual("the variable r0 of the program in C", user.find("table.strip th[title]").get_attribute("title"))
+        self.assertEqual(["0:EAX r0"], user.texts("table.strip tbody th:has(.in-source)"))
+        user.run_text("X86 Wide\n(* 0:EAX is r0 *)\n{}\n P0 ;\n MOV EAX,[x] ;\nlocations [a; b; c; d; e;]\nexists (0:EAX=0)\n")
+        self.assertSoon(True, lambda: "0:EAX r0" in user.texts(".row-head > span"))
 
     def test_sums(self) -> None:
         """In place of a statement with a sum that the format lacks a button puts those that it has; of a register past r5 it puts one that is free."""
