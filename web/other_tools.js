@@ -72,8 +72,12 @@ function explainProgram(words, text, place) {
   return { words: `${words} ${OF_BUTTON}${explainMade(test)}`, ...hint };
 }
 
-/** Returns sentences on what a test has in place of parts of its program, and on its question. */
-function explainMade({ made, isGuess, races, isWaiting, isLocking, isWide, isRepeated }) {
+/**
+ * Returns sentences on what a test has in place of parts of its program, and on its question.
+ * @param {object} test
+ * @returns {string}
+ */
+export function explainMade({ made, isGuess, races, isWaiting, isLocking, isWide, isRepeated }) {
   const parts = [[isWaiting, OF_WAITING], [isLocking, OF_LOCKING], [isWide, OF_WIDE], [isRepeated, OF_REPEATED]];
   const question = made.endsWith("(true)\n") ? NOT_ASKED : isGuess ? OF_GUESS : "";
   return `${explainRaces(races)}${parts.map(([isSo, sentence]) => (isSo ? sentence : "")).join("")}${question}`;

@@ -72,6 +72,15 @@ function findOwnNames(codes, block) {
   });
 }
 
+/** Returns whether a thread has the name of a register that it does not set, and that another thread sets: it is that of a location then. */
+function hasSharedRegister(codes) {
+  const isSet = (name, code) => code.some((it) => ASSIGNMENT.exec(it)?.[1] === name);
+  return codes.some((code, thread) => code.some((it) => {
+    const from = ASSIGNMENT.exec(it)?.[2];
+    return REGISTERS.SRC.includes(from) && !isSet(from, code) && codes.some((other, at) => at !== thread && isSet(from, other));
+  }));
+}
+
 /** Returns what is read of a text: the code of the threads, with registers for their own names, and a table of it with a question. */
 function readPseudoCode(text) {
   const [front = "", language = ""] = FRONT.exec(text) ?? [];
@@ -82,7 +91,8 @@ function readPseudoCode(text) {
   const [, initial] = INITIAL.exec(rows[0] ?? "") ?? [];
   const read = readBelow(initial === undefined ? rows : rows.slice(1)) ?? readBeside(initial === undefined ? rows : rows.slice(1));
   const block = front ? "" : initial?.trim() ? makeBlock(initial.replace(/\.$/, "")) : "{}";
-  if (!read || block === null || read.codes.length > MAX_THREADS) return null;
+  if (!read || block === null || read.codes.length > MAX_THREADS || hasSharedRegister(read.codes)) return null;
+  if (end >= 0 && !question && lines.slice(end + 1).some(parseStatements)) return null;
   const own = findOwnNames(read.codes, front || block);
   const rename = (code, thread) => code.replace(/[A-Za-z_]\w*/g, (it) => own[thread].get(it) ?? it);
   const codes = read.codes.map((code, thread) => code.map((it) => rename(it, thread)));

@@ -18,6 +18,7 @@ import { isDeepStrictEqual, parseArgs } from "node:util";
 import { MessageChannel, Worker, receiveMessageOnPort } from "node:worker_threads";
 import { compareAssemblyTexts } from "./assembly_texts.mjs";
 import { compareCPrograms } from "./c_programs.mjs";
+import { comparePseudoTexts } from "./pseudo_texts.mjs";
 
 const HOME = path.dirname(path.dirname(path.dirname(fileURLToPath(import.meta.url))));
 const PROGRAM = `${HOME}/crates/lw/out/lw`;
@@ -1169,6 +1170,7 @@ async function main() {
   compareSourceHints(page, program, tally);
   await compareCPrograms((...compared) => tally.compare(...compared));
   await compareAssemblyTexts((...compared) => tally.compare(...compared));
+  await comparePseudoTexts((...compared) => tally.compare(...compared));
   await compareFurtherFaults(page, program, tally, texts);
   if (!chosen.length) compareFinding(page, tally, familiesOfPage());
   if (!chosen.length) compareTyped(page, program, tally);

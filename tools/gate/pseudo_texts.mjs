@@ -1,0 +1,172 @@
+// Compares what the page makes of pseudo code with what is typed in here: its words, and the test that its button puts into the text.
+//
+//     node tools/gate/pseudo_texts.mjs      compares; the last line is 'N passed, M failed'
+//
+// tools/gate/check_site.mjs compares this too. It needs neither a browser nor the module.
+
+import { fileURLToPath } from "node:url";
+import { isDeepStrictEqual } from "node:util";
+import { loadModules } from "./c_programs.mjs";
+
+const PARTS = ["faults", "other_tools"];
+const ACCESSES = "This is pseudo code: each access of a name that threads share is one load or one store.";
+const ATOMICS = " Those of atomic variables are as gcc and clang compile them.";
+const LOST = " A critical section is an addition to `critical` here: the question is whether one is lost, since two threads are in theirs at once.";
+const STAYING = " The question is whether all are in the critical section at once.";
+const WAITING = " A loop that waits is one pass here: states in which it has not ended are in the list, too, and the question leaves them out.";
+const GUESS = " The question is a guess: change it to yours.";
+const UNREAD = " is not expected here. A test is `SRC` or `X86` and a name,";
+
+// A text, the words on it, and the test that is made of it, or null.
+const TEXTS = [
+  ["two columns below comments with names, with a question before them", "Message passing\nCan this program see r1 = 1, r2 = 0?\n\n// Thread 1           // Thread 2\nx = 1                 r1 = y\ny = 1                 r2 = x\nOn x86: no.\nOn ARM: yes!\n",
+    ACCESSES,
+    "X86 Mine\n(* 1:EAX is r1, 1:EBX is r2 *)\n{ x=0; y=0; }\n P0         | P1          ;\n MOV [x],$1 | MOV EAX,[y] ;\n MOV [y],$1 | MOV EBX,[x] ;\nexists (1:EAX=1 /\\ 1:EBX=0)\n"],
+  ["four columns", "Four threads\nCan this program see r1 = 1, r2 = 0, r3 = 1, r4 = 0?\n(Do both see the same order?)\n\n// Thread 1    // Thread 2    // Thread 3    // Thread 4\nx = 1          y = 1          r1 = x         r3 = y\n                              r2 = y         r4 = x\n",
+    ACCESSES,
+    "X86 Mine\n(* 2:EAX is r1, 2:EBX is r2, 3:EAX is r3, 3:EBX is r4 *)\n{ x=0; y=0; }\n P0         | P1         | P2          | P3          ;\n MOV [x],$1 | MOV [y],$1 | MOV EAX,[x] | MOV EAX,[y] ;\n            |            | MOV EBX,[y] | MOV EBX,[x] ;\nexists (2:EAX=1 /\\ 2:EBX=0 /\\ 3:EAX=1 /\\ 3:EBX=0)\n"],
+  ["a question of a location", "A test\nCan this program end with r1 = 1, r2 = 0, x = 1?\n\n// Thread 1    // Thread 2\nx = 1          y = 1\nr1 = x         x = 2\nr2 = y\n",
+    ACCESSES,
+    "X86 Mine\n(* 0:EAX is r1, 0:EBX is r2 *)\n{ x=0; y=0; }\n P0          | P1         ;\n MOV [x],$1  | MOV [y],$1 ;\n MOV EAX,[x] | MOV [x],$2 ;\n MOV EBX,[y] |            ;\nexists (0:EAX=1 /\\ 0:EBX=0 /\\ x=1)\n"],
+  ["a loop in braces, and what is printed", "// Thread 1           // Thread 2\nx = 1;                while(done == 0) { /* loop */ }\ndone = 1;             print(x);\n",
+    `${ACCESSES}${WAITING}${GUESS}`,
+    "X86 Mine\n(* 1:EAX is done after its loop, 1:EBX is printed1 *)\n{ x=0; done=0; }\n P0            | P1             ;\n MOV [x],$1    | MOV EAX,[done] ;\n MOV [done],$1 | MOV EBX,[x]    ;\nexists (~1:EAX=0 /\\ 1:EBX=0)\n"],
+  ["the algorithm of Peterson with indentation", "P0:\n  flag[0] = true\n  turn = 1\n  while flag[1] and turn == 1:\n      pass\n  # critical section\n  flag[0] = false\n\nP1:\n  flag[1] = true\n  turn = 0\n  while flag[0] and turn == 0:\n      pass\n  # critical section\n  flag[1] = false\n",
+    `${ACCESSES}${LOST}${WAITING}`,
+    "X86 Mine\n(* 0:EAX is flag_1 after its loop, 0:EBX is turn after its loop, 1:EAX is flag_0 after its loop, 1:EBX is turn after its loop *)\n{ flag_0=0; flag_1=0; turn=0; critical=0; }\n P0                     | P1                     ;\n MOV [flag_0],$1        | MOV [flag_1],$1        ;\n MOV [turn],$1          | MOV [turn],$0          ;\n MOV EAX,[flag_1]       | MOV EAX,[flag_0]       ;\n CMP EAX,$0             | CMP EAX,$0             ;\n JE L1                  | JE L1                  ;\n MOV EBX,[turn]         | MOV EBX,[turn]         ;\n L1: MOV ECX,[critical] | L1: MOV ECX,[critical] ;\n ADD ECX,$1             | ADD ECX,$1             ;\n MOV [critical],ECX     | MOV [critical],ECX     ;\n MOV [flag_0],$0        | MOV [flag_1],$0        ;\nlocations [turn]\nexists ((0:EAX=0 \\/ ~0:EBX=1) /\\ (1:EAX=0 \\/ ~1:EBX=0) /\\ critical=1)\n"],
+  ["the same in braces", "bool flag[2] = {false, false};\nint turn;\nP0:      flag[0] = true;\nP0_gate: turn = 1;\n         while (flag[1] && turn == 1)\n         {\n             // busy wait\n         }\n         // critical section\n         ...\n         // end of critical section\n         flag[0] = false;\nP1:      flag[1] = true;\nP1_gate: turn = 0;\n         while (flag[0] && turn == 0)\n         {\n             // busy wait\n         }\n         // critical section\n         ...\n         // end of critical section\n         flag[1] = false;\n",
+    `${ACCESSES}${LOST}${WAITING}`,
+    "X86 Mine\n(* 0:EAX is flag_1 after its loop, 0:EBX is turn after its loop, 1:EAX is flag_0 after its loop, 1:EBX is turn after its loop *)\n{ flag_0=0; flag_1=0; turn=0; critical=0; }\n P0                     | P1                     ;\n MOV [flag_0],$1        | MOV [flag_1],$1        ;\n MOV [turn],$1          | MOV [turn],$0          ;\n MOV EAX,[flag_1]       | MOV EAX,[flag_0]       ;\n CMP EAX,$0             | CMP EAX,$0             ;\n JE L1                  | JE L1                  ;\n MOV EBX,[turn]         | MOV EBX,[turn]         ;\n L1: MOV ECX,[critical] | L1: MOV ECX,[critical] ;\n ADD ECX,$1             | ADD ECX,$1             ;\n MOV [critical],ECX     | MOV [critical],ECX     ;\n MOV [flag_0],$0        | MOV [flag_1],$0        ;\nlocations [turn]\nexists ((0:EAX=0 \\/ ~0:EBX=1) /\\ (1:EAX=0 \\/ ~1:EBX=0) /\\ critical=1)\n"],
+  ["columns without names, and a critical section to the end", "x = 1          y = 1\nif y == 0      if x == 0\n  critical       critical\n",
+    `${ACCESSES}${STAYING}`,
+    "X86 Mine\n(* 0:EAX is inside0, 1:EAX is inside1 *)\n{ x=0; y=0; }\n P0          | P1          ;\n MOV [x],$1  | MOV [y],$1  ;\n MOV EBX,[y] | MOV EBX,[x] ;\n CMP EBX,$0  | CMP EBX,$0  ;\n JNE END     | JNE END     ;\n MOV EAX,$1  | MOV EAX,$1  ;\n END:        | END:        ;\nexists (0:EAX=1 /\\ 1:EAX=1)\n"],
+  ["initial words and then", "Initially x = y = 0\n\nThread 1            Thread 2\nx := 1              y := 1\nif y = 0 then       if x = 0 then\n  critical section    critical section\n",
+    `${ACCESSES}${STAYING}`,
+    "X86 Mine\n(* 0:EAX is inside0, 1:EAX is inside1 *)\n{ x=0; y=0; }\n P0          | P1          ;\n MOV [x],$1  | MOV [y],$1  ;\n MOV EBX,[y] | MOV EBX,[x] ;\n CMP EBX,$0  | CMP EBX,$0  ;\n JNE END     | JNE END     ;\n MOV EAX,$1  | MOV EAX,$1  ;\n END:        | END:        ;\nexists (0:EAX=1 /\\ 1:EAX=1)\n"],
+  ["a critical section that is left", "P0:\n  x = 1\n  if y == 0:\n    critical section\n    x = 0\nP1:\n  y = 1\n  if x == 0:\n    critical section\n    y = 0\n",
+    `${ACCESSES}${LOST}`,
+    "X86 Mine\n(* 0:EAX is inside0, 1:EAX is inside1 *)\n{ x=0; y=0; critical=0; }\n P0                 | P1                 ;\n MOV [x],$1         | MOV [y],$1         ;\n MOV EBX,[y]        | MOV EBX,[x]        ;\n CMP EBX,$0         | CMP EBX,$0         ;\n JNE END            | JNE END            ;\n MOV EAX,$1         | MOV EAX,$1         ;\n MOV EBX,[critical] | MOV EBX,[critical] ;\n ADD EBX,$1         | ADD EBX,$1         ;\n MOV [critical],EBX | MOV [critical],EBX ;\n MOV [x],$0         | MOV [y],$0         ;\n END:               | END:               ;\nexists (0:EAX=1 /\\ 1:EAX=1 /\\ critical=1)\n"],
+  ["comments that are critical sections", "Thread 1:\n  x = 1;\n  if (y == 0) {\n    // critical section\n  }\nThread 2:\n  y = 1;\n  if (x == 0)\n    critical_section();\n",
+    `${ACCESSES}${STAYING}`,
+    "X86 Mine\n(* 0:EAX is inside0, 1:EAX is inside1 *)\n{ x=0; y=0; }\n P0          | P1          ;\n MOV [x],$1  | MOV [y],$1  ;\n MOV EBX,[y] | MOV EBX,[x] ;\n CMP EBX,$0  | CMP EBX,$0  ;\n JNE END     | JNE END     ;\n MOV EAX,$1  | MOV EAX,$1  ;\n END:        | END:        ;\nexists (0:EAX=1 /\\ 1:EAX=1)\n"],
+  ["a loop that does nothing", "Process P0\n  wantp := true\n  while wantq\n    skip\n  critical section\n  wantp := false\n\nProcess P1\n  wantq := true\n  while wantp\n    skip\n  critical section\n  wantq := false\n",
+    `${ACCESSES}${LOST}${WAITING}`,
+    "X86 Mine\n(* 0:EAX is wantq after its loop, 1:EAX is wantp after its loop *)\n{ wantp=0; wantq=0; critical=0; }\n P0                 | P1                 ;\n MOV [wantp],$1     | MOV [wantq],$1     ;\n MOV EAX,[wantq]    | MOV EAX,[wantp]    ;\n MOV EBX,[critical] | MOV EBX,[critical] ;\n ADD EBX,$1         | ADD EBX,$1         ;\n MOV [critical],EBX | MOV [critical],EBX ;\n MOV [wantp],$0     | MOV [wantq],$0     ;\nexists (0:EAX=0 /\\ 1:EAX=0 /\\ critical=1)\n"],
+  ["columns of letters, with labels, arrows and declarations", "boolean wantp <- false, wantq <- false\np                              q\np1: wantp <- true              q1: wantq <- true\np2: await wantq = false        q2: await wantp = false\np3: critical section           q3: critical section\np4: wantp <- false             q4: wantq <- false\n",
+    `${ACCESSES}${LOST}${WAITING}`,
+    "X86 Mine\n(* 0:EAX is wantq after its loop, 1:EAX is wantp after its loop *)\n{ wantp=0; wantq=0; critical=0; }\n P0                 | P1                 ;\n MOV [wantp],$1     | MOV [wantq],$1     ;\n MOV EAX,[wantq]    | MOV EAX,[wantp]    ;\n MOV EBX,[critical] | MOV EBX,[critical] ;\n ADD EBX,$1         | ADD EBX,$1         ;\n MOV [critical],EBX | MOV [critical],EBX ;\n MOV [wantp],$0     | MOV [wantq],$0     ;\nexists (0:EAX=0 /\\ 1:EAX=0 /\\ critical=1)\n"],
+  ["threads in braces with bars, and an assertion of them", "int x = 0, y = 0;\n{{{\n  x = 1;\n  r1 = y;\n|||\n  y = 1;\n  r2 = x;\n}}}\nassert(r1 == 1 || r2 == 1);\n",
+    ACCESSES,
+    "X86 Mine\n(* 0:EAX is r1, 1:EAX is r2 *)\n{ x=0; y=0; }\n P0          | P1          ;\n MOV [x],$1  | MOV [y],$1  ;\n MOV EAX,[y] | MOV EAX,[x] ;\nforall ((0:EAX = 1 \\/ 1:EAX = 1))\n"],
+  ["an assertion of a thread", "Thread 1:\n x = 1\n y = 1\nThread 2:\n a = y\n b = x\n assert(!(a == 1 && b == 0))\n",
+    ACCESSES,
+    "X86 Mine\n(* 1:EAX is a, 1:EBX is b *)\n{ x=0; y=0; }\n P0         | P1          ;\n MOV [x],$1 | MOV EAX,[y] ;\n MOV [y],$1 | MOV EBX,[x] ;\n~exists (1:EAX=1 /\\ 1:EBX=0)\n"],
+  ["instructions in columns", "Processor 1              Processor 2\nmov [_X], 1              mov [_Y], 1\nmov r1, [_Y]             mov r2, [_X]\n",
+    `${ACCESSES}${GUESS}`,
+    "X86 Mine\n(* 0:EAX is r1, 1:EAX is r2 *)\n{ X=0; Y=0; }\n P0          | P1          ;\n MOV [X],$1  | MOV [Y],$1  ;\n MOV EAX,[Y] | MOV EAX,[X] ;\nexists (0:EAX=0 /\\ 1:EAX=0)\n"],
+  ["instructions with an allowed state", "Example 1. A load after a store\nProcessor 0            Processor 1\nmov [ _x], 1           mov [ _y], 1\nmov r1, [ _y]          mov r2, [ _x]\nInitially x = y = 0\nr1 = 0 and r2 = 0 is allowed\n",
+    ACCESSES,
+    "X86 Mine\n(* 0:EAX is r1, 1:EAX is r2 *)\n{ x=0; y=0; }\n P0          | P1          ;\n MOV [x],$1  | MOV [y],$1  ;\n MOV EAX,[y] | MOV EAX,[x] ;\nexists (0:EAX=0 /\\ 1:EAX=0)\n"],
+  ["instructions with arrows", "Proc 0          Proc 1\nMOV [x]<-1      MOV [y]<-1\nMOV EAX<-[y]    MOV EBX<-[x]\nAllowed Final State: Proc 0:EAX=0 /\\ Proc 1:EBX=0\n",
+    ACCESSES,
+    "X86 Mine\n(* 0:EAX is EAX, 1:EAX is EBX *)\n{ x=0; y=0; }\n P0          | P1          ;\n MOV [x],$1  | MOV [y],$1  ;\n MOV EAX,[y] | MOV EAX,[x] ;\nexists (0:EAX=0 /\\ 1:EAX=0)\n"],
+  ["the kernel's columns, with initial words below the names", "\tCPU 1\t\t\tCPU 2\n\t===============\t\t===============\n\t{ A == 1; B == 2 }\n\tA = 3;\t\t\tx = B;\n\tB = 4;\t\t\ty = A;\n",
+    `${ACCESSES}${GUESS}`,
+    "X86 Mine\n(* 1:EAX is x, 1:EBX is y *)\n{ A=1; B=2; }\n P0         | P1          ;\n MOV [A],$3 | MOV EAX,[B] ;\n MOV [B],$4 | MOV EBX,[A] ;\nexists (~1:EAX=0 /\\ 1:EBX=0)\n"],
+  ["macros and barriers of the kernel", "\tCPU 1\t\t      CPU 2\n\t===============\t      ===============\n\tWRITE_ONCE(a, 1);\n\t<write barrier>\n\tWRITE_ONCE(b, 1);     x = READ_ONCE(b);\n\t                      <read barrier>\n\t                      y = READ_ONCE(a);\n",
+    `${ACCESSES}${GUESS}`,
+    "X86 Mine\n(* 1:EAX is x, 1:EBX is y *)\n{ a=0; b=0; }\n P0         | P1          ;\n MOV [a],$1 | MOV EAX,[b] ;\n MOV [b],$1 | MOV EBX,[a] ;\nexists (~1:EAX=0 /\\ 1:EBX=0)\n"],
+  ["a column of comments, and constants by names", "Core C1               Core C2                Comments\nS1: x = NEW;          S2: y = NEW;           /* Initially, x = 0 & y = 0*/\nL1: r1 = y;           L2: r2 = x;\n",
+    `${ACCESSES}${GUESS}`,
+    "X86 Mine\n(* 0:EAX is r1, 1:EAX is r2 *)\n{ x=0; y=0; }\n P0          | P1          ;\n MOV [x],$1  | MOV [y],$1  ;\n MOV EAX,[y] | MOV EAX,[x] ;\nexists (0:EAX=0 /\\ 1:EAX=0)\n"],
+  ["accesses of C++ below comments", "// Thread 1:\nr1 = y.load(std::memory_order_relaxed); // A\nx.store(r1, std::memory_order_relaxed); // B\n// Thread 2:\nr2 = x.load(std::memory_order_relaxed); // C \ny.store(42, std::memory_order_relaxed); // D\n",
+    `${ACCESSES}${ATOMICS}${GUESS}`,
+    "X86 Mine\n(* 0:EAX is r1, 1:EAX is r2 *)\n{ y=0; x=0; }\n P0          | P1          ;\n MOV EAX,[y] | MOV EAX,[x] ;\n MOV [x],EAX | MOV [y],$42 ;\nexists (0:EAX=0 /\\ 1:EAX=0)\n"],
+  ["orders by short names", "Thread 1                    Thread 2\nx.store(1, relaxed);        y.store(1, relaxed);\nr1 = y.load(relaxed);       r2 = x.load(relaxed);\n",
+    `${ACCESSES}${ATOMICS}${GUESS}`,
+    "X86 Mine\n(* 0:EAX is r1, 1:EAX is r2 *)\n{ x=0; y=0; }\n P0          | P1          ;\n MOV [x],$1  | MOV [y],$1  ;\n MOV EAX,[y] | MOV EAX,[x] ;\nexists (0:EAX=0 /\\ 1:EAX=0)\n"],
+  ["declarations in C++", "int data = 0; std::atomic<bool> ready{false};\n\n// Thread A\ndata = 42;\nready.store(true, std::memory_order_release);\n\n// Thread B\nwhile (!ready.load(std::memory_order_acquire)) {}\nint r = data;\n",
+    `${ACCESSES}${ATOMICS}${WAITING}${GUESS}`,
+    "X86 Mine\n(* 1:EAX is ready after its loop, 1:EBX is r *)\n{ data=0; ready=0; }\n P0             | P1              ;\n MOV [data],$42 | MOV EAX,[ready] ;\n MOV [ready],$1 | MOV EBX,[data]  ;\nexists (~1:EAX=0 /\\ 1:EBX=0)\n"],
+  ["exchanges", "Thread 1                     Thread 2\nx.exchange(1)                y.exchange(1)\nr1 = y.load(acquire)         r2 = x.load(acquire)\n",
+    `${ACCESSES}${ATOMICS}${GUESS}`,
+    "X86 Mine\n(* 0:EAX is r1, 1:EAX is r2 *)\n{ x=0; y=0; }\n P0           | P1           ;\n MOV EBX,$1   | MOV EBX,$1   ;\n XCHG [x],EBX | XCHG [y],EBX ;\n MOV EAX,[y]  | MOV EAX,[x]  ;\nexists (0:EAX=0 /\\ 1:EAX=0)\n"],
+  ["a question with two sites and one word", "initially x = y = 0\nT1: r1 = x; y = r1\nT2: r2 = y; x = r2\nis r1 = r2 = 1 possible?\n",
+    ACCESSES,
+    "X86 Mine\n(* 0:EAX is r1, 1:EAX is r2 *)\n{ x=0; y=0; }\n P0          | P1          ;\n MOV EAX,[x] | MOV EAX,[y] ;\n MOV [y],EAX | MOV [x],EAX ;\nexists (0:EAX=1 /\\ 1:EAX=1)\n"],
+  ["a branch in braces in a column", "P0                P1\ndata = 1          if (flag == 1) {\nflag = 1              r = data\n                  }\n",
+    `${ACCESSES}${GUESS}`,
+    "X86 Mine\n(* 1:EAX is flag in its condition, 1:EBX is r *)\n{ data=0; flag=0; }\n P0            | P1             ;\n MOV [data],$1 | MOV EAX,[flag] ;\n MOV [flag],$1 | CMP EAX,$1     ;\n               | JNE END        ;\n               | MOV EBX,[data] ;\n               | END:           ;\nexists (1:EAX=1 /\\ 1:EBX=0)\n"],
+  ["branches with an end", "P0            P1\nx = 1         r1 = x\ny = 2         if r1 = 0 then\n                z := 1\n              else\n                z := y\n              end if\n",
+    `${ACCESSES}${GUESS}`,
+    "X86 Mine\n(* 1:EAX is r1, 1:EBX is z *)\n{ x=0; y=0; }\n P0         | P1              ;\n MOV [x],$1 | MOV EAX,[x]     ;\n MOV [y],$2 | CMP EAX,$0      ;\n            | JNE L1          ;\n            | MOV EBX,$1      ;\n            | JMP END         ;\n            | L1: MOV EBX,[y] ;\n            | END:            ;\nexists (~1:EAX=0 /\\ 1:EBX=0)\n"],
+  ["cells between bars", "P0 | P1 | P2\nx = 1 | if x == 1 then y = 1 | while y == 0 do skip\n | | print x\n",
+    `${ACCESSES}${WAITING}${GUESS}`,
+    "X86 Mine\n(* 2:EAX is y after its loop, 2:EBX is printed2 *)\n{ x=0; y=0; }\n P0         | P1          | P2          ;\n MOV [x],$1 | MOV EAX,[x] | MOV EAX,[y] ;\n            | CMP EAX,$1  | MOV EBX,[x] ;\n            | JNE END     |             ;\n            | MOV [y],$1  |             ;\n            | END:        |             ;\nexists (~2:EAX=0 /\\ 2:EBX=0)\n"],
+  ["a negation of a comparison", "P0:\n x = 2\nP1:\n if not x == 1 then y = 1\n",
+    `${ACCESSES} The question \`true\` holds always: look at the list of states.`,
+    "X86 Mine\n{ x=0; y=0; }\n P0         | P1          ;\n MOV [x],$2 | MOV EAX,[x] ;\n            | CMP EAX,$1  ;\n            | JE END      ;\n            | MOV [y],$1  ;\n            | END:        ;\nlocations [y]\nexists (true)\n"],
+  ["a loop that stores", "P0:\n  while x == 0:\n    y = 1\nP1:\n  x = 1\n",
+    `This is pseudo code, which the page would rewrite as an x86 test, but not \`while (x == 0)\`: write out each pass of a loop.`,
+    null],
+];
+// Texts that have no meaning for sure, and of which the page makes no test.
+const UNREAD_TEXTS = [
+  ["an endless loop", "P0:\n  loop forever\n    x = 1\nP1:\n  r1 = x\n"],
+  ["a branch without indentation", "P0:\n  if (x == 0)\n  y = 1\nP1:\n  x = 1\n"],
+  ["a constant by its name", "P0          P1\nx = READY   r1 = x\n"],
+  ["a variable that is called as a line that asks begins", "P0           P1\nfinal = 1    b = y\ny = 1        a = final\n"],
+  ["initial words in words", "x and y are initially 1\nP0           P1\nx = 2        b = y\ny = 2        a = x\n"],
+  ["code after a question", "P0:\nx = 1\nP1:\nr1 = x\nIs that all?\ny = 1\n"],
+  ["a register with an initial word", "initially x = 0, r1 = 5\nP0:\n x = 1\nP1:\n r1 = x\n"],
+  ["a jump", "P0:\n x = 1\nP1:\n L: r1 = x\n if r1 == 0 goto L\n"],
+  ["threads in another order", "P1:\n x = 1\nP0:\n r1 = x\n"],
+  ["a cell between two columns", "P0        P1\nx = 1     r1 = x   r2 = y\n"],
+];
+const LONG = 3900;
+const LONG_TEXTS = [
+  ["blanks", `P0:${" ".repeat(LONG)}x = 1\nP1:\n r1 = x\n`], ["columns", `P0  P1\n${"x = 1  y = 1\n".repeat(LONG / 13)}`],
+  ["parentheses", `P0:\n while ${"(".repeat(LONG)}\nP1:\n x = 1\n`], ["letters", `P0:\n ${"x".repeat(LONG)}\nP1:\n x = 1\n`],
+  ["comments", `P0:\n ${"/* ".repeat(LONG / 3)}\nP1:\n x = 1\n`], ["equations", `P0:\n x = 1\nP1:\n y = 1\nCan ${"a = ".repeat(LONG / 4)}?\n`],
+];
+const SLOWEST = 500;
+
+/** Returns the fault that lw reports of a text that does not begin as a test. */
+function makeFault(text) {
+  return { kind: "text", number: 4, name: "Unexpected", row: 1, column: 1, index: text.search(/\S/) };
+}
+
+/**
+ * Compares what the page makes of pseudo code, by its own modules.
+ * @param {function(string, any, any)} compare
+ */
+export async function comparePseudoTexts(compare) {
+  const { faults, other_tools } = await loadModules(PARTS);
+  for (const [name, text, words, made] of TEXTS) {
+    const { words: found, change } = faults.explainFault(makeFault(text), text);
+    compare(`the words on ${name}`, words, found);
+    compare(`the test of ${name}`, [made, made !== null], [change?.text ?? null, change !== null && other_tools.isRead(change.text)]);
+  }
+  for (const [name, text] of UNREAD_TEXTS) {
+    const { words, change } = faults.explainFault(makeFault(text), text);
+    compare(`the words on ${name}`, [true, null], [words.includes(UNREAD) || words, change]);
+  }
+  for (const [name, text] of LONG_TEXTS) {
+    const begin = performance.now();
+    faults.explainFault(makeFault(text), text);
+    const took = performance.now() - begin;
+    compare(`the time for a long text of ${name}`, true, took < SLOWEST || took);
+  }
+}
+
+if (process.argv[1] === fileURLToPath(import.meta.url)) {
+  const counts = [0, 0];
+  const compare = (what, expected, found) => {
+    const isSame = isDeepStrictEqual(expected, found);
+    counts[Number(!isSame)] += 1;
+    if (!isSame) console.log(`${what}\n  wanted: ${JSON.stringify(expected)}\n  found:  ${JSON.stringify(found)}`);
+  };
+  await comparePseudoTexts(compare);
+  console.log(`${counts[0]} passed, ${counts[1]} failed`);
+  process.exitCode = counts[1] ? 1 : 0;
+}

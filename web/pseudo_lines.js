@@ -1,0 +1,178 @@
+// Finds the threads of pseudo code, as books and blogs write it: below their names, in columns, or with bars between them; and what is before and after
+// them. Not proved.
+//
+// A `PseudoText` has the lines `before` the threads and `after` them, and the `threads`, each with its lines, as `Line`s: the `code` of one, without its
+// comment, and its `indent`, in letters. `first` is the number of the first thread.
+
+const MAX_LETTERS = 4000;
+const MAX_THREADS = 4;
+const TAB = 8;
+// The name of a thread, perhaps in a comment: the groups are its number and its letter. And one before code.
+const NAME = "(?:\\/\\/|\\/\\*|#|--)?\\s*(?:P|T|CPU|core|proc|process|processor|thread)[ _#]*(?:[CPT][ _]?)?(?:(\\d)|([A-Za-z]))(?:\\s+(?:core|cpu)\\s*#?\\d)?";
+const ONLY_NAME = new RegExp(`^${NAME}\\s*:?\\s*(?:\\*\\/)?$`, "i");
+const BEGIN = new RegExp(`^\\s*${NAME}\\s*:(?!=)`, "i");
+const LETTER = /^[pqr]$/;
+const COMMENTS = /^comments?$/i;
+const UNDERLINE = /^[\s=+|-]*$/;
+const COMMENT = /(?:\/\/|#(?!\d)|--(?=\s)).*$/;
+// A comment that is in place of a critical section.
+const CRITICAL = /^\W*(?:in\s+)?(?:the\s+)?critical[\s_]section\W*$/i;
+// Pieces of a line with gaps between them.
+const PIECE = /\S+(?: \S+)*/g;
+// How a line begins that stores, and a line that is or begins with a whole assignment.
+const STORE = /^\w[\w[\]]*\s*(?::=|=|<-)|^mov\b/i;
+const STATEMENT = /^\s*[A-Za-z_][\w[\]]*\s*(?::=|<-|=)(?!=)\s*\w+\s*(?:[;|]|$|\s{2})/;
+const INITIAL = /^\s*init(?:ial(?:ly)?)?\b/i;
+// A label before a statement.
+const LABEL = /^(?!(?:else|do|then|repeat|loop|begin)\b)[A-Za-z]\w*\s*:(?![=:])\s*/i;
+// How a line begins or ends that asks, or says what is allowed.
+const ASKING = "can|could|is|may|might|what|question|outcomes?|result|finally|final|forbidden|allowed|exists|forall|assert|on|does|post-?condition|at the end";
+const ASKS = new RegExp(`^\\(?\\s*(?:~\\s*)?(?:${ASKING})\\b|\\?\\s*\\)?$|\\b(?:allowed|possible|forbidden|impossible)\\b`, "i");
+
+/** Returns a line of code that begins at an index, without the label before it. */
+function makeLine(code, index) {
+  const [label] = LABEL.exec(code) ?? [""];
+  return { code: code.slice(label.length).trim(), indent: index + label.length };
+}
+
+/** Returns a line with blanks in place of its tabs. */
+function expandTabs(line) {
+  return line.split("\t").reduce((all, part) => all + " ".repeat(TAB - (all.length % TAB)) + part);
+}
+
+/** Returns a text with blanks in place of comments between signs; a comment that is in place of a critical section becomes its name. */
+function blankSpans(text) {
+  const replace = (whole, inner) => (CRITICAL.test(inner) ? "critical section".padEnd(whole.length) : whole.replace(/[^\n]/g, " "));
+  const blanked = text.replace(/\/\*([^*]*)\*\//g, replace).replace(/\(\*([^*]*)\*\)/g, replace);
+  return blanked.replace(/\{[ \t]*\}/g, (it) => "{}".padEnd(it.length));
+}
+
+/** Returns a line without its comment, unless that is in place of a critical section. */
+function dropComment(line) {
+  return line.replace(COMMENT, (comment) => (CRITICAL.test(comment) ? "critical section" : ""));
+}
+
+/** Returns the first one of the numbers of threads, 0 if they have none; NaN if they are not in order. */
+function findFirst(numbers) {
+  const first = Number(numbers[0] ?? 0);
+  return numbers.every((it, at) => it === undefined || Number(it) === first + at) ? first : NaN;
+}
+
+/** Returns the pieces of a line that are apart, each with the index at which it begins. */
+function listPieces(line) {
+  return [...line.matchAll(PIECE)].map(({ 0: code, index }) => ({ code, index }));
+}
+
+/** Returns whether a piece of a line is the name of a thread. */
+function isName({ code }) {
+  return ONLY_NAME.test(code.trim()) || LETTER.test(code.trim());
+}
+
+/** Returns the number of a thread of a name; undefined if the name has a letter. */
+function findNumber(code) {
+  return /\d/.exec(ONLY_NAME.exec(code.trim())?.[1] ?? BEGIN.exec(code)?.[1] ?? "")?.[0];
+}
+
+/** Returns the pieces of a line between bars; those that are apart, if there is no bar. */
+function listCells(line) {
+  const bars = /\s*\|{1,3}\s*/g;
+  if (!line.includes("|")) return listPieces(line);
+  let index = 0;
+  return line.split(/(\|{1,3})/).flatMap((part, at) => {
+    const begin = index;
+    index += part.length;
+    return at % 2 ? [] : [{ code: part.trim(), index: begin + Math.max(part.search(/\S/), 0) }];
+  }).filter((it) => !bars.test(it.code));
+}
+
+/** Returns the lines of threads in columns, given the columns' first letters, or null if the cells of a row are between `bars`. */
+function readColumns(lines, columns, hasBars) {
+  const threads = columns.map(() => []);
+  for (const line of lines) {
+    const cells = hasBars ? listCells(line) : listPieces(line);
+    for (const [at, { code, index }] of cells.entries()) {
+      const thread = hasBars ? at : columns.findLastIndex((it) => index >= it - 2);
+      if (thread < 0 || thread >= columns.length) return null;
+      if (!hasBars && threads[thread].at(-1)?.line === line) return null;
+      if (code) threads[thread].push({ ...makeLine(code, Math.max(index - columns[thread], 0)), line });
+    }
+  }
+  return threads;
+}
+
+/** Returns the threads between signs: each line has its indentation. */
+function toLines(code) {
+  return code.split("\n").map((it) => makeLine(it.trim(), Math.max(it.search(/\S/), 0))).filter((it) => it.code);
+}
+
+/** Returns the index of the first line that asks; the number of lines, if none does. */
+function findEnd(lines) {
+  const end = lines.findIndex((it) => ASKS.test(it.trim()));
+  return end < 0 ? lines.length : end;
+}
+
+/** Returns a text of threads between `{{{`, `|||` and `}}}`; null if it has none. */
+function readBraced(text) {
+  const [, before, inner, after] = /^([^{}]*)\{\{\{([^]*?)\}\}\}([^]*)$/.exec(text) ?? [];
+  if (inner === undefined) return null;
+  const listLines = (it) => it.split("\n").map((line) => dropComment(line).trim()).filter(Boolean);
+  const threads = inner.split("|||").map((it) => toLines(it.split("\n").map(dropComment).join("\n")));
+  return { before: listLines(before), threads, after: listLines(after), first: 0 };
+}
+
+/** Returns a text of threads in columns, below a row of their names at an index, or without names from the row at an index on. */
+function readBeside(lines, at, isNamed) {
+  const names = listCells(lines[at]).filter((it) => !COMMENTS.test(it.code));
+  const below = lines.slice(isNamed ? at + 1 : at).filter((it) => !UNDERLINE.test(it));
+  const before = [...lines.slice(0, at), ...below.filter((it) => INITIAL.test(it))];
+  const rows = below.filter((it) => !INITIAL.test(it));
+  const end = findEnd(rows);
+  const code = rows.slice(0, end).map(dropComment);
+  // Initial values may be below the names.
+  while (/^\s*\{[^{}]*\}\s*$/.test(code[0] ?? "")) before.push(code.shift().replace(/[{}]/g, ""));
+  const threads = readColumns(code, names.map((it) => it.index), lines[at].includes("|"));
+  const first = isNamed ? findFirst(names.map((it) => findNumber(it.code))) : 0;
+  return threads && { before, threads, after: rows.slice(end), first };
+}
+
+/** Returns a text of threads below their names. */
+function readBelow(lines) {
+  const [before, after, threads, numbers] = [[], [], [], []];
+  for (const line of lines.filter((it) => !UNDERLINE.test(it))) {
+    const [label] = BEGIN.exec(line) ?? [];
+    const isHead = label !== undefined || (listPieces(line).length === 1 && ONLY_NAME.test(line.trim()));
+    // A label of a line may begin as the name of its thread.
+    const isNew = isHead && !(label !== undefined && threads.length && numbers.at(-1) === findNumber(line));
+    if (isNew) [threads.push([]), numbers.push(findNumber(line))];
+    if (isHead && label === undefined) continue;
+    const code = dropComment(label === undefined ? line : " ".repeat(label.length) + line.slice(label.length));
+    if (!threads.length || INITIAL.test(line)) before.push(line);
+    else if (after.length || (ASKS.test(code.trim()) && code.search(/\S/) === 0)) after.push(line);
+    else if (code.trim()) threads.at(-1).push(makeLine(code.trim(), code.search(/\S/)));
+  }
+  // Instructions below names are read by assembly.js.
+  return threads.flat().some((it) => /^mov/i.test(it.code)) ? null : { before, threads, after, first: findFirst(numbers) };
+}
+
+/**
+ * Returns the threads of pseudo code, and what is around them; null if a text has none.
+ * @param {string} text
+ * @returns {PseudoText | null}
+ */
+export function readPseudoText(text) {
+  if (text.length > MAX_LETTERS || /^\s*(?:X86|SRC)\b/.test(text)) return null;
+  const blanked = blankSpans(text);
+  const lines = blanked.split("\n").map(expandTabs).filter((it) => it.trim());
+  const isRow = (it, isCell) => listCells(it).length > 1 && listCells(it).every(isCell);
+  const named = lines.findIndex((it) => isRow(it, (cell) => isName(cell) || COMMENTS.test(cell.code)));
+  const hasNames = lines.some((it) => BEGIN.test(it) || ONLY_NAME.test(it.trim()));
+  const columns = lines.findIndex((it) => isRow(it, ({ code }) => STORE.test(code)) && !ASKS.test(it.trim()) && !INITIAL.test(it));
+  const readLines = () => {
+    if (named >= 0) return readBeside(lines, named, true);
+    if (hasNames) return readBelow(lines);
+    return columns >= 0 ? readBeside(lines, columns, false) : null;
+  };
+  const read = readBraced(blanked) ?? readLines();
+  const isWhole = read && read.threads.length > 1 && read.threads.length <= MAX_THREADS && read.threads.every((it) => it.length) && read.first <= 1;
+  return isWhole && !read.after.some((it) => STATEMENT.test(it)) ? read : null;
+}

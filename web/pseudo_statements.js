@@ -1,0 +1,200 @@
+// Writes the statements of pseudo code as those of C. Not proved.
+//
+// A `Line` is that of pseudo_lines.js.
+
+// Operators and constants of pseudo code, and those of C. A negation in words is that of a whole comparison.
+const COMPARED = /(?:\bnot\b|¬)\s*([A-Za-z_][\w[\]]*\s*(?:==?|!=|<>|≠)\s*\w+)/gi;
+const WORDS = [
+  [COMPARED, "!($1)"], [/:=|<-|←/g, "="], [/\band\b|∧/gi, "&&"], [/\bor\b|∨/gi, "||"], [/\bnot\b\s*|¬/gi, "!"], [/<>|≠|=\/=/g, "!="],
+  [/\btrue\b/gi, "1"], [/\bfalse\b/gi, "0"], [/\b(?:NEW|SET)\b/g, "1"],
+];
+// Statements that do nothing, a critical section, and fences with those of C.
+const NOTHING = /^(?:skip|pass|nop|no-?op|do nothing|do|done|od|fi|begin|end(?:[ _]?(?:if|while))?|\.{2,}|…|busy[ -]wait|spin|;|\{\s*\})?$/i;
+const CRITICAL = /^<?\(?(?:in\s+)?(?:the\s+)?(?:critical(?:[\s_]section)?|CS)\)?>?(?:\(\))?\.*$/i;
+const FENCES = [
+  [/^<?(?:(?:general|full)[ _])?(?:memory[ _])?(?:barrier|fence)>?(?:\(\))?$/i, "smp_mb();"],
+  [/^(?:mfence|smp_mb|__sync_synchronize|mb)\s*(?:\(\))?$|^atomic_thread_fence\s*(?:\((?:[\w:]*seq_cst)?\))?$/i, "smp_mb();"],
+  [/^<(?:write|read|compiler)[ _]barrier>$|^smp_[rw]mb\s*\(\)$/i, "smp_rmb();"],
+];
+// The first word of a branch or loop, and the rest of its line.
+const HEAD = /^(if|while|await|wait\s+(?:until|for)|elif|elsif|else\s*if|else)(?!\w)\s*(.*)$/i;
+const ASSIGNMENT = /^([A-Za-z_]\w*(?:\[\d\])?)\s*(\+=|-=|=(?!=))\s*(.+)$/;
+const MOVE = /^mov[lq]?\s+([^\s,<][^,<]*?)\s*(?:,|<-)\s*(.+)$/i;
+const EXPRESSION = /^[\w\s+()[\]-]+$/;
+const CONDITION = /^[\w\s=!&|()[\]+.,:-]+$/;
+// A call of an atomic variable or function in C++ or C, code with one, and an order of memory by its short name.
+const CALL = /\b\w+(?:\.|->)(?:store|load|exchange|fetch_\w+|test_and_set|clear)\s*\(|\batomic_\w+\s*\(/;
+const CODE_WITH_CALL = /^(?:\w+\s*=\s*)?[\w\s()[\]&+.,:>-]+$/;
+const ORDER = /(?<![\w:])(?:mo_|memory_order_)?(relaxed|consume|acquire|release|acq_rel|seq_cst)\b/g;
+const KERNEL_LOAD = /\b(?:READ_ONCE|smp_load_acquire)\s*\(\s*&?(\w+)\s*\)/g;
+const KERNEL_STORE = /^(?:WRITE_ONCE|smp_store_release)\s*\(\s*&?(\w+)\s*,\s*(.+)\)$/;
+// Names of the C code that pseudo code can't have.
+const TAKEN = /\b(?:critical|inside\d|printed\d)\b/;
+
+/** Thrown if a text is not read as pseudo code. */
+export class Unread extends Error {}
+
+/**
+ * Returns code with the operators and constants of C.
+ * @param {string} code
+ * @returns {string}
+ */
+export function toC(code) {
+  return WORDS.reduce((all, [pattern, word]) => all.replace(pattern, word), code).trim();
+}
+
+/** Returns code in which each order of memory has its whole name. */
+function nameOrders(code) {
+  return code.replace(ORDER, "std::memory_order_$1");
+}
+
+/**
+ * Returns a condition as C writes it. Throws Unread if it is something else.
+ * @param {string} code
+ * @returns {string}
+ */
+export function toCondition(code) {
+  const condition = toC(code.replace(KERNEL_LOAD, "$1")).replace(/(?<![=!<>])=(?!=)/g, "==");
+  if (!CONDITION.test(condition) || !condition.trim() || TAKEN.test(condition)) throw new Unread();
+  return nameOrders(condition);
+}
+
+/** Writes the statements of a thread in C. What is not read throws Unread. */
+export class StatementWriter {
+  /** `lines` are those of the thread with this `number`. */
+  constructor(lines, number) {
+    // `depth` is the number of branches and braces around the present statement, `isHead` whether the last one was the head of a branch, and `isBranched`
+    // whether a critical section is in one. `declared` has the names that the thread declares.
+    Object.assign(this, { lines, number, at: 0, printed: 0, depth: 0, isHead: false, declared: new Set() });
+    Object.assign(this, { hasSection: false, isBranched: false, isAfterSection: false });
+    this.hasBraces = lines.some((it) => /[{}]/.test(it.code.replace(/\{\s*\}/g, "")));
+  }
+
+  /** Returns the statements of the thread. */
+  writeThread() {
+    const written = this.hasBraces ? this.lines.map((it) => this.writeBraced(it.code)) : this.writeBlock(0);
+    if (this.at < this.lines.length && !this.hasBraces) throw new Unread();
+    return written.join(" ");
+  }
+
+  // Code with braces, which are those of C.
+
+  /** Returns a line with braces as C has it. */
+  writeBraced(code) {
+    return code.split(/([{}])/).map((it) => it.trim()).filter(Boolean).map((it) => (/^[{}]$/.test(it) ? this.writeBrace(it) : this.writePart(it))).join(" ");
+  }
+
+  /** Returns a brace. */
+  writeBrace(brace) {
+    this.depth += brace === "{" ? 1 : -1;
+    this.isHead = false;
+    return brace;
+  }
+
+  /** Returns a part of a line without braces: the head of a branch or loop, perhaps with a statement, or statements. */
+  writePart(code) {
+    const [head, rest] = this.splitHead(code) ?? [];
+    if (head === undefined) return this.writeSimples(code);
+    this.isHead = true;
+    return `${head} ${/^;?$/.test(rest) ? rest : this.writePart(rest)}`;
+  }
+
+  // Code with indentation.
+
+  /** Returns the statements of the lines from the present one on that are indented at least as far as it. */
+  writeBlock(indent) {
+    const written = [];
+    while (this.at < this.lines.length && this.lines[this.at].indent >= indent) written.push(this.writeStatement());
+    return written;
+  }
+
+  /** Returns the statement of the present line, with the lines that belong to it. Throws Unread for a branch without statements. */
+  writeStatement() {
+    const { code, indent } = this.lines[this.at];
+    this.at += 1;
+    const [head, rest] = this.splitHead(code) ?? [];
+    if (head === undefined) return this.writeSimples(code);
+    if (head.endsWith(";")) return `${head} ${rest && this.writePart(rest)}`;
+    this.depth += 1;
+    const next = this.lines[this.at]?.indent ?? 0;
+    const body = [rest && rest !== ";" ? this.writePart(rest) : "", ...(next > indent && rest !== ";" ? this.writeBlock(next) : [])].join(" ").trim();
+    this.depth -= 1;
+    if (head.startsWith("while") && !body) return `${head} ;`;
+    if (!rest && next <= indent) throw new Unread();
+    return `${head} { ${body} }`;
+  }
+
+  // Parts of lines.
+
+  /**
+   * Returns the head of a branch or loop as C has it, which ends with a semicolon if it is a whole loop, and what follows it in its line; null if code
+   * begins with none.
+   */
+  splitHead(code) {
+    const [, word, rest] = HEAD.exec(code) ?? [];
+    if (!word) return null;
+    this.isAfterSection ||= this.hasSection;
+    if (/^else$/i.test(word)) return ["else", rest.replace(/^:/, "").trim()];
+    const [condition, after] = splitCondition(rest);
+    const kind = word.toLowerCase().replace(/^(?:elif|else\s*if|elsif)$/, "else if");
+    return /^(?:await|wait)/.test(kind) ? [`while (!(${toCondition(condition)})) ;`, after] : [`${kind} (${toCondition(condition)})`, after];
+  }
+
+  /** Returns the statements of code without branches. */
+  writeSimples(code) {
+    const parts = MOVE.test(code) ? [code] : code.split(/;\s*|,(?![^([]*[)\]])\s*/);
+    const written = parts.map((it) => this.writeSimple(it.trim().replace(/[.;]$/, ""))).join(" ");
+    this.isHead = false;
+    return written;
+  }
+
+  /** Returns a statement. Throws Unread if it is something else. */
+  writeSimple(code) {
+    if (NOTHING.test(code)) return "";
+    if (CRITICAL.test(code)) return this.writeSection();
+    const fence = FENCES.find(([pattern]) => pattern.test(code));
+    if (fence) return fence[1];
+    this.isAfterSection ||= this.hasSection;
+    const [, shown] = /^print\s*\(?\s*([\w[\]]+)\s*\)?$/i.exec(code) ?? [];
+    if (shown) return `printed${this.number}${(this.printed += 1) > 1 ? `_${this.printed}` : ""} = ${shown};`;
+    const [, asserted] = /^assert\b\s*(.+)$/i.exec(code) ?? [];
+    if (asserted) return `assert(${toCondition(asserted)});`;
+    const [, counted] = /^([A-Za-z_]\w*)\s*\+\+$/.exec(code) ?? [];
+    if (counted) return `${counted}++;`;
+    const [, type, name] = /^((?:const\s+)?(?:auto|int|unsigned|bool|long)\s+)(\w+)\s*=/.exec(code) ?? [];
+    if (name) this.declared.add(name);
+    return writeAssignment(type ? code.slice(type.length) : code);
+  }
+
+  /** Returns a critical section: it sets a variable, and adds to a location, which is lost if another thread is there, too. */
+  writeSection() {
+    this.hasSection = true;
+    this.isBranched ||= this.depth > 0 || this.isHead;
+    return `inside${this.number} = 1; critical++;`;
+  }
+}
+
+/** Returns an assignment. Throws Unread if code is none. */
+function writeAssignment(code) {
+  const [, to, from] = MOVE.exec(code) ?? [];
+  const clean = (it) => it.replace(/^\[\s*_?(\w+)\s*\]$|^\$?(\w+)$/, "$1$2");
+  const [, stored, word] = KERNEL_STORE.exec(code) ?? [];
+  const plain = to ? `${clean(to)} = ${clean(from)}` : stored ? `${stored} = ${word}` : code.replace(KERNEL_LOAD, "$1");
+  if (TAKEN.test(plain)) throw new Unread();
+  if (CALL.test(plain) && CODE_WITH_CALL.test(plain)) return `${nameOrders(plain).replace(/^(\w+)\s*=\s*/, "$1 = ")};`;
+  const [, name, sign, value] = ASSIGNMENT.exec(toC(plain)) ?? [];
+  if (!name || !EXPRESSION.test(value) || /[\w\])]\s+[\w(]/.test(value)) throw new Unread();
+  return `${name} ${sign} ${value};`;
+}
+
+/** Returns the condition after the first word of a branch or loop, and what follows it in its line. */
+function splitCondition(code) {
+  if (code.startsWith("(")) {
+    let depth = 0;
+    const end = code.split("").findIndex((it) => (depth += (it === "(") - (it === ")")) === 0);
+    const rest = code.slice(end + 1).replace(/^\s*:/, "").trim();
+    if (end > 0 && !/^(?:and|or|&&|\|\||[=!<>∧∨])/i.test(rest)) return [code.slice(1, end), rest];
+  }
+  const [, condition, rest] = /^(.*?)\s*(?:\b(?:then|do)\b|:(?!=)|(?<!\d)\{|;)\s*(.*)$/i.exec(code) ?? [code, code, ""];
+  return [condition, rest.trim()];
+}
