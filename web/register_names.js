@@ -16,8 +16,8 @@ export function describeMapping(text) {
   return `In the compiled program ${[pairs.slice(0, -1).join(", "), pairs.at(-1)].filter(Boolean).join(" and ")} of the source.`;
 }
 
-// The comment, as in `(* 0:EAX is r0, 1:EBX is ready *)`, and one of its entries.
-const COMMENT = /\(\*((?:\s*\d:E\w\w is \w+,?)+)\s*\*\)/;
+// The comment, as in `(* 0:EAX is r0, 1:EBX is ready after its loop *)`, and one of its entries.
+const COMMENT = /\(\*((?:\s*\d:E\w\w is [\w ]+,?)+)\*\)/;
 const ENTRY = /(\d:E\w\w) is (\w+)/g;
 
 /**

@@ -42,7 +42,7 @@ export class Rows {
   measureWidths() {
     const { names, variables } = this.strip;
     const measured = this.report.states.slice(0, MEASURED).map(({ line }) => parseReportLine(line).map(([, word]) => String(word).length));
-    const heads = names.map((it) => [it, variables.get(it)].filter(Boolean).join(" ").length);
+    const heads = names.map((it) => Math.max(it.length, variables.get(it)?.length ?? 0));
     const longest = heads.map((head, index) => Math.max(head, ...measured.map((it) => it[index])));
     return `5.5ch ${longest.map((it) => `${it + 2}ch`).join(" ")} ${this.report.is_marked ? "3ch" : ""} minmax(0, 1fr)`;
   }

@@ -126,10 +126,10 @@ export class Strip {
   /** Returns how wide the list is as columns, and as rows. */
   measureWidths() {
     const { length } = this.report.states;
-    const lengths = this.names.map((it) => it.length + (this.variables.has(it) ? this.variables.get(it).length + 1 : 0));
-    const names = Math.max(TITLES, ...lengths.map((it) => it * LETTER)) + 1;
+    const findVariable = (name) => this.variables.get(name)?.length ?? -1;
+    const names = Math.max(TITLES, ...this.names.map((it) => (it.length + 1 + findVariable(it)) * LETTER)) + 1;
     const columns = names + length * (this.isNarrow(length) ? NARROW_COLUMN : WIDE_COLUMN) + (this.ghost ? NEVER_COLUMN : 0);
-    const rows = AROUND_ROWS + lengths.reduce((sum, it) => sum + it + 2, 0) * LETTER;
+    const rows = AROUND_ROWS + this.names.reduce((sum, it) => sum + Math.max(it.length, findVariable(it)) + 2, 0) * LETTER;
     return { columns, rows };
   }
 

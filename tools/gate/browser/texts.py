@@ -525,7 +525,7 @@ class Faults(PageCase):
         self.assertSoon(["r0", "ready"], lambda: user.texts("#watching .in-source"))
         self.assertEqual(["0:EAX r0"], user.texts("table.strip tbody th:has(.in-source)"))
         user.run_text("X86 Wide\n(* 0:EAX is r0 *)\n{}\n P0 ;\n MOV EAX,[x] ;\nlocations [a; b; c; d; e;]\nexists (0:EAX=0)\n")
-        self.assertSoon(True, lambda: "0:EAX r0" in user.texts(".row-head > span"))
+        self.assertSoon(["r0"], lambda: user.texts(".row-head .in-source"))
 
     def test_sums(self) -> None:
         """In place of a statement with a sum that the format lacks a button puts those that it has; of a register past r5 it puts one that is free."""
