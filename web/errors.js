@@ -99,6 +99,7 @@ function describeError({ error, refused }) {
   return renderSentence(`Event ${refused.at + 1} of the schedule, \`${refused.event}\`, is refused. ${explainRefusal(refused.event, refused)}`);
 }
 
+const GUESS = "The question is a guess: change it to yours.";
 // Why a list is refused, by the name of the limit.
 const LIMITS = {
   TooManyItems: "One choice of its branches and words has more than 128 events and fences",
@@ -155,9 +156,11 @@ function makeReading({ document, command, more, change }) {
   return [el("details", { class: "small", open: !change }, el("summary", {}, "With a compiler"), renderSentence(`${more} `), read, " ", copyIt)];
 }
 
-/** Returns buttons that apply what a hint proposes. */
-function makeApplyButtons({ change, also, isOffer }, editor) {
-  const makeApply = (it) => makeButton(it.title ?? `Change it to ${it.text}`, () => applyChange(it, editor), { class: isOffer ? "apply main" : "apply" });
+/** Returns buttons that apply what a hint proposes. That a question is a guess is said then, too. */
+function makeApplyButtons({ words, change, also, isOffer }, editor) {
+  const guess = words?.includes(GUESS) ? ` ${GUESS}` : "";
+  const apply = (it) => applyChange({ ...it, done: it.done && it.done + guess }, editor);
+  const makeApply = (it) => makeButton(it.title ?? `Change it to ${it.text}`, () => apply(it), { class: isOffer ? "apply main" : "apply" });
   return [change, also].filter(Boolean).map(makeApply);
 }
 

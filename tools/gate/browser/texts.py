@@ -469,6 +469,7 @@ class Faults(PageCase):
         self.assertSays("The question is a guess: change it to yours.", OFFER)
         user.click(f"{OFFER} .apply")
         self.assertSoon("exists (0:EAX=0 /\\ ~1:EBX=0 /\\ 1:EAX=0)", lambda: user.value().splitlines()[-1])
+        self.assertSays("Rewritten. The question is a guess: change it to yours. Undo", "#said")
         user.run_text(program.replace("int r0 = x", "goto L;int r0 = x"))
         why = "goto and labels are not rewritten."
         self.assertSays(f"Line 4, column 24: The page would rewrite this program in C as an x86 test, but not goto L: {why}", "#fault")
