@@ -121,7 +121,7 @@ class FirstView(PageCase):
         user = self.user
         user.open_listed()
         self.assertIn("All states in which a small parallel program can end on x86-TSO", user.text("#what"))
-        self.assertIn(": proved complete. For students and programmers.", user.text("#what"))
+        self.assertIn(": proved complete. Paste C, C++ or assembly, too.", user.text("#what"))
         self.assertSays("Next: the same test with fences: SB+mfences-x86, or compare both.", "#next")
         user.click("#next-test")
         self.assertSays("Forbidden.", "#outcome .verdict")
