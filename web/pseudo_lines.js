@@ -7,6 +7,8 @@
 const MAX_LETTERS = 4000;
 const MAX_THREADS = 4;
 const TAB = 8;
+// How a test begins, and the row of the threads' names that it has.
+const TEST = /^\s*(?:X86|SRC)\b|^[ \t]*P0[ \t]*\|(?!\|)[^;\n]*;/m;
 // The name of a thread, perhaps in a comment: the groups are its number and its letter. And one before code.
 const NAME = "(?:\\/\\/|\\/\\*|#|--)?\\s*(?:P|T|CPU|core|proc|process|processor|thread)[ _#]*(?:[CPT][ _]?)?(?:(\\d)|([A-Za-z]))(?:\\s+(?:core|cpu)\\s*#?\\d)?";
 const ONLY_NAME = new RegExp(`^${NAME}\\s*:?\\s*(?:\\*\\/)?$`, "i");
@@ -160,7 +162,7 @@ function readBelow(lines) {
  * @returns {PseudoText | null}
  */
 export function readPseudoText(text) {
-  if (text.length > MAX_LETTERS || /^\s*(?:X86|SRC)\b/.test(text)) return null;
+  if (text.length > MAX_LETTERS || TEST.test(text)) return null;
   const blanked = blankSpans(text);
   const lines = blanked.split("\n").map(expandTabs).filter((it) => it.trim());
   const isRow = (it, isCell) => listCells(it).length > 1 && listCells(it).every(isCell);
