@@ -8,7 +8,7 @@
 // `isJoining` if its handle joins it at the end of a block, or not.
 
 import { formatAssertion, formatFormula, parseFormula } from "./c_question.js";
-import { declareVariables, defineName, findClosing, parseConstant, parseDeclaration, refusePart, replaceNames, squeezeCode } from "./c_reader.js";
+import { declareVariables, defineName, findClosing, parseConstant, parseDeclaration, refusePart, replaceNames, squeezeCode } from "./c_code.js";
 import { OUTPUT, removeStrings, splitOutside, StatementReader } from "./c_statements.js";
 
 // A lambda up to its code: the group is what it captures.

@@ -4,9 +4,10 @@
 // The records `Program` and `Part` are those of c_reader.js.
 
 import { alignCells } from "./aligned.js";
+import { refusePart } from "./c_code.js";
 import { startThreads } from "./c_main.js";
 import { formatAssertion, formatFormula, limitQuestion } from "./c_question.js";
-import { checkThreads, readProgram, refusePart } from "./c_reader.js";
+import { checkThreads, readProgram } from "./c_reader.js";
 import { RESULT, ThreadWriter } from "./c_thread.js";
 import { guessProposition } from "./guess_question.js";
 import { readTest } from "./tests.js";

@@ -3,7 +3,7 @@
 // A `Formula` is an atom, or has a `sign`, `/\` or `\/`, and the `parts` that it joins. An atom has the `name` of a variable, and a `word`; `isEqual`
 // says whether the variable is to be this word, or another one. If it is read from a condition, its `code` is its variable, or a load of it.
 
-import { parseConstant } from "./c_reader.js";
+import { parseConstant } from "./c_code.js";
 import { removeOuterParentheses, splitOutside } from "./c_statements.js";
 
 // A variable that a condition compares, in squeezed code, or a load of one: the groups are its name.

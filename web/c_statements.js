@@ -5,7 +5,7 @@
 // braces has the statements of its `block`. A loop that only waits has its `condition`, the code of what it `assigns`, or "",
 // the names of functions that it `calls`, and the conditions of loops `inner` to it.
 
-import { findClosing, parseConstant, refusePart, squeezeCode } from "./c_reader.js";
+import { findClosing, parseConstant, refusePart, squeezeCode } from "./c_code.js";
 
 // The number of statements that a statement may be in.
 const DEEPEST = 64;

@@ -3,7 +3,7 @@
 // The records `Program` and `CThread` are those of c_reader.js, and `Statement` is that of c_statements.js.
 
 import { mapAtoms, negateFormula, parseFormula } from "./c_question.js";
-import { defineName, parseConstant, parseDeclaration, refusePart, replaceNames } from "./c_reader.js";
+import { defineName, parseConstant, parseDeclaration, refusePart, replaceNames } from "./c_code.js";
 import {
   isCondition,
   OF_CONDITIONS,

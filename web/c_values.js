@@ -7,7 +7,7 @@
 // its words are below the `limit`. The `word` is the constant that it writes, or null, and
 // `added` the constant that it adds, or null. It `isLocked` if its load and its store are one instruction. It `isSure` if all runs of its thread do it.
 
-import { parseConstant, refusePart, replaceNames, squeezeCode } from "./c_reader.js";
+import { parseConstant, refusePart, replaceNames, squeezeCode } from "./c_code.js";
 import { explainCondition, explainStatement, removeOuterParentheses, splitTerms } from "./c_statements.js";
 import { REGISTERS, WORD } from "./token_reader.js";
 
