@@ -230,13 +230,13 @@ function listElements(declarator) {
 /**
  * Adds what code declares to some variables, and the initial words of these to a program's. Throws NoTest for the part that is `shown`, with a reason,
  * if it is no declaration of shared variables, which are pointers in herd's form only.
- * @param {{words: Map<string, number>, names: Map<string, string>, isHerd: boolean}} program
+ * @param {{words: Map<string, number>, names: Map<string, string>, arrays: Set<string>, isHerd: boolean}} program
  * @param {Map<string, Declaration>} variables
  * @param {string} code
  * @param {Part} shown
  * @param {string} why
  */
-export function declareVariables({ words, names, isHerd }, variables, code, shown, why) {
+export function declareVariables({ words, names, arrays, isHerd }, variables, code, shown, why) {
   const declared = parseDeclaration(squeezeCode(replaceNames(code, names)));
   if (!declared.length || declared[0].isPointer !== isHerd) refusePart(shown, why);
   for (const variable of declared) {
@@ -244,7 +244,7 @@ export function declareVariables({ words, names, isHerd }, variables, code, show
     const word = value ? parseConstant(value) : words.get(name) ?? 0;
     if (word === null || word >= limit) refusePart(shown, OF_VALUES);
     if (variables.has(name) && (element || variables.get(name).element)) refusePart(shown, OF_LONE);
-    if (element) names.set(element, name);
+    if (element) names.set(element, name) && arrays.add(element.split("[")[0]);
     words.set(name, word);
     variables.set(name, variable);
   }

@@ -4,16 +4,21 @@
 // The records `Program`, `CThread` and `Part` are those of c_reader.js, and `Statement` is that of c_statements.js. A statement that joins all
 // threads of an array has the name of this array, `joined`, and the number of them, `count`, if it is a constant. A loop whose passes are runs
 // `isRepeated`, and has the statements of its `block`.
-// A `Start` has the code by which a thread is joined, its `handle`, as `t1` or `threads[0]`, and the name of its function, which is `started`. It
-// `isJoining` if its handle joins it at the end of a block, or not.
+// A `Start` has the code by which a thread is joined, its `handle`, as `t1` or `threads[0]`, and what is `started`, its function and arguments after
+// this, unless it has only one `argument`. It `isJoining` if its handle joins it at the end of a block, or not. A pass of a loop has a `number`, with
+// the `name` and the `digit` of the index.
 
+import { declareObjects } from "./c_classes.js";
 import { formatAssertion, formatFormula, parseFormula } from "./c_question.js";
 import { declareVariables, defineName, findClosing, parseConstant, parseDeclaration, refusePart, replaceNames, squeezeCode } from "./c_code.js";
+import { foldConstants } from "./c_constants.js";
+import { parseParameters } from "./c_parameters.js";
 import { OUTPUT, removeStrings, splitOutside, StatementReader } from "./c_statements.js";
 
-// A lambda up to its code: the group is what it captures.
-const LAMBDA = /(?<![\w\])])\[([^\][]*)\]\s*(?:\(\s*(?:void\s*)?\)\s*)?(?:mutable\b\s*|->\s*void\b\s*)*\{/;
-const CAPTURES = /^(?:&\w*(?:,&\w+)*)?$/;
+// A lambda up to its code: the groups are what it captures, its parameters, and its type.
+const LAMBDA = /(?<![\w\])])\[([^\][]*)\]\s*(?:\(([^(){};]*)\)\s*)?(?:mutable\b\s*)?(?:noexcept\b\s*)?(?:->\s*(\w{1,20})\b\s*)?\{/;
+// What it may capture: variables by reference, and numbers.
+const CAPTURED = /^(?:&\w*|\w+)$/;
 // The patterns that follow are of squeezed code. What changes nothing that threads share, as output does, unless it has an effect.
 const HARMLESS = new RegExp(
   "^(?:(?:(?:pthread_(?:mutex|spin)|mtx)_(?:init|destroy)|static_assert|\\w*sleep\\w*|this_thread::\\w+|exit|abort|pthread_exit)\\(|return\\b|" +
@@ -43,10 +48,15 @@ const CONTAINER = /^(?:vector<(j?)thread>|array<(j?)thread,\w+>) ?(\w+)(?:\(\w*\
 const THREADS = /^(j?)thread (.*)$/;
 const DECLARATOR = /^(\w+(?:\[\w*\])?)(?:=?(?:j?thread)?[({](.+)[)}])?$/;
 const ASSIGNED = /^(?:auto )?(\w+(?:\[\d+\])?)=(j?)thread[({](.*)[)}]$/;
-const APPENDED = /^(\w+)\.(?:emplace|push)_back\((?:j?thread[({])?([^)}]*)[)}]{1,2}$/;
+const APPENDED = /^(\w+)\.(?:emplace|push)_back\((.*)\)$/;
+const MADE = /^j?thread[({](.*)[)}]$/;
 const CREATED = /^(?:pthread|thrd)_create\((.*)\)$/;
+// What a thread of pthreads gets that has no argument.
+const NOTHING = /^(?:NULL|nullptr|0|\(void\*\)0)?$/;
 const NAMED_LAMBDA = /^(?:const )?auto ?&{0,2}(\w+)=(lambda_\d+)$/;
-const CALLEE = /^&?(\w+)(?:,.*)?$/;
+const CALLEE = /^&?(\w+)$/;
+const METHOD = /^&\w+::(\w+)$/;
+const OBJECT = /^(?:&|ref\()(\w+)\)?$/;
 const ASSIGNMENT = /^(\w+)=([^=].*)$/;
 const INITIAL_STORE = /^atomic_(?:store|init)(?:_explicit|_relaxed|_release)?\(&(\w+),([^,]*)(?:,memory_order_\w+)?\)$/;
 const ASSERTION = /^assert\((.*)\)$/;
@@ -62,7 +72,7 @@ const OF_CAPTURES = ": a lambda has its variables by reference, as `[&]`";
 const OF_ASKED = ": `main` asks only once";
 const OF_FORMULAS = ": what `main` asks compares variables with constants by `==` or `!=`, joined by `&&` and `||`";
 const OF_NAMES = ": give it a name that no other variable has";
-const OF_CODE = ": a thread begins with a function or a lambda without parameters";
+const OF_CODE = ": a thread begins with a function or a lambda, and has an argument for each parameter";
 
 /** Reads the statements of `main`. */
 class MainReader extends StatementReader {
@@ -102,7 +112,7 @@ function repeatCode({ code, index }, name, times) {
   const digits = Array.from({ length: times }, (_, digit) => digit);
   return digits.map((digit) => {
     const part = { code: code.replace(place, (_, before) => `${before}${String(digit).padEnd(name.length)}`), index };
-    return { ...part, block: new MainReader(part).readAll() };
+    return { ...part, block: new MainReader(part).readAll(), number: { name, digit: String(digit) } };
   });
 }
 
@@ -129,10 +139,12 @@ class MainFollower {
   followStatements(statements) {
     for (const statement of statements) {
       if (statement.isRepeated) this.repeated = { statement, names: new Set() };
+      if (statement.number) this.program.names.set(statement.number.name, statement.number.digit);
       if (statement.block) this.followBlock(statement.block);
       else if (statement.then) this.followBranch(statement);
       else if (statement.joined) this.joinAll(statement);
       else this.followSimple(statement);
+      if (statement.number) this.program.names.delete(statement.number.name);
     }
   }
 
@@ -200,11 +212,17 @@ class MainFollower {
     const [, handle, other] = JOIN.exec(code) ?? [];
     const [, condition] = ASSERTION.exec(code) ?? [];
     if (starts) starts.forEach((it) => this.startThread(it, statement));
-    else if (lambda) this.functions.set(lambdaName, this.functions.get(lambda));
+    else if (lambda) this.nameLambda(lambdaName, this.functions.get(lambda));
     else if (handle ?? other) this.joinThread(handle ?? other, statement);
     else if (condition) this.ask(statement, () => formatAssertion(this.asserted), condition, true);
     else if (!this.threads.length) this.setWords(code, statement);
     else refusePart(statement, this.running.size ? OF_RUNNING : OF_AFTER);
+  }
+
+  /** Gives a lambda a name, by which threads may call it. */
+  nameLambda(name, lambda) {
+    this.functions.set(name, lambda);
+    if (!this.program.functions.has(name)) this.program.functions.set(name, { ...lambda, name });
   }
 
   /** Returns squeezed code with the values of names in place of these. */
@@ -222,18 +240,21 @@ class MainFollower {
       const end = findClosing(code, open - 1) + 1;
       const whole = { code: code.slice(begin, end || open), index: index + begin };
       if (!end) refusePart(whole, ": its `}` is missing");
-      if (!CAPTURES.test(squeezeCode(found[1]))) refusePart(whole, OF_CAPTURES);
-      pieces.push(code.slice(at, begin), this.addLambda(whole, { code: code.slice(open, end - 1), index: index + open }));
+      pieces.push(code.slice(at, begin), this.addLambda(whole, { code: code.slice(open, end - 1), index: index + open }, found));
       at = end;
     }
     return [...pieces, code.slice(at)].join("");
   }
 
-  /** Adds the function of a lambda, given all of it and its code. Returns a name for it. */
-  addLambda(whole, code) {
+  /** Adds the function of a lambda, given all of it and its code. Returns a name for it. Throws NoTest if it captures variables by their values. */
+  addLambda(whole, code, [, captured, parameters = "", type]) {
     const name = `lambda_${this.functions.size}`;
-    const { globals } = this.program;
-    this.functions.set(name, { name: "lambda", head: whole.index, whole, parameters: "", code, variables: globals, returnsWord: false });
+    const { globals, names } = this.program;
+    const values = squeezeCode(captured).split(",").filter((it) => it && !it.startsWith("&"));
+    if (values.some((it) => !CAPTURED.test(it) || parseConstant(names.get(it) ?? "") === null)) refusePart(whole, OF_CAPTURES);
+    const members = values.map((it) => [it, names.get(it)]);
+    const head = whole.index;
+    this.functions.set(name, { name: "lambda", type: type ?? "auto", head, whole, parameters, code, variables: globals, returnsWord: false, members });
     return name;
   }
 
@@ -243,14 +264,14 @@ class MainFollower {
     if (container) this.containers.set(container, Boolean(isVectorJoining || isArrayJoining));
     if (container || HANDLES.test(code)) return [];
     const [, isJoining, declarators] = THREADS.exec(code) ?? [];
-    if (declarators) return this.parseDeclarators(splitOutside(declarators, ","), isJoining === "j");
+    if (declarators) return this.parseDeclarators(splitOutside(declarators.replace(/\{/g, "(").replace(/\}/g, ")"), ","), isJoining === "j");
     const [, assigned, isAssignedJoining, callee] = ASSIGNED.exec(code) ?? [];
     if (assigned) return [makeStart(assigned, isAssignedJoining === "j" || this.containers.get(assigned.split("[")[0]), callee)];
     const [, appended, first] = APPENDED.exec(code) ?? [];
-    if (appended) return [makeStart(`${appended}[${this.threads.length}]`, this.containers.get(appended), first)];
+    if (appended) return [makeStart(`${appended}[${this.threads.length}]`, this.containers.get(appended), MADE.exec(first)?.[1] ?? first)];
     const [, words] = CREATED.exec(code) ?? [];
     const [created, ...others] = splitOutside(words ?? "", ",");
-    return others.length > 1 ? [makeStart(created.replace(/^&/, "").replace(/^(\w+)\+(\d+)$/, "$1[$2]"), false, others.at(-2))] : null;
+    return others.length > 1 ? [makeStart(created.replace(/^&/, "").replace(/^(\w+)\+(\d+)$/, "$1[$2]"), false, others.at(-2), others.at(-1))] : null;
   }
 
   /** Returns the threads that declarations of handles start; null if they are none. */
@@ -262,11 +283,23 @@ class MainFollower {
   }
 
   /** Adds a thread. Throws NoTest for the statement that starts it if a thread was joined before, or if it is of no function. */
-  startThread({ handle, isJoining, started }, statement) {
-    const thread = this.functions.get(CALLEE.exec(started)?.[1]) ?? refusePart(statement, OF_CODE);
+  startThread({ handle, isJoining, started, argument }, statement) {
+    const { callee, others } = this.findMethod(splitOutside(started, ","));
+    const thread = this.functions.get(callee) ?? this.program.functions.get(callee) ?? refusePart(statement, OF_CODE);
+    const values = argument === undefined ? others : [NOTHING.test(argument) ? "0" : argument];
+    const isFitting = values.length === parseParameters(thread.parameters).length;
+    if (argument === undefined && !isFitting) refusePart(statement, OF_CODE);
     if (this.hasJoined || this.running.has(handle)) refusePart(statement, OF_JOINS);
-    this.threads.push({ ...thread, isStarted: true });
+    this.threads.push({ ...thread, isStarted: true, start: statement, values: isFitting ? values.map(foldConstants) : undefined });
     this.running.set(handle, Boolean(isJoining));
+  }
+
+  /** Returns the name of the function that a thread begins with, and its arguments, of which the first one may be the object of a method. */
+  findMethod([callee, object = "", ...others]) {
+    const [, name] = METHOD.exec(callee) ?? [];
+    const [, owner] = OBJECT.exec(object) ?? [];
+    if (name) return { callee: `${owner}__${name}`, others };
+    return { callee: CALLEE.exec(callee)?.[1], others: object ? [object, ...others] : [] };
   }
 
   /** Joins the thread of a handle. Throws NoTest for the statement if none runs. */
@@ -290,6 +323,7 @@ class MainFollower {
     if (defineName(code, names)) return;
     const declared = parseDeclaration(code);
     if (declared.some((it) => globals.has(it.name))) refusePart(statement, OF_NAMES);
+    if (declareObjects(this.program, code, statement)) return;
     for (const it of declared) this.repeated?.names.add(it.name);
     if (declared.length) {
       declareVariables(this.program, globals, statement.code, statement, OF_BEFORE);
@@ -304,8 +338,8 @@ class MainFollower {
 }
 
 /** Returns a record of a start. */
-function makeStart(handle, isJoining, started) {
-  return { handle, isJoining, started };
+function makeStart(handle, isJoining, started, argument) {
+  return { handle, isJoining, started, argument };
 }
 
 /**

@@ -4,11 +4,12 @@
 // The records `Program` and `Part` are those of c_reader.js.
 
 import { alignCells } from "./aligned.js";
+import { CallWriter, linkThreads } from "./c_calls.js";
 import { refusePart } from "./c_code.js";
 import { startThreads } from "./c_main.js";
 import { formatAssertion, formatFormula, limitQuestion } from "./c_question.js";
 import { checkThreads, readProgram } from "./c_reader.js";
-import { RESULT, ThreadWriter } from "./c_thread.js";
+import { RESULT } from "./c_thread.js";
 import { guessProposition } from "./guess_question.js";
 import { readTest } from "./tests.js";
 import { WORD } from "./token_reader.js";
@@ -191,12 +192,29 @@ function isAskedOf({ loaded, known, loadedBranches }) {
 
 /** Returns the writer of a thread, in which the conditions before the last load have registers if a question is to be guessed and there are enough. */
 function writeThread(program, number) {
-  const writer = new ThreadWriter(program, number).writeThread();
+  const writer = new CallWriter(program, number).writeThread();
   if (program.question.code || !writer.loadedBranches.length) return writer;
   try {
-    return new ThreadWriter(program, number, writer.loadedBranches.map((it) => it.index)).writeThread();
+    return new CallWriter(program, number, writer.loadedBranches.map((it) => it.index)).writeThread();
   } catch {
     return writer;
+  }
+}
+
+/**
+ * Returns the writers of all threads. A plain variable that only one thread accesses has a register of it: what a function with parameters accesses is
+ * known when it is written.
+ */
+function writeThreads(program) {
+  const writers = program.threads.map((_, number) => writeThread(program, number));
+  if (!program.threads.some((it) => it.values?.length || it.members?.length)) return writers;
+  const owners = new Map(writers.flatMap((writer) => writer.own.map((it) => [it.name, writer.number])));
+  const accesses = writers.flatMap((it) => it.accesses);
+  for (const { thread, name } of accesses) owners.set(name, (owners.get(name) ?? thread) === thread ? thread : -1);
+  try {
+    return program.threads.map((_, number) => writeThread({ ...program, owners }, number));
+  } catch {
+    return writers;
   }
 }
 
@@ -215,9 +233,9 @@ function formatList(question, isGuess, accesses, sites) {
 
 /** Returns the record of `rewriteProgram` of a text. Throws NoTest if it is not rewritten. */
 function writeTest(text) {
-  const program = startThreads(readProgram(text));
+  const program = linkThreads(startThreads(readProgram(text)));
   checkThreads(program);
-  const writers = program.threads.map((_, number) => writeThread(program, number));
+  const writers = writeThreads(program);
   const accesses = writers.flatMap((it) => it.accesses);
   const used = new Set(accesses.map((it) => it.name));
   const asked = askAssertions(program, writers) || translateQuestion(program, writers, used);

@@ -14,15 +14,14 @@
 // `limit`, which is 2 for a `bool`. It `isWide` if it has 64 bits, or not. The `element` is the code of a word of an array, as `a[0]`. The `order` is
 // that of the operators on it: seq_cst if it is atomic, relaxed if it is volatile, mutex if it is one, and otherwise plain.
 
+import { addObject, declareObjects, readClass } from "./c_classes.js";
 import {
   blank,
   declareVariables,
   defineName,
   findClosing,
-  OF_LONE,
   OF_VALUES,
   parseConstant,
-  parseDeclaration,
   parseNamedValue,
   refusePart,
   replaceNames,
@@ -46,7 +45,7 @@ const WITHOUT_EFFECT = /\busing\s[\w:\s]{0,80};|\balignas\s{0,9}\([\s\w:]{0,80}\
 // An entry of a block of initial values: the groups are the name of a variable, and its value.
 const ENTRY = /^(?:\w[\w ]*[ *])?\[?([A-Za-z_]\w*)\]?(?:=(.+))?$/;
 // A function up to its code: the groups are its type, its name, and its parameters.
-const FUNCTION = /^((?:\w+[\s*]+)*?)(\w+)\s*\(([^(){};]*)\)\s*\{/;
+const FUNCTION = /^((?:(?:std::)?\w+[\s*]+)*?)(\w+)\s*\(([^(){};]*)\)\s*\{/;
 // The types of a result of 32 bits.
 const WORD_TYPE = /^(?:(?:static|extern|inline|const|(?:un)?signed|int|u?int32_t)\s+)*(?:(?:un)?signed|int|u?int32_t)\s+$/;
 // The parameters of a thread: none, or a pointer to anything, whose name is the group.
@@ -62,12 +61,11 @@ const CONSTANT = new RegExp(
 const NAMING = /\b(?:atomic_ref|memory_order)/;
 // The begin of a block of declarations.
 const SPACE = /^(?:(?:inline\s+)?namespace(?:\s+[\w:]+)?|extern\s+"C")\s*\{/;
-// The begin of a structure: the groups are `typedef`, and its name. What follows it: the names of objects or of types. And a declaration of objects: the
-// groups are their type, and their names.
-const STRUCTURE = /^(typedef\s+)?(?:static\s+)?struct(?:\s+(\w+))?\s*\{/;
+// The begin of a structure: the groups are `typedef`, and its name. And what follows it: the names of objects or of types.
+const STRUCTURE = /^(typedef\s+)?(?:static\s+)?(?:struct|class)(?:\s+(\w+))?\s*(?:final\s*)?\{/;
 const OBJECTS = /^\s*([\w\s,]{0,200});/;
-const DECLARED_OBJECTS = /^(?:static\s+)?(?:struct\s+)?(\w+)\s+(\w[\w\s,]{0,200})(?:\{\s*\}|=\s*\{\s*0?\s*\})?\s*;/;
-// What is outside of functions, to its end.
+// A longer declaration is not one of objects. And what is outside of functions, to its end.
+const LONGEST = 400;
 const STATEMENT = /^[^;]*;/;
 const QUESTION = /^(?:~|exists|forall|locations)/;
 // What a program has in place of a part that is refused.
@@ -89,8 +87,11 @@ class ProgramReader {
     this.words = new Map();
     this.globals = new Map();
     this.names = new Map();
-    // The code of structures between their braces, by the names of these types.
+    // The structures and classes by their names, the names of their objects and of arrays, and the functions by their names.
     this.types = new Map();
+    this.objects = new Set();
+    this.arrays = new Set();
+    this.functions = new Map();
     this.threads = [];
     this.main = null;
   }
@@ -117,8 +118,8 @@ class ProgramReader {
     this.rest = this.rest.replace(HEADERS, blank).replace(WITHOUT_EFFECT, blank).trimStart();
     while (this.rest && !QUESTION.test(this.rest)) this.readDefinition();
     const question = this.rest ? this.cutPart(this.rest.length) : asked;
-    const { text, name, isHerd, words, globals, names, threads, main } = this;
-    return { text, name, isHerd, words, globals, names, functions: new Set(threads.map((it) => it.name)), threads, main, question };
+    const { text, name, isHerd, words, globals, names, types, objects, arrays, functions, threads, main } = this;
+    return { text, name, isHerd, words, globals, names, types, objects, arrays, functions, threads, main, question };
   }
 
   /** Takes the comments out of the text. Returns the question in them. Throws NoTest if a program asks twice. */
@@ -161,38 +162,21 @@ class ProgramReader {
     const [tail, objects] = OBJECTS.exec(this.rest.slice(end + 1)) ?? [];
     if (end < 0 || tail === undefined) return false;
     const part = this.cutPart(end + 1 + tail.length);
-    const code = this.rest.slice(head.length, end);
+    const code = { code: this.rest.slice(head.length, end), index: this.index + head.length };
     const others = objects.split(",").map((it) => it.trim()).filter(Boolean);
-    for (const type of [name, ...(isType ? others : [])]) if (type) this.types.set(type, code);
-    for (const object of isType ? [] : others) this.addObject(object, code, part);
+    const type = readClass(name, code, this.names);
+    for (const it of [name, ...(isType ? others : [])]) if (it) this.types.set(it, type);
+    for (const object of isType ? [] : others) addObject(this, object, type, part);
     this.skipPart(part.code.length);
     return true;
   }
 
   /** Reads a declaration of objects of a structure, if one is here. Returns whether it is. */
   readObjects() {
-    const [found, type, objects] = (this.types.size && DECLARED_OBJECTS.exec(this.rest)) || [];
-    const code = this.types.get(type);
-    if (code === undefined) return false;
-    for (const object of objects.split(",")) this.addObject(object.trim(), code, this.cutPart(found.length));
-    this.skipPart(found.length);
-    return true;
-  }
-
-  /** Adds the members of an object as variables, whose names are of both. Throws NoTest for the part that is `shown` if one is no variable. */
-  addObject(object, code, shown) {
-    for (const declaration of code.split(";").filter((it) => it.trim())) {
-      const declared = parseDeclaration(squeezeCode(replaceNames(declaration, this.names)));
-      if (!declared.length || declared.some((it) => it.isPointer || it.element)) refusePart(shown, OF_GLOBALS);
-      for (const { name, value, ...others } of declared) {
-        const [joined, word] = [`${object}_${name}`, value ? parseConstant(value) : 0];
-        if (word === null || word >= others.limit) refusePart(shown, OF_VALUES);
-        if (this.globals.has(joined)) refusePart(shown, OF_LONE);
-        this.words.set(joined, word);
-        this.globals.set(joined, { name: joined, value, ...others });
-        this.names.set(`${object}.${name}`, joined);
-      }
-    }
+    const [whole] = (this.types.size && STATEMENT.exec(this.rest)) || [""];
+    const isOfObjects = whole.length < LONGEST && declareObjects(this, squeezeCode(whole.slice(0, -1)), this.cutPart(whole.length));
+    if (isOfObjects) this.skipPart(whole.length);
+    return isOfObjects;
   }
 
   /** Reads a macro or a constant, if one is here, and returns whether it is. Throws NoTest at a macro that is no constant. */
@@ -245,8 +229,10 @@ class ProgramReader {
     const code = { code: this.rest.slice(length, end), index: this.index + length };
     const returnsWord = !this.isHerd && WORD_TYPE.test(type);
     const head = this.index + this.rest.indexOf(name, type.length);
+    const thread = { name, type, head, whole, parameters, code, variables, returnsWord, isStarted: false };
     if (name === "main" && !this.isHerd) this.main = code;
-    else this.threads.push({ name, head, whole, parameters, code, variables, returnsWord, isStarted: false });
+    else this.threads.push(thread);
+    if (name !== "main" || this.isHerd) this.functions.set(name, thread);
     this.skipPart(end + 1);
   }
 }
@@ -258,7 +244,7 @@ class ProgramReader {
  */
 export function checkThreads({ text, isHerd, threads }) {
   if (!threads.length) refusePart({ code: text, index: 0 }, ": threads are functions `P0`, `P1` and so on");
-  const withParameters = threads.find((it) => !isHerd && !PARAMETERS.test(it.parameters));
+  const withParameters = threads.find((it) => !isHerd && !it.values && !PARAMETERS.test(it.parameters));
   if (withParameters) refusePart(withParameters.whole, OF_THREADS);
   const isNumbered = threads.some((it) => /^P\d+$/.test(it.name));
   const other = threads.find((it, number) => isNumbered && it.name !== `P${number}`);

@@ -59,6 +59,7 @@ const OF_ASSERTIONS = ": an assertion compares variables with constants by `==` 
 const OF_BRANCHED = ": an assertion is in no branch, and after no `return`";
 const OF_PLAIN_LOOPS = ": a compiler loads a plain variable only once, so make it atomic or volatile";
 const OF_NAMES = ": give it a name that no other variable has";
+const OF_STATIC = ": a static variable is shared, so declare it outside of functions";
 const OF_MUTEXES = ": only a mutex, as `std::mutex m`, is locked and unlocked";
 const OF_GUARDS = ": a guard is locked and unlocked in no branch";
 // The label at the end of a thread.
@@ -112,15 +113,20 @@ export class ThreadWriter extends ValueWriter {
    * @param {number} number
    * @param {number[]} [kept]
    */
-  constructor({ words, names, functions, threads, isHerd }, number, kept = []) {
+  constructor({ words, names, functions, threads, owners, isHerd }, number, kept = []) {
     const { name, head, code, parameters, variables, returnsWord, isStarted } = threads[number];
     super(number, variables, names);
     Object.assign(this, { name, head, code, parameters, words, returnsWord, isStarted, isHerd, functions, kept });
     // The shared variables that only this thread uses, and that are neither atomic nor volatile. They have registers.
-    const codes = threads.map((it) => replaceNames(it.code.code, names));
+    const codes = threads.map((it) => replaceNames(it.reached ?? it.code.code, names));
     const isUsed = (variable, text) => new RegExp(`\\b${variable}\\b`).test(text);
     const isOwn = (variable) => isUsed(variable, codes[number]) && codes.filter((it) => isUsed(variable, it)).length === 1;
-    this.own = [...variables.values()].filter((it) => it.order === "plain" && !it.isPointer && isOwn(it.name));
+    const isOther = (pattern) => codes.some((it) => new RegExp(pattern).test(it));
+    // By an index that is a parameter, or by a reference to all of it.
+    const isHidden = ({ element, object }) =>
+      (element && isOther(`\\b${element.split("[")[0]}\\b`)) || (object && isOther(`\\b${object}\\b(?!\\s{0,9}\\.)`));
+    const isOwned = (it) => (owners ? owners.get(it.name) === number : !it.isOfClass && isOwn(it.name) && !isHidden(it));
+    this.own = [...variables.values()].filter((it) => it.order === "plain" && !it.isPointer && isOwned(it));
     if (returnsWord) this.locals.add(RESULT);
     this.isWide = false;
     // How many labels there are, and the variable that was loaded last.
@@ -132,8 +138,13 @@ export class ThreadWriter extends ValueWriter {
     this.waits = [];
     this.isWaiting = false;
     this.pairs = [];
-    // The guards around a statement: their names, the mutexes that they guard, and those that they unlock, or null.
+    // The guards around a statement: their names, the mutexes that they guard, and those that they unlock, or null. Those before the function of the
+    // statement are not unlocked at its `return`, which jumps to a label.
     this.guards = [];
+    this.outerGuardCount = 0;
+    this.end = END;
+    // Whether constants say that no run comes to the next statement.
+    this.isOver = false;
     // The branches around the last load: the index of their `if`, and the comparisons that hold in them.
     this.loadedBranches = [];
     // The formulas that it asserts, of sites; the first statement that does; and the number of loops that wait before it.
@@ -153,7 +164,7 @@ export class ThreadWriter extends ValueWriter {
     this.writeStatements(readStatements(this.code), true);
     const known = [...this.exits, this.known].reduce(joinPaths, null);
     this.known = new Set([...known].filter((it) => this.locals.has(it)));
-    if (this.instructions.some((it) => it.endsWith(` ${END}`))) this.labels.push(END);
+    this.endFunction();
     if (this.labels.length) this.instructions.push(`${this.labels.join(": ")}:`);
     const needed = this.registers.length + Number(this.instructions.some((it) => it.includes(SPARE)));
     if (needed > REGISTERS.X86.length) refusePart({ code: this.name, index: this.head }, OF_REGISTERS);
@@ -183,6 +194,7 @@ export class ThreadWriter extends ValueWriter {
     const guardCount = this.guards.length;
     for (const [at, statement] of statements.entries()) {
       this.statement = statement;
+      if (!this.known && this.isOver) break;
       if (!this.known) this.refuseStatement(OF_UNREACHED);
       const isEnd = isLast && at === statements.length - 1 && this.guards.length === guardCount;
       if (statement.block) this.writeBlock(statement.block, isEnd);
@@ -247,14 +259,19 @@ export class ThreadWriter extends ValueWriter {
     }
   }
 
+  /** Returns the squeezed code of a condition. */
+  readCondition(condition) {
+    return this.squeeze(condition);
+  }
+
   /** Writes an `if`: its comparisons jump over its first branch, which jumps over the second one if there is one. */
   writeBranch({ condition, then, otherwise }, isLast) {
     this.hasBranch = true;
-    const other = isLast && !otherwise.length ? END : this.makeLabel();
-    const end = isLast ? END : otherwise.length ? this.makeLabel() : other;
+    const other = isLast && !otherwise.length ? this.end : this.makeLabel();
+    const end = isLast ? this.end : otherwise.length ? this.makeLabel() : other;
     const { index } = this.statement;
     const depth = this.branches.length;
-    const comparisons = this.writeCondition(this.squeeze(condition), other);
+    const comparisons = this.writeCondition(this.readCondition(condition), other);
     const negated = { index, comparisons: negateComparisons(comparisons) };
     this.branches.push({ index, comparisons });
     const before = new Set(this.known);
@@ -412,7 +429,8 @@ export class ThreadWriter extends ValueWriter {
       if (variable.isPointer || variable.element) this.refuseStatement();
       // A compiler may make an exchange, which waits, of an assignment to a variable that is atomic.
       if (variable.order === "seq_cst") this.refuseStatement(OF_ATOMICS);
-      if (this.variables.has(variable.name) || this.locals.has(variable.name)) this.refuseStatement(OF_NAMES);
+      if (this.variables.has(variable.name) || this.hasLocal(variable.name)) this.refuseStatement(OF_NAMES);
+      if (/^static (?!const )/.test(statement)) this.refuseStatement(OF_STATIC);
       this.declareLocal(variable, variable.value);
     }
     const [isReturn, result = ""] = RETURN.exec(statement) ?? [];
@@ -461,6 +479,11 @@ export class ThreadWriter extends ValueWriter {
     return name !== undefined && !this.isHerd && this.parameters.endsWith(name) && !this.variables.has(name);
   }
 
+  /** Returns whether a variable of a name can be used here, so that no other one has this name. */
+  hasLocal(name) {
+    return this.locals.has(name);
+  }
+
   /** Declares a variable that has a register, and assigns the code of its initial value, unless that is empty. */
   declareLocal({ name, limit, isWide }, value) {
     this.locals.add(name);
@@ -474,10 +497,21 @@ export class ThreadWriter extends ValueWriter {
     const value = !this.isHerd && NOTHING.test(result) && (this.isStarted || !this.returnsWord) ? "" : result;
     if (value && !this.returnsWord) this.refuseStatement(this.isHerd ? OF_RETURN_IN_HERD : OF_RETURN);
     if (value) this.assignLocal(RESULT, value);
-    this.unlockGuards(0);
+    this.leaveFunction(isLast);
+  }
+
+  /** Puts the label after a function to which some of it jumps. A jump to the next instruction is left out. */
+  endFunction() {
+    if (!this.labels.length && this.instructions.at(-1) === `JMP ${this.end}`) this.instructions.pop();
+    if (this.instructions.some((it) => it.endsWith(` ${this.end}`))) this.labels.push(this.end);
+  }
+
+  /** Writes what a `return` does besides its value. */
+  leaveFunction(isLast) {
+    this.unlockGuards(this.outerGuardCount);
     this.exits.push(this.known);
     this.known = null;
-    if (!isLast) this.writeInstruction(`JMP ${END}`);
+    if (!isLast) this.writeInstruction(`JMP ${this.end}`);
   }
 
   /** Writes an assignment, a step, or a call whose result is not used. */

@@ -246,14 +246,14 @@ const REFUSED_MAINS = [
   ["  t1.join();", "  t1.join(); std::thread t3([] { x = 2; });", "`std::thread t3([] { x = 2; })`: `main` starts all threads before it joins one"],
   ["int main", "void sleep_well() { x = 3; }\nint main", `\`sleep_well()\`${OF_RUNNING}`, "t1.join();", "sleep_well(); t1.join();"],
   ["int main", "void cpu_relax() { x = 3; }\nint main", `\`while (x == 0)\`${OF_LOOPS}`, "[&] {", "[&] { while (x == 0) { cpu_relax(); }"],
-  ["int main", "void barrier() { x = 3; }\nint main", "`barrier()`: write what the function does in its place", "[&] {", "[&] { barrier();"],
+  ["int main", "void barrier() { x = 3; barrier(); }\nint main", "`barrier()`: write what the function does in its place", "[&] {", "[&] { barrier();"],
   ["  t1.join();", "  exit(0); t1.join();", `\`exit(0)\`${OF_RUNNING}`],
   ["  t1.join();", "  t1.join(); t1.join();", "`t1.join()`: no thread that runs has this name"],
   ["  t1.join();", "", "`assert(r1 == 1 || r2 == 1)`: `main` joins all threads before"],
   ["t2.join();\n  assert(r1 == 1 || r2 == 1);", "", "`}`: `main` joins each thread, and not `t2`"],
   ["[&] {", "[=] {", "`[=] { x.store(1, std::memory_order_relax..`: a lambda has its variables by reference, as `[&]`"],
-  ["std::thread t2(", "std::thread t2(f, ", "`std::thread t2(f, [&]() mutable -> void ..`: a thread begins with a function or a lambda without parameters"],
-  ["[&] {", "[&](int i) {", "`std::thread t1([&](int i) { x.store(1, s..`: a thread begins with a function or a lambda without parameters"],
+  ["std::thread t2(", "std::thread t2(f, ", "`std::thread t2(f, [&]() mutable -> void ..`: a thread begins with a function or a lambda, and has an argument for each parameter"],
+  ["[&] {", "[&](int i) {", "`std::thread t1([&](int i) { x.store(1, s..`: a thread begins with a function or a lambda, and has an argument for each parameter"],
   ["  assert", "  x = 3; assert", "`x = 3`: after the joins, `main` only prints, or asks by an `assert` or an `if`"],
   ["  assert", "  if (r1 == 3) x = 3; assert", "`x = 3`: after the joins, `main` only prints, or asks by an `assert` or an `if`"],
   ["  assert", "  if (r1 == 3) puts(\"\"); assert", "`assert(r1 == 1 || r2 == 1)`: `main` asks only once"],
@@ -483,7 +483,7 @@ const REFUSED = [
   ["int d;", "#define N x + 1\nint d;", "`#define N x + 1`: write its text where it is used"],
   ["int d;", "#define F(a) 1\nint d;", "`#define F(a) 1`: write its text where it is used"],
   ["int r0 = y;", "std::atomic_ref<int> rd(d); rd = 1;", "`rd = 1`: `rd` is not declared"],
-  ["int d;", "struct s { float a; } d;", `\`struct s { float a; } d;\`${OF_GLOBALS}`],
+  ["int d;", "struct s { float a; } d;", "`float a;`: a class has integers, `bool`, mutexes, arrays of these, and functions"],
   ["int d;", "struct s { int a = x; } d;", `\`struct s { int a = x; } d;\`${OF_VALUES}`],
   ["int d;", "struct s { int a; } d; int d_a; struct s d;", `\`struct s d;\`${OF_LONE}`],
   ["int d;", "int d = x;", `\`int d = x;\`${OF_VALUES}`],
@@ -513,6 +513,8 @@ const PLACES = [
   ["constexpr int N = ", ";\n"], ["struct { ", " } s;\n"], ["void f() { while (x) ; }\nexists (", ""],
   ["void f() { while (x && ", ") ; }"], ["void f() { while (x.exchange(1)) while (", ") ; }"], ["void f() { for (;;) { if (", ") break; } }"],
   ["void f() { while (true) { if (x) break; ", " } }"], ["int a[2] = {", "};\n"], ["std::mutex ", ";\n"], ["void f() { std::scoped_lock g(", "); }"],
+  ["void g(", ") { x = 1; }\nvoid f() { g(1); }\n"], ["int g(int a) { return a; }\nvoid f() { x = g(", "); }\n"], ["void g(int i) { x = ", "; }\nvoid f() { g(1); }\n"],
+  ["struct S { ", " };\nS s;\nvoid f() { s.g(); }\n"], ["void f(int i) { ", " }\nint main() { std::thread t(f, 1); t.join(); }\n"],
   ["void f() { x[", "] = 1; }"], ["void f() { int r = ", "; }"], ["int main() { for (;;) { ", " std::thread t(f); t.join(); } }"],
 ];
 const SLOWEST = 2000;
@@ -1210,6 +1212,247 @@ void P1() { go = 2; int last; do last = done; while (last == 5); int seen = data
     "`exists x=1) \\/ (x=2`: a question is `exists (..)`, `~exists (..)` or `forall (..)`"],
   ["five threads", `atomic_int x;\n${[0, 1, 2, 3, 4].map((it) => `void P${it}() { x = 1; }\n`).join("")}// lw: exists (x=1)\n`,
     "there are more than 4 threads"],
+  ["functions that threads call, with `main`", `#include <atomic>
+#include <thread>
+#include <cassert>
+std::atomic<bool> flag{false};
+int counter = 0;
+void lock() { while (flag.exchange(true, std::memory_order_acquire)) ; }
+void unlock() { flag.store(false, std::memory_order_release); }
+void worker() { lock(); counter++; unlock(); }
+int main() { std::thread a(worker), b(worker); a.join(); b.join(); assert(counter == 2); }
+`, `X86 Mine
+(* 0:EAX is flag at its lock, 1:EAX is flag at its lock *)
+{ flag=0; counter=0; }
+ P0                | P1                ;
+ MOV EAX,$1        | MOV EAX,$1        ;
+ XCHG [flag],EAX   | XCHG [flag],EAX   ;
+ MOV EBX,[counter] | MOV EBX,[counter] ;
+ ADD EBX,$1        | ADD EBX,$1        ;
+ MOV [counter],EBX | MOV [counter],EBX ;
+ MOV [flag],$0     | MOV [flag],$0     ;
+locations [flag]
+forall (~0:EAX=0 \\/ ~1:EAX=0 \\/ counter=2)
+`],
+  ["functions that return values", `std::atomic<int> x, y;
+int read_y() { return y.load(std::memory_order_acquire); }
+static inline int read(std::atomic<int> &v, std::memory_order order = std::memory_order_seq_cst) { return v.load(order); }
+int sum(int v) { if (x == v) return 5; int t = y; t += v; return t; }
+void put(int v, int w) { v++; x.store(v, std::memory_order_relaxed); y.store(w, std::memory_order_relaxed); }
+void P0() { int t = read_y(), r = t; int s = sum(r); put(r, t); put(s, 2); }
+void P1() { if (read(x) == 1 && !read(y, std::memory_order_relaxed)) y = sum(1); }
+// lw: exists (0:r=0 /\\ 0:s=0)
+`, `X86 Mine
+(* 0:EAX is t, 0:EBX is r, 0:ECX is s, 0:EDX is t_2, 0:ESI is v, 1:EAX is sum_result, 1:EBX is t *)
+{ x=0; y=0; }
+ P0              | P1              ;
+ MOV EAX,[y]     | MOV ECX,[x]     ;
+ MOV EBX,EAX     | CMP ECX,$1      ;
+ MOV EDI,[x]     | JNE END         ;
+ CMP EDI,EBX     | MOV ECX,[y]     ;
+ JNE L2          | CMP ECX,$0      ;
+ MOV ECX,$5      | JNE END         ;
+ JMP L1          | MOV ECX,[x]     ;
+ L2: MOV EDX,[y] | CMP ECX,$1      ;
+ ADD EDX,EBX     | JNE L2          ;
+ MOV ECX,EDX     | MOV EAX,$5      ;
+ L1: MOV ESI,EBX | JMP L1          ;
+ ADD ESI,$1      | L2: MOV EBX,[y] ;
+ MOV [x],ESI     | ADD EBX,$1      ;
+ MOV [y],EAX     | MOV EAX,EBX     ;
+ MOV ESI,ECX     | L1: MOV ECX,EAX ;
+ ADD ESI,$1      | XCHG [y],ECX    ;
+ MOV [x],ESI     | END:            ;
+ MOV [y],$2      |                 ;
+locations [y]
+exists (0:EBX=0 /\\ 0:ECX=0)
+`],
+  ["functions with pointers", `atomic_int l, m; int n; int got0, got1;
+bool try_lock(atomic_int *l) { return atomic_exchange_explicit(l, 1, memory_order_acquire) == 0; }
+void get(int *out) { *out = m; }
+void t1() { if (try_lock(&m)) { n = 1; get(&got0); } }
+void t2() { bool ok = try_lock(&m); if (ok) { n = 2; get(&got1); } }
+exists (got0=1 /\\ got1=1)
+`, `X86 Mine
+(* 0:EAX is got0, 1:EAX is ok, 1:EBX is got1 *)
+{ m=0; n=0; }
+ P0           | P1             ;
+ MOV EBX,$1   | MOV ECX,$1     ;
+ XCHG [m],EBX | XCHG [m],ECX   ;
+ CMP EBX,$0   | CMP ECX,$0     ;
+ JNE END      | JNE L1         ;
+ MOV [n],$1   | MOV EAX,$1     ;
+ MOV EAX,[m]  | JMP L2         ;
+ END:         | L1: MOV EAX,$0 ;
+              | L2: CMP EAX,$0 ;
+              | JE END         ;
+              | MOV [n],$2     ;
+              | MOV EBX,[m]    ;
+              | END:           ;
+locations [m; n]
+exists (0:EAX=1 /\\ 1:EBX=1)
+`],
+  ["no question, and locks by a reference", `std::atomic<bool> l1{false}, l2{false}; int n;
+void lock(std::atomic<bool>& l) { while (l.exchange(true, std::memory_order_acquire)) { while (l.load(std::memory_order_relaxed)) ; } }
+void unlock(std::atomic<bool>& l) { l.store(false, std::memory_order_release); }
+void t1() { lock(l1); lock(l2); n++; unlock(l2); unlock(l1); }
+void t2() { lock(l1); n++; unlock(l1); }
+`, `X86 Mine
+(* 0:EAX is l1 at its lock, 0:EBX is l2 at its lock, 1:EAX is l1 at its lock *)
+{ l1=0; l2=0; n=0; }
+ P0            | P1            ;
+ MOV EAX,$1    | MOV EAX,$1    ;
+ XCHG [l1],EAX | XCHG [l1],EAX ;
+ MOV EBX,$1    | MOV EBX,[n]   ;
+ XCHG [l2],EBX | ADD EBX,$1    ;
+ MOV ECX,[n]   | MOV [n],EBX   ;
+ ADD ECX,$1    | MOV [l1],$0   ;
+ MOV [n],ECX   |               ;
+ MOV [l2],$0   |               ;
+ MOV [l1],$0   |               ;
+locations [l1]
+exists (0:EAX=0 /\\ 0:EBX=0 /\\ 1:EAX=0 /\\ ~n=2)
+`],
+  ["no question, and a function in the condition of a loop", `std::atomic_flag f = ATOMIC_FLAG_INIT; int n;
+bool try_lock() { return !f.test_and_set(std::memory_order_acquire); }
+void unlock() { f.clear(std::memory_order_release); }
+void a() { while (!try_lock()) ; n++; unlock(); }
+void b() { while (!try_lock()) { std::this_thread::yield(); } n++; unlock(); }
+`, `X86 Mine
+(* 0:EAX is f at its lock, 1:EAX is f at its lock *)
+{ f=0; n=0; }
+ P0           | P1           ;
+ MOV EAX,$1   | MOV EAX,$1   ;
+ XCHG [f],EAX | XCHG [f],EAX ;
+ MOV EBX,[n]  | MOV EBX,[n]  ;
+ ADD EBX,$1   | ADD EBX,$1   ;
+ MOV [n],EBX  | MOV [n],EBX  ;
+ MOV [f],$0   | MOV [f],$0   ;
+locations [f]
+exists (0:EAX=0 /\\ 1:EAX=0 /\\ ~n=2)
+`],
+  ["no question, and a structure that locks", `#include <atomic>
+struct Spinlock {
+  std::atomic<bool> locked{false};
+  void lock() { while (locked.exchange(true, std::memory_order_acquire)) ; }
+  void unlock() { locked.store(false, std::memory_order_release); }
+};
+Spinlock l;
+int n;
+int get() { std::lock_guard<Spinlock> g(l); if (n == 1) return 7; n = 1; return 8; }
+void t1() { l.lock(); n++; l.unlock(); }
+void t2() { int a = get(); }
+`, `X86 Mine
+(* 0:EAX is l_locked at its lock, 1:EAX is l_locked at its lock, 1:EBX is a *)
+{ l_locked=0; n=0; }
+ P0                  | P1                  ;
+ MOV EAX,$1          | MOV EAX,$1          ;
+ XCHG [l_locked],EAX | XCHG [l_locked],EAX ;
+ MOV EBX,[n]         | MOV ECX,[n]         ;
+ ADD EBX,$1          | CMP ECX,$1          ;
+ MOV [n],EBX         | JNE L3              ;
+ MOV [l_locked],$0   | MOV EBX,$7          ;
+                     | MOV [l_locked],$0   ;
+                     | JMP L1              ;
+                     | L3: MOV [n],$1      ;
+                     | MOV EBX,$8          ;
+                     | MOV [l_locked],$0   ;
+                     | L1:                 ;
+locations [1:EBX; l_locked; n]
+exists (0:EAX=0 /\\ 1:EAX=0)
+`],
+  ["a class that locks two threads by their numbers", `class Peterson {
+  std::atomic<bool> flag[2] = {false, false};
+  std::atomic<int> turn{0};
+public:
+  Peterson() = default;
+  void lock(int me) { int other = 1 - me; flag[me].store(true, std::memory_order_relaxed); turn.store(other, std::memory_order_relaxed); while (flag[other].load(std::memory_order_acquire) && turn.load(std::memory_order_relaxed) == other) ; }
+  void unlock(int me) { flag[me].store(false, std::memory_order_release); }
+};
+Peterson p; int n;
+void worker(int id) { p.lock(id); n++; p.unlock(id); }
+int main() { std::thread t1(worker, 0), t2{worker, 1}; t1.join(); t2.join(); assert(n == 2); }
+`, `X86 Mine
+(* 0:EAX is p_flag_1 after its loop, 0:EBX is p_turn after its loop, 1:EAX is p_flag_0 after its loop, 1:EBX is p_turn after its loop *)
+{ p_flag_0=0; p_flag_1=0; p_turn=0; n=0; }
+ P0                 | P1                 ;
+ MOV [p_flag_0],$1  | MOV [p_flag_1],$1  ;
+ MOV [p_turn],$1    | MOV [p_turn],$0    ;
+ MOV EAX,[p_flag_1] | MOV EAX,[p_flag_0] ;
+ CMP EAX,$0         | CMP EAX,$0         ;
+ JE L2              | JE L2              ;
+ MOV EBX,[p_turn]   | MOV EBX,[p_turn]   ;
+ L2: MOV ECX,[n]    | L2: MOV ECX,[n]    ;
+ ADD ECX,$1         | ADD ECX,$1         ;
+ MOV [n],ECX        | MOV [n],ECX        ;
+ MOV [p_flag_0],$0  | MOV [p_flag_1],$0  ;
+locations [p_turn]
+forall (~0:EAX=0 /\\ 0:EBX=1 \\/ ~1:EAX=0 /\\ 1:EBX=0 \\/ n=2)
+`],
+  ["a class with a constructor, and objects by references", `class Flag { public: Flag() : v(0) { on = true; } Flag(const Flag&) = delete; void set(int k) { this->v.store(k, std::memory_order_release); put(k); }
+  int get() const { return v.load(std::memory_order_acquire); } private: void put(int k) { w = k; } std::atomic<int> v; int w; std::atomic<bool> on; };
+int main() { Flag a, b; int r1, r2; auto go = [](Flag& one, Flag* two, int& r) { one.set(1); r = two->get(); };
+  std::thread s(go, std::ref(a), &b, std::ref(r1)), t([&](int k) { b.set(k); r2 = a.get(); }, 2); s.join(); t.join(); if (!r1 && !r2) puts(""); }
+`, `X86 Mine
+(* 0:EAX is a_w, 0:EBX is r1, 1:EAX is b_w, 1:EBX is r2 *)
+{ a_v=0; b_v=0; }
+ P0            | P1            ;
+ MOV [a_v],$1  | MOV [b_v],$2  ;
+ MOV EAX,$1    | MOV EAX,$2    ;
+ MOV EBX,[b_v] | MOV EBX,[a_v] ;
+exists (0:EBX=0 /\\ 1:EBX=0)
+`],
+  ["threads with numbers", `atomic_int flag[2]; atomic_int turn; int r[2];
+void *worker(void *arg) { long id = (long)arg; const int other = id ^ 1; flag[id] = 1; if (id == 0) { turn = other; r[id] = flag[other]; return NULL; } turn = id + 1; r[id] = flag[!id]; return NULL; }
+int main() { pthread_t t[2]; for (int i = 0; i < 2; i++) pthread_create(&t[i], NULL, worker, (void*)i); for (int i = 0; i < 2; i++) pthread_join(t[i], NULL); assert(r[0] || r[1]); }
+`, `X86 Mine
+(* 0:EAX is r_0, 1:EAX is r_1 *)
+{ flag_0=0; flag_1=0; turn=0; }
+ P0                | P1                ;
+ MOV EBX,$1        | MOV EBX,$1        ;
+ XCHG [flag_0],EBX | XCHG [flag_1],EBX ;
+ MOV EBX,$1        | MOV EBX,$2        ;
+ XCHG [turn],EBX   | XCHG [turn],EBX   ;
+ MOV EAX,[flag_1]  | MOV EAX,[flag_0]  ;
+locations [turn]
+~exists (0:EAX=0 /\\ 1:EAX=0)
+`],
+  ["no question, and functions with numbers", `std::atomic<bool> flag[2]; std::atomic<int> turn; int n;
+void lock(int me) { int other = 1 - me; flag[me] = true; turn = other; while (flag[other] && turn == other) ; }
+void unlock(int me) { flag[me] = false; }
+void t0() { lock(0); n++; unlock(0); }
+void t1() { int me = 1; lock(me); n++; unlock(me); }
+`, `X86 Mine
+(* 0:EAX is flag_1 after its loop, 0:EBX is turn after its loop, 1:EAX is flag_0 after its loop, 1:EBX is turn after its loop *)
+{ flag_0=0; flag_1=0; turn=0; n=0; }
+ P0                | P1                ;
+ MOV ECX,$1        | MOV ECX,$1        ;
+ XCHG [flag_0],ECX | XCHG [flag_1],ECX ;
+ MOV ECX,$1        | MOV ECX,$0        ;
+ XCHG [turn],ECX   | XCHG [turn],ECX   ;
+ MOV EAX,[flag_1]  | MOV EAX,[flag_0]  ;
+ CMP EAX,$0        | CMP EAX,$0        ;
+ JE L2             | JE L2             ;
+ MOV EBX,[turn]    | MOV EBX,[turn]    ;
+ L2: MOV ECX,[n]   | L2: MOV ECX,[n]   ;
+ ADD ECX,$1        | ADD ECX,$1        ;
+ MOV [n],ECX       | MOV [n],ECX       ;
+ MOV ECX,$0        | MOV ECX,$0        ;
+ XCHG [flag_0],ECX | XCHG [flag_1],ECX ;
+locations [turn]
+exists ((0:EAX=0 \\/ ~0:EBX=1) /\\ (1:EAX=0 \\/ ~1:EBX=0) /\\ ~n=2)
+`],
+  ["lambdas with numbers", `std::atomic<int> x; int r[2];
+int main() { std::vector<std::thread> ts; for (int i = 0; i < 2; ++i) ts.emplace_back([&, i] { r[i] = x.fetch_add(i + 1); }); for (auto& t : ts) t.join(); assert(r[0] != 1 || r[1] != 1); }
+`, `X86 Mine
+(* 0:EAX is r_0, 1:EAX is r_1 *)
+{ x=0; }
+ P0                | P1                ;
+ MOV EAX,$1        | MOV EAX,$2        ;
+ LOCK XADD [x],EAX | LOCK XADD [x],EAX ;
+locations [x]
+~exists (0:EAX=1 /\\ 1:EAX=1)
+`],
   ["33 instructions", `atomic_int x;\nvoid P0() { ${"x++; ".repeat(17)}}\n// lw: exists (x=1)\n`, "a thread has too many statements"],
   ["nine locations", `atomic_int ${NINE.join(", ")};\nvoid P0() { ${NINE.map((it) => `${it} = 1;`).join(" ")} }\n// lw: exists (a=1)\n`,
     "there are more than 8 locations"],

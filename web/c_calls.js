@@ -1,0 +1,431 @@
+// Writes the functions that a thread of a program in C calls in place of the calls, and numbers in place of parameters. Not proved.
+//
+// The records `Program`, `CThread` and `Part` are those of c_reader.js, and `Statement` is that of c_statements.js.
+// A `Call` has the function that is `called`, a `CThread`, and the codes of its `values`.
+
+import { findClosing, parseDeclaration, refusePart, replaceNames, squeezeCode } from "./c_code.js";
+import { computeConstant, foldConstants } from "./c_constants.js";
+import { ArgumentBinder, isChanged, parseParameters } from "./c_parameters.js";
+import { isCondition, OF_FUNCTIONS, readStatements, removeOuterParentheses, splitOutside } from "./c_statements.js";
+import { OF_LOADS, SPARE } from "./c_values.js";
+import { ThreadWriter } from "./c_thread.js";
+import { REGISTERS, WORD } from "./token_reader.js";
+
+// The code of a function that only returns a value: the group is this.
+const RETURNING = /^\s*return\b\s*([^;{}]+);\s*$/;
+const CALLED = /\b(\w+)\(/g;
+// How many calls may be in one another, and how many a thread may have.
+const DEEPEST = 12;
+const MOST = 200;
+// Longer code is not extended.
+const LONGEST = 4000;
+// In code with pointers that are known: what they point to, an object by a pointer, a member or a method of an object, and a word of an array.
+const POINTED = /\(\s{0,9}\*\s{0,9}&\s{0,9}(\w+)\s{0,9}\)|\*\s{0,9}&\s{0,9}(\w+)/g;
+const CAST = /\*\s{0,9}\(\s{0,9}([\w<>: ]{1,40}?)\s{0,9}\*\s{0,9}\)\s{0,9}(?=&)/g;
+const CAST_OF_NUMBER = /\*\s{0,9}\(\s{0,9}[\w<>: ]{1,40}\*\s{0,9}\)\s{0,9}&/;
+const ARROW = /(?<![\w)\]]\s{0,9})&\s{0,9}(\w+)\s{0,9}->/g;
+const MEMBER = /\b(\w+)\s{0,9}\.\s{0,9}(\w+)(?=\s{0,9}(\()?)/g;
+const INDEX = /\b(\w+)\s{0,9}\[([^\][]{1,80})\]/g;
+const THIS = /\bthis\s{0,9}->\s{0,9}/g;
+const SIBLING = /(?<![.\w>]\s{0,9})\b(\w+)(?=\s{0,9}\()/g;
+// A statement that stores the result of a call: the groups are before it and after it.
+const STORED = [/^(\*?\w+=)()$/, /^(atomic_(?:store|exchange)\w{0,20}\(&\w+,)((?:,memory_order_\w+)?\))$/];
+// A guard of an object: the groups are its name, and the object.
+const GUARD = /^(?:const )?(?:lock_guard|unique_lock|scoped_lock)(?:<\w+>| )(\w+)[({](\w+)[)}]$/;
+const LOCKED = /^(\w+)\.(lock|unlock)\(\)$/;
+const USED = /^\(void\)\w+$/;
+// Why a statement is refused.
+const OF_ARGUMENTS = ": its arguments are constants, variables of the thread, and shared variables of the types of its parameters";
+const OF_HOISTED = ": call a function in a statement of its own, as `int r = f();`";
+const OF_EXITS = ": only the function of the thread itself ends the thread";
+const OF_VALUES = ": this function returns nothing";
+
+/** Returns whether a value is a truth, which is 0 or 1. */
+function isTruth(code) {
+  const inner = removeOuterParentheses(code);
+  return isCondition(inner) || splitOutside(inner, "||").length > 1 || /^(?:[01]|true|false)$/.test(inner);
+}
+
+/** Writes the instructions of a thread, in which functions are in place of their calls. */
+export class CallWriter extends ThreadWriter {
+  /** Makes a writer of a thread, as a `ThreadWriter`. */
+  constructor(program, number, kept) {
+    super(program, number, kept);
+    Object.assign(this, { program: { ...program, variables: this.variables }, called: program.threads[number], callCount: 0, depth: 0 });
+    // The functions whose calls the statement is in, the variables before the innermost one, and what its result is assigned to.
+    this.frames = [];
+    this.outer = new Set();
+    this.target = null;
+    this.hasConstants = false;
+    this.changing = [...program.functions].filter(([, it]) => !program.isHerd && it.parameters.includes("&")).map(([name]) => name.split("__").at(-1));
+  }
+
+  /** Writes all instructions, after those of the parameters of the thread. */
+  writeThread() {
+    const { called } = this;
+    this.statement = called.start ?? called.whole;
+    if (called.values) this.enterFunction(called, called.values);
+    // What started the thread had loaded them before.
+    if (this.accesses.length) refusePart(this.statement, OF_ARGUMENTS);
+    return super.writeThread();
+  }
+
+  /** Gives a function its arguments, and writes the copies of those that it changes. Throws NoTest if they don't fit its parameters. */
+  enterFunction(called, values) {
+    const binder = this.bindArguments(called, values) ?? refusePart(this.statement, OF_ARGUMENTS);
+    if (binder.copies.filter(({ value }) => /[^\w+ -]/.test(value) || this.variables.has(value)).length > 1) this.refuseStatement(OF_LOADS);
+    if (binder.isWide) this.isWide = true;
+    for (const { variable, value } of binder.copies) {
+      const name = this.nameLocal(variable.name);
+      this.locals.add(name);
+      if (variable.limit < WORD) this.limits.set(name, variable.limit);
+      this.assignLocal(name, value);
+      binder.names.set(variable.name, name);
+    }
+    this.names = binder.names;
+    this.hasConstants = binder.hasConstants;
+  }
+
+  /** Returns the binder of arguments that fit the parameters of a function; null if they don't. */
+  bindArguments(called, values) {
+    const binder = new ArgumentBinder(this, called, new Map([...this.program.names, ...(called.members ?? [])]));
+    return binder.bindAll(values) ? binder : null;
+  }
+
+  // Code.
+
+  /** Returns squeezed code with the values of names in place of these, and values of functions in place of those that only return them. */
+  squeeze(code) {
+    return this.expandCalls(this.translate(code, this.names, this.hasConstants));
+  }
+
+  /** Returns squeezed code with the values of names in place of these. */
+  translate(code, names, hasConstants) {
+    if (this.isHerd) return squeezeCode(replaceNames(code, names));
+    const called = code.replace(THIS, "").replace(SIBLING, (name) => names.get(`${name}(`) ?? name);
+    const replaced = this.resolvePlaces(replaceNames(called, names));
+    const squeezed = squeezeCode(replaced);
+    return hasConstants ? foldConstants(squeezed) : squeezed;
+  }
+
+  /** Returns code with the variables that pointers, members of objects and indices of arrays are. */
+  resolvePlaces(code) {
+    const { names, objects, functions, arrays } = this.program;
+    const isOfType = (type, name) => {
+      const [one, other] = [parseDeclaration(`${squeezeCode(type)} it`)[0], this.variables.get(name)];
+      return one && other && one.order === other.order && one.limit === other.limit;
+    };
+    let text = code;
+    if (CAST_OF_NUMBER.test(text)) text = text.replace(CAST, (whole, type, at) => (isOfType(type, /&\s*(\w+)/.exec(text.slice(at))?.[1]) ? "*" : whole));
+    if (text.includes("&")) text = text.replace(POINTED, (_, first, second) => first ?? second).replace(ARROW, "$1.");
+    if (objects.size) {
+      text = text.replace(MEMBER, (whole, object, member, open) => {
+        const method = `${object}__${member}`;
+        return open && functions.has(method) ? method : objects.has(object) ? names.get(`${object}.${member}`) ?? whole : whole;
+      });
+    }
+    return arrays.size ? text.replace(INDEX, (whole, name, index) => names.get(`${name}[${computeConstant(squeezeCode(index))}]`) ?? whole) : text;
+  }
+
+  /** Returns squeezed code with values in place of calls of functions that only return them, if their arguments are as names. */
+  expandCalls(code) {
+    if (!this.functions.size || !code.includes("(") || code.length > LONGEST) return code;
+    const pieces = [];
+    let at = 0;
+    for (const { 0: head, 1: name, index } of code.matchAll(CALLED)) {
+      const open = index + head.length - 1;
+      const end = index < at || !this.functions.has(name) ? -1 : findClosing(code, open);
+      const value = end < 0 ? null : this.findValue(this.functions.get(name), splitArguments(this.expandCalls(code.slice(open + 1, end))));
+      if (value === null) continue;
+      pieces.push(code.slice(at, index), value);
+      at = end + 1;
+    }
+    return pieces.length ? [...pieces, code.slice(at)].join("") : code;
+  }
+
+  /** Returns the code of the value that a function returns, if it does nothing else; otherwise null. */
+  findValue(called, values) {
+    const [, value] = RETURNING.exec(called.code.code) ?? [];
+    if (value === undefined || this.depth >= DEEPEST || this.callCount > MOST) return null;
+    const { limit, isVoid, isWide } = findResult(called);
+    const binder = isVoid || (limit > 2 && limit < WORD) ? null : this.bindArguments(called, values);
+    if (!binder || binder.copies.length) return null;
+    if (isWide || binder.isWide) this.isWide = true;
+    this.depth += 1;
+    this.callCount += 1;
+    const code = this.expandCalls(this.translate(value, binder.names, this.hasConstants || binder.hasConstants));
+    this.depth -= 1;
+    if (code.length > LONGEST) return null;
+    if (limit === 2 && !isTruth(code) && !this.isOfBool(code)) return `((${code})!=0)`;
+    return /^\w+$|^\w+\([^()]*\)$/.test(code) ? code : `(${code})`;
+  }
+
+  /** Returns whether a value is that of a variable that is 0 or 1. */
+  isOfBool(code) {
+    const [, name] = /^(?:atomic_(?:load|exchange)\w{0,20}\(&)?(\w+)\b/.exec(code) ?? [];
+    return /^\w+$|^\w+\([^()]*\)$/.test(code) && (this.variables.get(name)?.limit ?? this.limits.get(name)) === 2;
+  }
+
+  // Calls.
+
+  /** Returns the operation of a call. Throws NoTest if it is none. */
+  parseCall(code) {
+    for (const [, name] of code.matchAll(CALLED)) if (this.functions.has(name)) this.refuseStatement(OF_HOISTED);
+    return super.parseCall(code);
+  }
+
+  /** Returns the call of a function of the program that all of squeezed code is; null if it is none. */
+  findCall(code) {
+    const name = /^\w+(?=\()/.exec(code)?.[0];
+    if (!this.functions.has(name) || findClosing(code, name.length) !== code.length - 1) return null;
+    return { called: this.functions.get(name), values: splitArguments(code.slice(name.length + 1, -1)) };
+  }
+
+  /** Writes the statements of a function in place of its call, whose result a variable gets, unless this is null. */
+  writeCall({ called, values }, target) {
+    this.callCount += 1;
+    if (this.frames.includes(called) || called.code === this.called.code || this.frames.length >= DEEPEST || this.callCount > MOST) this.refuseStatement(OF_FUNCTIONS);
+    const { names, end, exits, outer, statement, hasConstants, outerGuardCount, branches } = this;
+    const inner = new Set(this.locals);
+    const caller = { names, end, exits, outer, statement, hasConstants, outerGuardCount, target: this.target, isOver: false };
+    const count = branches.length;
+    this.enterFunction(called, values);
+    Object.assign(this, { end: this.makeLabel(), exits: [...exits], outer: inner, outerGuardCount: this.guards.length, target });
+    this.frames.push(called);
+    this.writeStatements(readStatements(called.code), true);
+    this.frames.pop();
+    this.known = [...this.exits.slice(exits.length), this.known].reduce((one, other) => (one && other ? new Set([...one].filter((it) => other.has(it))) : one ?? other));
+    this.endFunction();
+    Object.assign(this, caller);
+    branches.length = count;
+    for (const name of this.locals) if (!inner.has(name)) [this.locals, this.limits, this.known].forEach((it) => it.delete(name));
+  }
+
+  /** Writes a statement, which may call a function of the program. */
+  writeSimple(statement, isLast) {
+    if (this.isHerd) return super.writeSimple(statement, isLast);
+    const code = this.translate(this.statement.code, this.names, this.hasConstants).replace(/^\(void\)(?=\w+\()/, "");
+    const call = this.findCall(code);
+    if (call) return this.writeCall(call, null);
+    if (this.frames.length && /^pthread_exit\(/.test(statement)) this.refuseStatement(OF_EXITS);
+    const declared = parseDeclaration(statement);
+    if (declared.length < 2) return super.writeSimple(this.hoistCall(statement), isLast);
+    // The name of each variable may be another one in the values of those after it.
+    const [type] = new RegExp(`^[^,]*?(?=\\b${declared[0].name}\\b)`).exec(this.statement.code) ?? [];
+    const parts = splitOutside(this.statement.code.replace(/<[^<>]*>/g, ""), ",");
+    if (type === undefined || parts.length !== declared.length) return super.writeSimple(statement, isLast);
+    return parts.forEach((it, at) => super.writeSimple(this.squeeze(at ? `${type} ${it}` : it), isLast));
+  }
+
+  /** Writes the call whose result a statement stores. Returns the statement that stores it from a variable; the same statement if it does not. */
+  hoistCall(statement) {
+    if (statement.length > LONGEST) return statement;
+    for (const { 1: name, index } of statement.matchAll(CALLED)) {
+      const end = this.functions.has(name) ? findClosing(statement, index + name.length) + 1 : 0;
+      const before = statement.slice(0, index);
+      const isStored = STORED.some((it) => it.test(before + statement.slice(end))) && !this.locals.has(before.slice(0, -1));
+      if (!end || !isStored) continue;
+      return before + this.writeResult(statement.slice(index, end)) + statement.slice(end);
+    }
+    return statement;
+  }
+
+  /** Writes a call. Returns the name of a new variable that has its result. */
+  writeResult(code) {
+    const call = this.findCall(code);
+    const { limit, isVoid } = findResult(call.called);
+    if (isVoid) this.refuseStatement(OF_VALUES);
+    const name = this.nameLocal(`${call.called.name}_result`);
+    this.locals.add(name);
+    if (limit < WORD) this.limits.set(name, limit);
+    this.writeCall(call, name);
+    return name;
+  }
+
+  /** Writes an `if`, only one of whose branches is reached if its condition is one of constants. */
+  writeBranch(statement, isLast) {
+    const code = this.squeeze(statement.condition);
+    const number = this.hasConstants ? computeConstant(code) : null;
+    if (number === null) super.writeBranch(statement, isLast);
+    else {
+      this.writeBlock(number ? statement.then : statement.otherwise, isLast);
+      this.isOver = !this.known;
+    }
+  }
+
+  /** Returns the squeezed code of a condition, in which the result of a call with which it begins is a variable. */
+  readCondition(condition) {
+    const code = this.squeeze(condition);
+    const begin = code.search(/\w|$/);
+    const name = /^\w+(?=\()/.exec(code.slice(begin))?.[0];
+    const isCalling = (it) => [...it.matchAll(CALLED)].some(([, other]) => this.functions.has(other));
+    if (this.isHerd || !isCalling(code)) return code;
+    if (!this.functions.has(name) || isCalling(code.slice(begin + name.length))) this.refuseStatement(OF_HOISTED);
+    const end = findClosing(code, begin + name.length) + 1;
+    return code.slice(0, begin) + this.writeResult(code.slice(begin, end)) + code.slice(end);
+  }
+
+  /** Writes an assignment to a variable of the thread, which may be of the result of a call. */
+  assignLocal(name, value) {
+    const call = this.isHerd ? null : this.findCall(removeOuterParentheses(value));
+    if (!call) return super.assignLocal(name, value);
+    if (findResult(call.called).isVoid) this.refuseStatement(OF_VALUES);
+    return this.writeCall(call, name);
+  }
+
+  /** Writes a `return` of the thread, or of a function that it calls. */
+  writeReturn(result, isLast) {
+    if (!this.frames.length) return super.writeReturn(result, isLast);
+    const { limit, isVoid, isWide } = findResult(this.frames.at(-1));
+    if (isVoid && result) this.refuseStatement(OF_VALUES);
+    if (isWide) this.isWide = true;
+    if (this.target && result) this.returnTo(this.target, result, limit);
+    else if (result && isCondition(result)) this.writeTruth(result, SPARE);
+    else if (result && !this.findOperand(result)) this.writeValue(result, SPARE);
+    return this.leaveFunction(isLast);
+  }
+
+  /** Assigns what a function returns, whose words are below a limit, to a variable. */
+  returnTo(target, result, limit) {
+    const outer = this.limits.get(target);
+    if (limit < (outer ?? WORD)) this.limits.set(target, limit);
+    this.assignLocal(target, result);
+    if (outer === undefined) this.limits.delete(target);
+    else this.limits.set(target, outer);
+    if (!this.outer.has(result) && this.loaded === result) {
+      this.loaded = target;
+      this.loads.forEach((it) => it.variable === result && Object.assign(it, { variable: target }));
+    }
+  }
+
+  // Variables.
+
+  /** Returns a name of a variable with a register that no other one has that is used here or in a question. */
+  nameLocal(name) {
+    const isFree = (it) => !this.locals.has(it) && !this.fixed.has(it) && !this.variables.has(it);
+    return [name, ...[...REGISTERS.X86, ""].map((_, at) => `${name}_${at + 2}`)].find(isFree) ?? name;
+  }
+
+  /** Returns whether a variable of a name is of the function that is written. */
+  hasLocal(name) {
+    return this.locals.has(name) && !this.outer.has(name);
+  }
+
+  /** Declares a variable: a name for a number that it always has, or a variable with a register, whose name no variable of a caller has. */
+  declareLocal(variable, value) {
+    const { name, limit } = variable;
+    const number = value ? computeConstant(value) : null;
+    if (number !== null && this.isConstant(name)) {
+      this.names.set(name, limit === 2 ? String(Number(number !== 0)) : String(number));
+      this.hasConstants = true;
+      return;
+    }
+    const free = this.frames.length ? this.nameLocal(name) : name;
+    if (free !== name) this.names.set(name, free);
+    super.declareLocal({ ...variable, name: free }, value);
+  }
+
+  /** Returns whether a variable of the function that is written keeps its number, and whether this matters: it is an index, an argument, or of others. */
+  isConstant(name) {
+    const { code } = (this.frames.at(-1) ?? this.called).code;
+    const isIndex = new RegExp(`\\[[^\\][]{0,40}\\b${name}\\b`).test(code);
+    const isArgument = [...code.matchAll(new RegExp(`\\b(\\w+)\\s{0,9}\\([^;(){}]{0,80}\\b${name}\\b`, "g"))].some(([, it]) => this.isCalled(it));
+    const [, ...after] = code.split(new RegExp(`\\b${name}\\b\\s{0,9}(?:=(?!=)|\\{)`));
+    const isAsked = new RegExp(`\\b${name}\\b`).test(this.program.question.code);
+    return (isIndex || isArgument || this.hasConstants) && !isAsked && !this.variables.has(name) && after.length === 1 && !isChanged(name, after[0], this.changing);
+  }
+
+  /** Returns whether a name is that of a function or a method. */
+  isCalled(name) {
+    return this.functions.has(name) || [...this.functions.values()].some((it) => it.name === name);
+  }
+
+  /** Returns the names of its shared variables with registers that it changes, and whose initial words it or its functions may have used before. */
+  listUnset() {
+    const others = (this.called.reached ?? "").slice(this.code.code.length);
+    const isElsewhere = (name) => this.firstValues.has(name) && new RegExp(`\\b${name}\\b`).test(others);
+    return [...super.listUnset(), ...this.own.map((it) => it.name).filter(isElsewhere)];
+  }
+
+  // Locks.
+
+  /** Writes a statement that locks or unlocks a mutex, or an object by its methods. */
+  writeMutex(statement) {
+    const [, guard, object] = GUARD.exec(statement) ?? [];
+    if (!this.program.objects.has(object)) return super.writeMutex(statement);
+    this.writeLock(object);
+    this.guards.push({ guard, guarded: object, mutex: object });
+    return true;
+  }
+
+  /** Writes what locks a mutex or an object. */
+  writeLock(name) {
+    if (!this.writeMethod(name, "lock")) super.writeLock(name);
+  }
+
+  /** Writes what unlocks a mutex or an object. */
+  writeUnlock(name) {
+    if (!this.writeMethod(name, "unlock")) super.writeUnlock(name);
+  }
+
+  /** Writes the call of a method of an object that has it. Returns whether it has. */
+  writeMethod(object, method) {
+    const called = this.functions.get(`${object}__${method}`);
+    if (called) this.writeCall({ called, values: [] }, null);
+    return called !== undefined;
+  }
+
+  /** Returns whether a statement only says that a parameter is not used. */
+  isUseOfParameter(statement) {
+    return super.isUseOfParameter(statement) || (!this.isHerd && USED.test(statement) && this.isNameOfParameter());
+  }
+
+  /** Returns whether the statement names a parameter after `(void)`. */
+  isNameOfParameter() {
+    const name = /(\w+)\s*$/.exec(this.statement.code)?.[1];
+    return parseParameters((this.frames.at(-1) ?? this.called).parameters).some((it) => it.name === name);
+  }
+}
+
+/** Returns the arguments of a call, in squeezed code. */
+function splitArguments(code) {
+  return code ? splitOutside(code, ",") : [];
+}
+
+/** Returns whether a function returns nothing, whether it returns words of 64 bits, and the limit of its words. */
+function findResult({ type }) {
+  const squeezed = squeezeCode(type).replace(/\b(?:constexpr|virtual) /g, "");
+  if (/(?:^| )void$/.test(squeezed)) return { isVoid: true, limit: WORD, isWide: false };
+  const [declared] = parseDeclaration(`${squeezed} it`);
+  return declared && !declared.isPointer ? { isVoid: false, limit: declared.limit, isWide: declared.isWide } : { isVoid: true, limit: WORD, isWide: false };
+}
+
+/** Returns the code of a function, and of those that it calls or may call, by their names. */
+function findReached(program, { code, values = [], name }) {
+  const found = new Map([[name, `${code.code} ${values.join(" ")}`]]);
+  const functions = [...program.functions];
+  for (const text of found.values()) {
+    for (const [key, it] of functions) {
+      if (!found.has(key) && new RegExp(`\\b(?:${key}|${it.name}|${it.objectName ?? key})\\b`).test(text)) found.set(key, replaceNames(it.code.code, new Map(it.members ?? [])));
+    }
+  }
+  return [...found.values()].join("\n");
+}
+
+/**
+ * Returns a program whose threads are those of its functions that no other one calls, if no `main` starts them, and each of which knows the code that it
+ * reaches.
+ * @param {Program} program
+ * @returns {Program}
+ */
+export function linkThreads(program) {
+  const { threads, functions, isHerd } = program;
+  if (isHerd) return program;
+  const codes = [...functions.values()].map((it) => [it.name, it.code.code]);
+  const isCalled = ({ name, isStarted }) => {
+    const call = new RegExp(`(?<![.\\w>])${name}\\s{0,9}\\(`);
+    return !isStarted && !/^P\d$/.test(name) && codes.some(([other, code]) => other !== name && call.test(code));
+  };
+  const all = threads.filter((it) => !isCalled(it));
+  return { ...program, threads: all.map((it) => ({ ...it, reached: findReached(program, it) })) };
+}
