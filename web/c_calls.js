@@ -6,9 +6,10 @@
 import { findClosing, parseDeclaration, refusePart, replaceNames, squeezeCode } from "./c_code.js";
 import { computeConstant, foldConstants } from "./c_constants.js";
 import { ArgumentBinder, isChanged, parseParameters } from "./c_parameters.js";
-import { isCondition, OF_FUNCTIONS, readStatements, removeOuterParentheses, splitOutside } from "./c_statements.js";
+import { isCondition, OF_FUNCTIONS, removeOuterParentheses, splitOutside } from "./c_statements.js";
 import { OF_LOADS, SPARE } from "./c_values.js";
-import { ThreadWriter } from "./c_thread.js";
+import { readStatements } from "./c_loop_reader.js";
+import { LoopWriter } from "./c_loops.js";
 import { REGISTERS, WORD } from "./token_reader.js";
 
 // The code of a function that only returns a value: the group is this.
@@ -30,9 +31,6 @@ const THIS = /\bthis\s{0,9}->\s{0,9}/g;
 const SIBLING = /(?<![.\w>]\s{0,9})\b(\w+)(?=\s{0,9}\()/g;
 // A statement that stores the result of a call: the groups are before it and after it.
 const STORED = [/^(\*?\w+=)()$/, /^(atomic_(?:store|exchange)\w{0,20}\(&\w+,)((?:,memory_order_\w+)?\))$/];
-// A guard of an object: the groups are its name, and the object.
-const GUARD = /^(?:const )?(?:lock_guard|unique_lock|scoped_lock)(?:<\w+>| )(\w+)[({](\w+)[)}]$/;
-const LOCKED = /^(\w+)\.(lock|unlock)\(\)$/;
 const USED = /^\(void\)\w+$/;
 // Why a statement is refused.
 const OF_ARGUMENTS = ": its arguments are constants, variables of the thread, and shared variables of the types of its parameters";
@@ -47,8 +45,8 @@ function isTruth(code) {
 }
 
 /** Writes the instructions of a thread, in which functions are in place of their calls. */
-export class CallWriter extends ThreadWriter {
-  /** Makes a writer of a thread, as a `ThreadWriter`. */
+export class CallWriter extends LoopWriter {
+  /** Makes a writer of a thread, as a `LoopWriter`. */
   constructor(program, number, kept) {
     super(program, number, kept);
     Object.assign(this, { program: { ...program, variables: this.variables }, called: program.threads[number], callCount: 0, depth: 0 });
@@ -349,23 +347,14 @@ export class CallWriter extends ThreadWriter {
 
   // Locks.
 
-  /** Writes a statement that locks or unlocks a mutex, or an object by its methods. */
-  writeMutex(statement) {
-    const [, guard, object] = GUARD.exec(statement) ?? [];
-    if (!this.program.objects.has(object)) return super.writeMutex(statement);
-    this.writeLock(object);
-    this.guards.push({ guard, guarded: object, mutex: object });
-    return true;
-  }
-
   /** Writes what locks a mutex or an object. */
   writeLock(name) {
     if (!this.writeMethod(name, "lock")) super.writeLock(name);
   }
 
   /** Writes what unlocks a mutex or an object. */
-  writeUnlock(name) {
-    if (!this.writeMethod(name, "unlock")) super.writeUnlock(name);
+  writeUnlock(name, isSpin) {
+    if (!this.writeMethod(name, "unlock")) super.writeUnlock(name, isSpin);
   }
 
   /** Writes the call of a method of an object that has it. Returns whether it has. */

@@ -10,6 +10,7 @@ import { startThreads } from "./c_main.js";
 import { formatAssertion, formatFormula, limitQuestion } from "./c_question.js";
 import { checkThreads, readProgram } from "./c_reader.js";
 import { RESULT } from "./c_thread.js";
+import { findAllWords } from "./c_words.js";
 import { guessProposition } from "./guess_question.js";
 import { readTest } from "./tests.js";
 import { WORD } from "./token_reader.js";
@@ -236,6 +237,10 @@ function writeTest(text) {
   const program = linkThreads(startThreads(readProgram(text)));
   checkThreads(program);
   const writers = writeThreads(program);
+  if (writers.some((it) => it.unknownEnds.length)) {
+    const findWords = findAllWords(writers, program.words);
+    for (const it of writers) it.findEnds(findWords);
+  }
   const accesses = writers.flatMap((it) => it.accesses);
   const used = new Set(accesses.map((it) => it.name));
   const asked = askAssertions(program, writers) || translateQuestion(program, writers, used);
@@ -251,7 +256,7 @@ function writeTest(text) {
   const made = alignCells(`X86 ${program.name}\n${comment}{ ${block}}\n${formatRows(writers)}${list}${question}\n`);
   const isWide = checkWide(program, writers, used);
   const isWaiting = writers.some((it) => it.isWaiting);
-  const isLocking = accesses.some((it) => it.isMutex);
+  const isLocking = accesses.some((it) => it.isMutex && !it.isSpin);
   return { made, isGuess: !asked, races: listRaces(accesses), isWaiting, isLocking, isWide, isRepeated: Boolean(program.repeated) };
 }
 

@@ -3,29 +3,19 @@
 //
 // A `Statement` is a `Part` of a program. That of an `if` has its `condition`, and the statements of its branches, `then` and `otherwise`; one in
 // braces has the statements of its `block`. A loop that only waits has its `condition`, the code of what it `assigns`, or "",
-// the names of functions that it `calls`, and the conditions of loops `inner` to it.
+// the names of functions that it `calls`, and the conditions of loops `inner` to it. It `isLate` if it assigns before its condition, or not. A loop
+// of loads has the statements of its `body`, and the condition of its next pass.
 
 import { findClosing, parseConstant, refusePart, squeezeCode } from "./c_code.js";
 
-// The number of statements that a statement may be in.
-const DEEPEST = 64;
+/** The number of statements that a statement may be in. */
+export const DEEPEST = 64;
 const IF = /^if\s*\(/;
 const ELSE = /^else\b/;
 // How statements begin that are refused.
 const LOOP = /^(?:else|while|for|do|switch)\b/;
 const SWITCH = /^switch\b/;
 const HEAD = /^\w+\s*(?=\()/;
-// The body of a loop that only waits, in squeezed code: the group is what it assigns.
-const PAUSE =
-  '(?:continue;|(?:__)?asm(?:__)? (?:__)?volatile(?:__)?\\("pause"(?::::"memory")?\\);)|' +
-  "(?:this_thread::)?\\w{0,40}(?:pause|relax|yield|sleep)\\w{0,40}\\((?:[^();]|\\([^();]*\\))*\\);";
-const PAUSES = new RegExp(`^\\{?(?:${PAUSE})*`);
-const WAITING = new RegExp(`^\\{?(?:;|(\\w+=[^;{}]+);)?(?:${PAUSE})*\\}?$`);
-// The begin of a loop without a condition, up to the parenthesis of its first `if`; and what leaves it.
-const ENDLESS = /^(?:while\s*\(\s*(?:true|1)\s*\)|for\s*\(\s*;\s*;\s*\))\s*\{\s*if\s*\(/;
-const BREAK = /^\s*(?:break\s*;|\{\s*break\s*;\s*\})/;
-const DO = /^do\b/;
-const WHILE = /^\s*while\s*(?=\()/;
 /** Why a loop is refused, as the end of a sentence. */
 export const OF_LOOPS = ": write out each pass of a loop. `tools/from_c.py` follows loops";
 const OF_SWITCH = ": write an `if` for each case";
@@ -157,80 +147,14 @@ export class StatementReader {
     return statement.block ?? [statement].filter((it) => it.code.trim());
   }
 
-  /** Returns the loop here, if it only waits. Throws NoTest at another one, at a `switch`, and at an `else`. */
+  /** Throws NoTest at a loop, at a `switch`, and at an `else`. */
   readLoop() {
-    const loop = this.readWaiting() ?? this.readEndless();
-    if (loop) return loop;
     const { rest } = this;
     const head = HEAD.exec(rest)?.[0].length;
     const length = head ? findClosing(rest, head) + 1 : rest.search(/[;{]|$/);
     const [, why] = [[ELSE, OF_ELSE], [SWITCH, OF_SWITCH]].find(([pattern]) => pattern.test(rest)) ?? [LOOP, OF_LOOPS];
     return refusePart(this.takePart(length), why);
   }
-
-  /** Returns the loop here with its `condition` and what it `assigns` and `calls`; null if it does more than to wait. */
-  readWaiting() {
-    const { rest } = this;
-    const isDo = DO.test(rest);
-    const body = isDo ? findBody(rest, "do".length) : null;
-    const begin = isDo ? body.end : 0;
-    const head = WHILE.exec(rest.slice(begin))?.[0].length;
-    const close = head ? findClosing(rest, begin + head) : -1;
-    if (close < 0) return null;
-    const { code, end } = isDo ? { ...body, end: close + 1 } : findBody(rest, close + 1);
-    const inner = isDo ? null : this.readInner(code);
-    const [found, assigns = ""] = inner ? [""] : WAITING.exec(squeezeCode(code)) ?? [];
-    if (found === undefined) return null;
-    const calls = code.match(/\b\w+(?=\s{0,9}\()/g) ?? [];
-    const { index } = this.takePart(end);
-    return { code: rest.slice(0, close + 1), index, condition: rest.slice(begin + head + 1, close), assigns, calls, inner: inner ? [inner] : [] };
-  }
-
-  /** Returns the loop here, if it has no condition, begins with an `if` that leaves it, and otherwise only waits; null if it does not. */
-  readEndless() {
-    const { rest } = this;
-    const head = ENDLESS.exec(rest)?.[0] ?? "";
-    const open = head.length - 1;
-    const close = head ? findClosing(rest, open) : -1;
-    const end = head ? findClosing(rest, rest.indexOf("{")) : -1;
-    const [left] = BREAK.exec(rest.slice(close + 1, end)) ?? [];
-    if (close < 0 || left === undefined || end < close) return null;
-    const after = rest.slice(close + 1 + left.length, end).trim();
-    const inner = this.readInner(after);
-    if (!inner && !/^\{?\}?$/.test(squeezeCode(after).replace(PAUSES, ""))) return null;
-    const calls = after.match(/\b\w+(?=\s{0,9}\()/g) ?? [];
-    const { index } = this.takePart(end + 1);
-    return { code: rest.slice(0, close + 1), index, condition: `!${rest.slice(open, close + 1)}`, assigns: "", calls, inner: inner ? [inner] : [] };
-  }
-
-  /** Returns the condition of a loop that only waits, which is all that a code has, with braces or without; null if there is none. */
-  readInner(code) {
-    const inside = code.startsWith("{") ? code.slice(1, -1).trim() : code;
-    if (!WHILE.test(inside) || this.depth > DEEPEST) return null;
-    const reader = new StatementReader({ code: inside, index: 0 }, this.depth + 1);
-    const loop = reader.readWaiting();
-    return loop && !loop.assigns && !loop.inner.length && !reader.rest ? loop.condition : null;
-  }
-}
-
-/** Returns the code of a statement or a block that begins at an index, after blanks, and where it ends. */
-function findBody(code, index) {
-  const begin = index + code.slice(index).search(/\S|$/);
-  // The body may be a loop itself, with a body of its own.
-  const [head] = WHILE.exec(code.slice(begin)) ?? [];
-  const close = head ? findClosing(code, begin + head.length) : -1;
-  const inner = close < 0 ? begin : close + 1 + code.slice(close + 1).search(/\S|$/);
-  const end = (code[inner] === "{" ? findClosing(code, inner) : code.indexOf(";", inner)) + 1 || code.length;
-  return { code: code.slice(begin, end), end };
-}
-
-/**
- * Returns the statements of a code. Throws NoTest at a loop that does not only wait, and at a statement that has no end.
- * @param {Part} code
- * @returns {Statement[]}
- */
-export function readStatements(code) {
-  return new StatementReader(code).readAll();
 }
 
 /**

@@ -4,6 +4,8 @@
 
 import { mapAtoms, negateFormula, parseFormula } from "./c_question.js";
 import { defineName, parseConstant, parseDeclaration, refusePart, replaceNames } from "./c_code.js";
+import { LockWriter } from "./c_locks.js";
+import { readStatements } from "./c_loop_reader.js";
 import {
   isCondition,
   OF_CONDITIONS,
@@ -11,11 +13,10 @@ import {
   OF_LOOPS,
   OUTPUT,
   parseCondition,
-  readStatements,
   removeStrings,
   splitOutside,
 } from "./c_statements.js";
-import { explainLimit, isBelow, OF_LOADS, OF_REGISTERS, OF_STEPS, OF_SUBTRACTION, parseStep, SPARE, ValueWriter } from "./c_values.js";
+import { explainLimit, isBelow, OF_LOADS, OF_REGISTERS, OF_STEPS, OF_SUBTRACTION, parseStep, SPARE } from "./c_values.js";
 import { REGISTERS, WORD } from "./token_reader.js";
 
 // The patterns are of squeezed code. First fences, and those of which x86 code has none.
@@ -39,9 +40,6 @@ const AWAITED = /^(?:(\w+)=)?(\*?\w+|atomic_load\w{0,20}\([^()]*\))$/;
 // An exchange in a loop that waits.
 const EXCHANGE = /^atomic_exchange\w{0,20}\([^()]*\)$/;
 const ASSERTION = /^assert\((.*)\)$/;
-// A guard of a mutex: the groups are its name, and the mutex. And a call that locks or unlocks: a mutex or a guard and a verb, or a verb and a mutex.
-const GUARD = /^(?:const )?(?:lock_guard|unique_lock|scoped_lock)(?:<(?:std::)?mutex>| )(\w+)[({](\w+)[)}]$/;
-const LOCK = /^(?:(\w+)\.(lock|unlock)\(\)|(?:pthread_mutex|mtx|pthread_spin)_(lock|unlock)\(&(\w+)\))$/;
 // What an output has besides values: strings, letters, streams, and the end of a line.
 const PRINTED = /^(?:" *"|'.*'|std(?:out|err)|endl|flush|)$/;
 // An assignment: the groups are its place, the sign of `+=` or `-=`, and its value.
@@ -52,16 +50,16 @@ const OF_RETURN = ": a thread that returns a value is `int P0(void)`";
 const OF_RETURN_IN_HERD = ": a thread of herd returns nothing, so set a variable, as `int r0`";
 const OF_SIDES = ": compare with a constant or a variable of the thread";
 const OF_ATOMICS = ": a thread's own variable is not atomic, as `int r0`";
-const OF_BRANCHES = ": a loop that waits is in no branch, and after no `return`";
+/** Why a loop in a branch is refused, as the end of a sentence. */
+export const OF_BRANCHES = ": a loop that waits is in no branch, and after no `return`";
 const OF_FIXED = ": a loop or an assertion has the value of this variable, so set another one";
 const OF_OUTPUT = ": a thread prints variables and constants only";
 const OF_ASSERTIONS = ": an assertion compares variables with constants by `==` or `!=`, joined by `&&` and `||`";
 const OF_BRANCHED = ": an assertion is in no branch, and after no `return`";
-const OF_PLAIN_LOOPS = ": a compiler loads a plain variable only once, so make it atomic or volatile";
+/** Why a loop of a plain variable is refused, as the end of a sentence. */
+export const OF_PLAIN_LOOPS = ": a compiler loads a plain variable only once, so make it atomic or volatile";
 const OF_NAMES = ": give it a name that no other variable has";
 const OF_STATIC = ": a static variable is shared, so declare it outside of functions";
-const OF_MUTEXES = ": only a mutex, as `std::mutex m`, is locked and unlocked";
-const OF_GUARDS = ": a guard is locked and unlocked in no branch";
 // The label at the end of a thread.
 const END = "END";
 /** The variable of what a thread returns, by its name in a question. */
@@ -106,7 +104,7 @@ function negateAtom(atom) {
 }
 
 /** Writes the instructions of a thread, and records what they access. */
-export class ThreadWriter extends ValueWriter {
+export class ThreadWriter extends LockWriter {
   /**
    * Makes a writer of a thread, given its number, and the indices of each `if` whose loads have registers of their own. Nothing is written yet.
    * @param {Program} program
@@ -138,9 +136,7 @@ export class ThreadWriter extends ValueWriter {
     this.waits = [];
     this.isWaiting = false;
     this.pairs = [];
-    // The guards around a statement: their names, the mutexes that they guard, and those that they unlock, or null. Those before the function of the
-    // statement are not unlocked at its `return`, which jumps to a label.
-    this.guards = [];
+    // The number of guards before the function of the statement, whose mutexes are not unlocked at its `return`, which jumps to a label.
     this.outerGuardCount = 0;
     this.end = END;
     // Whether constants say that no run comes to the next statement.
@@ -204,49 +200,6 @@ export class ThreadWriter extends ValueWriter {
     }
     if (this.known) this.unlockGuards(guardCount);
     this.guards.length = guardCount;
-  }
-
-  /** Writes what unlocks the mutexes of guards, from the last one back to the one at an index. */
-  unlockGuards(index) {
-    for (const { mutex } of this.guards.slice(index).reverse()) if (mutex) this.writeUnlock(mutex);
-  }
-
-  /** Writes the exchange that locks a mutex, and the one that unlocks it. Throws NoTest if the name is that of no mutex. */
-  writeLock(name) {
-    if (this.variables.get(name)?.order !== "mutex") this.refuseStatement(OF_MUTEXES);
-    const register = this.findRegister(this.nameVariable(name, "at its lock"));
-    this.writeExchange(name, 1, register);
-    this.addWait({ name: `${this.number}:${register}`, word: 0, isEqual: true });
-  }
-
-  /** Writes the exchange that unlocks a mutex. Throws NoTest if the name is that of no mutex. */
-  writeUnlock(name) {
-    if (this.variables.get(name)?.order !== "mutex") this.refuseStatement(OF_MUTEXES);
-    this.writeExchange(name, 0, SPARE);
-  }
-
-  /** Writes the exchange of a mutex with a word. */
-  writeExchange(name, word, register) {
-    this.accesses.push({ thread: this.number, name, isPlain: false, isRead: true, isWrite: true, limit: 2, isMutex: true, word, added: null });
-    this.writeInstruction(`MOV ${register},$${word}`);
-    this.writeInstruction(`XCHG [${name}],${register}`);
-  }
-
-  /** Writes a statement that locks or unlocks a mutex, itself or by a guard. Returns whether it is one. */
-  writeMutex(statement) {
-    const [, guard, guarded] = GUARD.exec(statement) ?? [];
-    const [, object, method, verb, parameter] = LOCK.exec(statement) ?? [];
-    const name = object ?? parameter;
-    const held = this.guards.find((it) => it.guard === name);
-    if (guard) {
-      this.writeLock(guarded);
-      this.guards.push({ guard, guarded, mutex: guarded });
-    } else if (!name) return false;
-    else if (held && this.branches.length) this.refuseStatement(OF_GUARDS);
-    else if ((method ?? verb) === "lock") this.writeLock(held?.guarded ?? name);
-    else this.writeUnlock(held?.guarded ?? name);
-    if (held) held.mutex = method === "lock" ? held.guarded : null;
-    return true;
   }
 
   /** Writes statements, after which the variables that they declare can't be used. */

@@ -1453,6 +1453,281 @@ int main() { std::vector<std::thread> ts; for (int i = 0; i < 2; ++i) ts.emplace
 locations [x]
 ~exists (0:EAX=1 /\\ 1:EAX=1)
 `],
+  ["no question, and loops that lock by a compare-exchange", `std::atomic<bool> l{false}; int n;
+void P0() { bool expected = false; while (!l.compare_exchange_weak(expected, true, std::memory_order_acquire)) expected = false; n++; l.store(false, std::memory_order_release); }
+void P1() { bool expected = false; while (!l.compare_exchange_strong(expected, true)) { expected = false; _mm_pause(); } n++; l.store(false, std::memory_order_release); }
+`, `X86 Mine
+(* 0:EAX is expected, 1:EAX is expected *)
+{ l=0; n=0; }
+ P0           | P1           ;
+ MOV EAX,$0   | MOV EAX,$0   ;
+ MOV EAX,$1   | MOV EAX,$1   ;
+ XCHG [l],EAX | XCHG [l],EAX ;
+ MOV EBX,[n]  | MOV EBX,[n]  ;
+ ADD EBX,$1   | ADD EBX,$1   ;
+ MOV [n],EBX  | MOV [n],EBX  ;
+ MOV [l],$0   | MOV [l],$0   ;
+locations [l]
+exists (0:EAX=0 /\\ 1:EAX=0 /\\ ~n=2)
+`],
+  ["no question, and a loop by a compare-exchange that does not lock", `std::atomic<bool> l{false}; int n;
+void P0() { bool expected = false; while (!l.compare_exchange_weak(expected, true)) ; n++; l = false; }
+void P1() { n = 2; l = true; }
+`, `X86 Mine
+(* 0:EAX is expected *)
+{ l=0; n=0; }
+ P0           | P1           ;
+ MOV EAX,$0   | MOV [n],$2   ;
+ MOV EAX,$1   | MOV EAX,$1   ;
+ XCHG [l],EAX | XCHG [l],EAX ;
+ MOV EBX,[n]  |              ;
+ ADD EBX,$1   |              ;
+ MOV [n],EBX  |              ;
+ MOV EBX,$0   |              ;
+ XCHG [l],EBX |              ;
+locations [0:EAX; l; n]
+exists (true)
+`],
+  ["no question, and loops by builtins that compare and swap", `volatile int l; int n;
+void P0() { while (!__sync_bool_compare_and_swap(&l, 0, 1)) ; n++; __sync_lock_release(&l); }
+void P1() { while (__sync_val_compare_and_swap(&l, 0, 1) != 0) { __asm__ volatile("pause"); } n++; __sync_lock_release(&l); }
+`, `X86 Mine
+(* 0:EAX is l at its lock, 1:EAX is l at its lock *)
+{ l=0; n=0; }
+ P0           | P1           ;
+ MOV EAX,$1   | MOV EAX,$1   ;
+ XCHG [l],EAX | XCHG [l],EAX ;
+ MOV EBX,[n]  | MOV EBX,[n]  ;
+ ADD EBX,$1   | ADD EBX,$1   ;
+ MOV [n],EBX  | MOV [n],EBX  ;
+ MOV [l],$0   | MOV [l],$0   ;
+locations [l]
+exists (0:EAX=0 /\\ 1:EAX=0 /\\ ~n=2)
+`],
+  ["no question, and a loop that sets what it expects", `atomic_int l; int n;
+void lock(atomic_int *l) { int expected; do { expected = 0; } while (!atomic_compare_exchange_weak(l, &expected, 1)); }
+void P0() { lock(&l); n++; atomic_store(&l, 0); lock(&l); n++; l = 0; }
+void P1() { lock(&l); n++; atomic_store(&l, 0); }
+`, `X86 Mine
+(* 0:EAX is expected, 0:EBX is expected_2, 1:EAX is expected *)
+{ l=0; n=0; }
+ P0           | P1           ;
+ MOV EAX,$1   | MOV EAX,$1   ;
+ XCHG [l],EAX | XCHG [l],EAX ;
+ MOV ECX,[n]  | MOV EBX,[n]  ;
+ ADD ECX,$1   | ADD EBX,$1   ;
+ MOV [n],ECX  | MOV [n],EBX  ;
+ MOV ECX,$0   | MOV EBX,$0   ;
+ XCHG [l],ECX | XCHG [l],EBX ;
+ MOV EBX,$1   |              ;
+ XCHG [l],EBX |              ;
+ MOV ECX,[n]  |              ;
+ ADD ECX,$1   |              ;
+ MOV [n],ECX  |              ;
+ MOV ECX,$0   |              ;
+ XCHG [l],ECX |              ;
+locations [l]
+exists (0:EAX=0 /\\ 0:EBX=0 /\\ 1:EAX=0 /\\ ~n=3)
+`],
+  ["no question, and a loop that declares what it expects", `atomic_int l; int n;
+void lock() { for (;;) { int expected = 0; if (atomic_compare_exchange_weak_explicit(&l, &expected, 1, memory_order_acquire, memory_order_relaxed)) break; cpu_relax(); } }
+void P0() { lock(); n++; atomic_store(&l, 0); }
+void P1() { lock(); n++; atomic_store(&l, 0); }
+`, `X86 Mine
+(* 0:EAX is l at its lock, 1:EAX is l at its lock *)
+{ l=0; n=0; }
+ P0           | P1           ;
+ MOV EAX,$1   | MOV EAX,$1   ;
+ XCHG [l],EAX | XCHG [l],EAX ;
+ MOV EBX,[n]  | MOV EBX,[n]  ;
+ ADD EBX,$1   | ADD EBX,$1   ;
+ MOV [n],EBX  | MOV [n],EBX  ;
+ MOV EBX,$0   | MOV EBX,$0   ;
+ XCHG [l],EBX | XCHG [l],EBX ;
+locations [l]
+exists (0:EAX=0 /\\ 1:EAX=0 /\\ ~n=2)
+`],
+  ["a loop by a compare-exchange of a third word", `atomic_int l; int n;
+void P0() { while (!__sync_bool_compare_and_swap(&l, 0, 1)) ; n++; l = 0; }
+void P1() { while (!__sync_bool_compare_and_swap(&l, 0, 2)) ; n++; l = 0; }
+`, "`while (!__sync_bool_compare_and_swap(&l,..`: a loop that exchanges needs a variable that is only set to the constant that it writes, and to the one at which it ends"],
+  ["loops that add by a compare-exchange", `std::atomic<int> x; int n;
+void P0() { int old = x.load(); while (!x.compare_exchange_weak(old, old + 1)) ; n = old; }
+void P1() { int old = x.load(std::memory_order_relaxed); int next; do { next = old + 2; } while (!x.compare_exchange_weak(old, next, std::memory_order_release, std::memory_order_relaxed)); }
+exists (0:old=0 /\\ 1:old=0)
+`, `X86 Mine
+(* 0:EAX is old, 0:EBX is n, 1:EAX is old, 1:EBX is next *)
+{ x=0; }
+ P0                | P1                ;
+ MOV EAX,[x]       | MOV EAX,[x]       ;
+ MOV EAX,$1        | MOV EAX,$2        ;
+ LOCK XADD [x],EAX | LOCK XADD [x],EAX ;
+ MOV EBX,EAX       | MOV EBX,EAX       ;
+                   | ADD EBX,$2        ;
+locations [x]
+exists (0:EAX=0 /\\ 1:EAX=0)
+`],
+  ["loops that add by builtins", `volatile int x;
+void P0() { int old; do { old = x; } while (!__sync_bool_compare_and_swap(&x, old, old + 1)); }
+void P1() { int old = x; while (!__sync_bool_compare_and_swap(&x, old, old - 1)) old = x; }
+exists (0:old=0 /\\ 1:old=0)
+`, `X86 Mine
+(* 0:EAX is old, 1:EAX is old *)
+{ x=0; }
+ P0                | P1                  ;
+ MOV EAX,$1        | MOV EAX,[x]         ;
+ LOCK XADD [x],EAX | MOV EAX,$4294967295 ;
+                   | LOCK XADD [x],EAX   ;
+locations [x]
+exists (0:EAX=0 /\\ 1:EAX=0)
+`],
+  ["loops that exchange by a compare-exchange", `std::atomic<int> x;
+void P0() { int old = x.load(); while (!x.compare_exchange_weak(old, 5)) ; }
+void P1() { int old = 9; while (!x.compare_exchange_weak(old, 7)) { } }
+exists (0:old=0 /\\ 1:old=0)
+`, `X86 Mine
+(* 0:EAX is old, 1:EAX is old *)
+{ x=0; }
+ P0           | P1           ;
+ MOV EAX,[x]  | MOV EAX,$9   ;
+ MOV EAX,$5   | MOV EAX,$7   ;
+ XCHG [x],EAX | XCHG [x],EAX ;
+locations [x]
+exists (0:EAX=0 /\\ 1:EAX=0)
+`],
+  ["a loop by a compare-exchange that multiplies", `std::atomic<int> x;
+void P0() { int old = x.load(); while (!x.compare_exchange_weak(old, old * 2)) ; }
+void P1() { x = 1; }
+`, "`while (!x.compare_exchange_weak(old, old..`: write out each pass of a loop. `tools/from_c.py` follows loops"],
+  ["a loop of loads", `std::atomic<int> seq{0}, d1, d2;
+void writer() { seq.store(1, std::memory_order_relaxed); std::atomic_thread_fence(std::memory_order_release); d1.store(1, std::memory_order_relaxed); d2.store(1, std::memory_order_relaxed); seq.store(2, std::memory_order_release); }
+void reader() { int s1, s2, a, b; do { s1 = seq.load(std::memory_order_acquire); a = d1.load(std::memory_order_relaxed); b = d2.load(std::memory_order_relaxed); std::atomic_thread_fence(std::memory_order_acquire); s2 = seq.load(std::memory_order_relaxed); } while (s1 != s2 || s1 & 1); }
+exists (1:a=1 /\\ 1:b=0)
+`, `X86 Mine
+(* 1:EAX is s1, 1:EBX is a, 1:ECX is b, 1:EDX is s2 *)
+{ seq=0; d1=0; d2=0; }
+ P0           | P1            ;
+ MOV [seq],$1 | MOV EAX,[seq] ;
+ MOV [d1],$1  | MOV EBX,[d1]  ;
+ MOV [d2],$1  | MOV ECX,[d2]  ;
+ MOV [seq],$2 | MOV EDX,[seq] ;
+exists ((1:EAX=0 /\\ 1:EDX=0 \\/ 1:EAX=2 /\\ 1:EDX=2) /\\ 1:EBX=1 /\\ 1:ECX=0)
+`],
+  ["a loop of loads that continues, with `main`", `std::atomic<unsigned> seq{0}; int d1, d2; int a, b;
+void write(int v) { unsigned s = seq.load(std::memory_order_relaxed); seq.store(s + 1, std::memory_order_relaxed); std::atomic_thread_fence(std::memory_order_release); d1 = v; d2 = v; seq.store(s + 2, std::memory_order_release); }
+void read() { unsigned s; while (true) { s = seq.load(std::memory_order_acquire); if (s & 1) continue; a = d1; b = d2; std::atomic_thread_fence(std::memory_order_acquire); if (seq.load(std::memory_order_relaxed) == s) break; } }
+int main() { std::thread w(write, 1), r(read); w.join(); r.join(); assert(!(a == 1 && b == 0)); }
+`, `X86 Mine
+(* 0:EAX is s, 1:EAX is s, 1:EBX is a, 1:ECX is b, 1:EDX is seq after its loop *)
+{ seq=0; d1=0; d2=0; }
+ P0            | P1            ;
+ MOV EAX,[seq] | MOV EAX,[seq] ;
+ MOV EBX,EAX   | MOV EBX,[d1]  ;
+ ADD EBX,$1    | MOV ECX,[d2]  ;
+ MOV [seq],EBX | MOV EDX,[seq] ;
+ MOV [d1],$1   |               ;
+ MOV [d2],$1   |               ;
+ MOV EBX,EAX   |               ;
+ ADD EBX,$2    |               ;
+ MOV [seq],EBX |               ;
+~exists ((1:EAX=0 /\\ 1:EDX=0 \\/ 1:EAX=2 /\\ 1:EDX=2) /\\ 1:EBX=1 /\\ 1:ECX=0)
+`],
+  ["no question, and a loop in a loop of loads", `std::atomic<unsigned> seq{0}; std::atomic<int> d; 
+void w() { seq++; d = 1; seq++; }
+void r() { unsigned s; int a; do { do { s = seq.load(std::memory_order_acquire); } while (s % 2); a = d.load(std::memory_order_relaxed); } while (s != seq.load(std::memory_order_acquire)); }
+`, `X86 Mine
+(* 1:EAX is s, 1:EBX is a, 1:ECX is seq after its loop *)
+{ seq=0; d=0; }
+ P0                  | P1            ;
+ MOV EAX,$1          | MOV EAX,[seq] ;
+ LOCK XADD [seq],EAX | MOV EBX,[d]   ;
+ MOV EAX,$1          | MOV ECX,[seq] ;
+ XCHG [d],EAX        |               ;
+ MOV EAX,$1          |               ;
+ LOCK XADD [seq],EAX |               ;
+exists ((1:EAX=0 /\\ 1:ECX=0 \\/ 1:EAX=2 /\\ 1:ECX=2) /\\ 1:EBX=0)
+`],
+  ["a loop of a load and a store", `std::atomic<int> x, y;
+void w() { int s; do { s = x; y = 1; } while (s == 0); }
+void r() { x = 1; }
+`, "`do`: write out each pass of a loop. `tools/from_c.py` follows loops"],
+  ["a loop that adds what it loads", `std::atomic<int> x; 
+void w() { int s = 0; do { s += x; } while (s < 3); }
+void r() { x = 1; }
+`, "`s += x`: a loop of loads only sets variables of the thread to what it loads, each once"],
+  ["a loop of a plain load", `int x; std::atomic<int> y; 
+void w() { int s, t; do { s = x; t = y; } while (s != t); }
+void r() { x = 1; y = 1; }
+`, "`do`: a compiler loads a plain variable only once, so make it atomic or volatile"],
+  ["no question, and guards of two mutexes", `std::mutex m1, m2; int a, b;
+void P0() { std::scoped_lock l(m1, m2); a++; b++; }
+void P1() { std::scoped_lock<std::mutex, std::mutex> l(m2, m1); a++; b++; }
+`, `X86 Mine
+(* 0:EAX is m1 at its lock, 0:EBX is m2 at its lock, 1:EAX is m2 at its lock, 1:EBX is m1 at its lock *)
+{ m1=0; m2=0; a=0; b=0; }
+ P0            | P1            ;
+ MOV EAX,$1    | MOV EAX,$1    ;
+ XCHG [m1],EAX | XCHG [m2],EAX ;
+ MOV EBX,$1    | MOV EBX,$1    ;
+ XCHG [m2],EBX | XCHG [m1],EBX ;
+ MOV ECX,[a]   | MOV ECX,[a]   ;
+ ADD ECX,$1    | ADD ECX,$1    ;
+ MOV [a],ECX   | MOV [a],ECX   ;
+ MOV ECX,[b]   | MOV ECX,[b]   ;
+ ADD ECX,$1    | ADD ECX,$1    ;
+ MOV [b],ECX   | MOV [b],ECX   ;
+ MOV ECX,$0    | MOV ECX,$0    ;
+ XCHG [m2],ECX | XCHG [m1],ECX ;
+ MOV ECX,$0    | MOV ECX,$0    ;
+ XCHG [m1],ECX | XCHG [m2],ECX ;
+exists (0:EAX=0 /\\ 0:EBX=0 /\\ 1:EAX=0 /\\ 1:EBX=0 /\\ (~a=2 \\/ ~b=2))
+`],
+  ["no question, and locks of two mutexes, and guards of these", `std::mutex m1, m2; int a, b;
+void P0() { std::lock(m1, m2); std::lock_guard<std::mutex> g1(m1, std::adopt_lock); std::lock_guard<std::mutex> g2(m2, std::adopt_lock); a++; }
+void P1() { std::unique_lock<std::mutex> g1(m2, std::defer_lock); std::unique_lock<std::mutex> g2(m1, std::defer_lock); std::lock(g1, g2); a++; }
+`, `X86 Mine
+(* 0:EAX is m1 at its lock, 0:EBX is m2 at its lock, 1:EAX is m2 at its lock, 1:EBX is m1 at its lock *)
+{ m1=0; m2=0; a=0; }
+ P0            | P1            ;
+ MOV EAX,$1    | MOV EAX,$1    ;
+ XCHG [m1],EAX | XCHG [m2],EAX ;
+ MOV EBX,$1    | MOV EBX,$1    ;
+ XCHG [m2],EBX | XCHG [m1],EBX ;
+ MOV ECX,[a]   | MOV ECX,[a]   ;
+ ADD ECX,$1    | ADD ECX,$1    ;
+ MOV [a],ECX   | MOV [a],ECX   ;
+ MOV ECX,$0    | MOV ECX,$0    ;
+ XCHG [m2],ECX | XCHG [m1],ECX ;
+ MOV ECX,$0    | MOV ECX,$0    ;
+ XCHG [m1],ECX | XCHG [m2],ECX ;
+exists (0:EAX=0 /\\ 0:EBX=0 /\\ 1:EAX=0 /\\ 1:EBX=0 /\\ ~a=2)
+`],
+  ["no question, and spin locks of pthreads", `pthread_spinlock_t s; int n; volatile int x, y;
+void P0() { pthread_spin_lock(&s); n++; pthread_spin_unlock(&s); int r0 = x; }
+void P1() { pthread_spin_lock(&s); n++; pthread_spin_unlock(&s); x = 1; }
+`, `X86 Mine
+(* 0:EAX is s at its lock, 0:EBX is r0, 1:EAX is s at its lock *)
+{ s=0; n=0; x=0; }
+ P0           | P1           ;
+ MOV EAX,$1   | MOV EAX,$1   ;
+ XCHG [s],EAX | XCHG [s],EAX ;
+ MOV ECX,[n]  | MOV EBX,[n]  ;
+ ADD ECX,$1   | ADD EBX,$1   ;
+ MOV [n],ECX  | MOV [n],EBX  ;
+ MOV [s],$0   | MOV [s],$0   ;
+ MOV EBX,[x]  | MOV [x],$1   ;
+locations [0:EBX]
+exists (0:EAX=0 /\\ 1:EAX=0 /\\ ~n=2)
+`],
+  ["a guard of two objects", `struct L { std::atomic<bool> f{false}; void lock() { while (f.exchange(true)); } void unlock() { f = false; } };
+L l, k; int n;
+void P0() { std::scoped_lock g(l, k); n++; }
+void P1() { l.lock(); n++; l.unlock(); }
+`, "`std::scoped_lock g(l, k)`: of several locks each is a mutex, as `std::mutex m`"],
+  ["a loop of loads of a word that is not known", `std::atomic<int> seq{0}; std::atomic<int> d;
+void w() { int s = seq; s += s; s += 3; seq = s; }
+void r() { int a, b; do { a = seq.load(std::memory_order_acquire); b = d; } while (a * a / 3 != b + (a && b ? 1 : 2)); }
+`, "`do`: no question of constants says when this loop ends"],
   ["33 instructions", `atomic_int x;\nvoid P0() { ${"x++; ".repeat(17)}}\n// lw: exists (x=1)\n`, "a thread has too many statements"],
   ["nine locations", `atomic_int ${NINE.join(", ")};\nvoid P0() { ${NINE.map((it) => `${it} = 1;`).join(" ")} }\n// lw: exists (a=1)\n`,
     "there are more than 8 locations"],

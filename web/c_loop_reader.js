@@ -1,0 +1,142 @@
+// Reads the loops of a thread of a program in C: those that only wait, and those that load until their loads fit together. Not proved.
+//
+// The records `Part` and `Statement` are those of c_reader.js and c_statements.js.
+
+import { findClosing, squeezeCode } from "./c_code.js";
+import { DEEPEST, StatementReader } from "./c_statements.js";
+
+// The body of a loop that only waits, in squeezed code: the group is what it assigns.
+const PAUSE =
+  '(?:continue;|(?:__)?asm(?:__)? (?:__)?volatile(?:__)?\\("pause"(?::::"memory")?\\);)|' +
+  "(?:this_thread::)?\\w{0,40}(?:pause|relax|yield|sleep)\\w{0,40}\\((?:[^();]|\\([^();]*\\))*\\);";
+const PAUSES = new RegExp(`^\\{?(?:${PAUSE})*`);
+const WAITING = new RegExp(`^\\{?(?:;|(\\w+=[^;{}]+);)?(?:${PAUSE})*\\}?$`);
+// The begin of a loop without a condition, up to the parenthesis of its first `if`; and what leaves it.
+const ENDLESS_HEAD = /^(?:while\s*\(\s*(?:true|1)\s*\)|for\s*\(\s*;\s*;\s*\))/;
+const ENDLESS = new RegExp(`${ENDLESS_HEAD.source}\\s*\\{\\s*(?:(?:bool|int|auto|unsigned)\\s+(\\w+\\s*=\\s*\\w+)\\s*;\\s*)?if\\s*\\(`);
+const BREAK = /^\s*(?:break\s*;|\{\s*break\s*;\s*\})/;
+// A branch that leaves a loop or a pass, and what a loop sets before it looks: the group is the assignment.
+const LEAVING = /^\s*(?:continue|break)\s*$/;
+const SETTING = /^\{\s*(\w+\s*=\s*\w+)\s*;(?=\s*while\b)/;
+const DO = /^do\b/;
+const WHILE = /^\s*while\s*(?=\()/;
+
+/** Reads the statements of a thread. */
+class ThreadReader extends StatementReader {
+  /** Returns the loop here, if it only waits or loads. Throws NoTest at another one, at a `switch`, and at an `else`. */
+  readLoop() {
+    return this.readWaiting() ?? this.readEndless() ?? this.readPass() ?? super.readLoop();
+  }
+
+  /** Returns the loop here with its `condition` and what it `assigns` and `calls`; null if it does more than to wait. */
+  readWaiting() {
+    const { rest } = this;
+    const isDo = DO.test(rest);
+    const body = isDo ? findBody(rest, "do".length) : null;
+    const begin = isDo ? body.end : 0;
+    const head = WHILE.exec(rest.slice(begin))?.[0].length;
+    const close = head ? findClosing(rest, begin + head) : -1;
+    if (close < 0) return null;
+    const { code, end } = isDo ? { ...body, end: close + 1 } : findBody(rest, close + 1);
+    const [set = "", setting = ""] = isDo ? [] : SETTING.exec(code) ?? [];
+    const inner = isDo ? null : this.readInner(set ? `{${code.slice(set.length)}` : code);
+    const [found, assigns = ""] = inner ? ["", setting] : WAITING.exec(squeezeCode(code)) ?? [];
+    if (found === undefined) return null;
+    const calls = code.match(/\b\w+(?=\s{0,9}\()/g) ?? [];
+    const { index } = this.takePart(end);
+    const condition = rest.slice(begin + head + 1, close);
+    return { code: rest.slice(0, close + 1), index, condition, assigns, calls, inner: inner ? [inner] : [], isLate: isDo };
+  }
+
+  /** Returns the loop here, if it has no condition, begins with an `if` that leaves it, and otherwise only waits; null if it does not. */
+  readEndless() {
+    const { rest } = this;
+    const head = ENDLESS.exec(rest)?.[0] ?? "";
+    const open = head.length - 1;
+    const close = head ? findClosing(rest, open) : -1;
+    const end = head ? findClosing(rest, rest.indexOf("{")) : -1;
+    const [left] = BREAK.exec(rest.slice(close + 1, end)) ?? [];
+    if (close < 0 || left === undefined || end < close) return null;
+    const after = rest.slice(close + 1 + left.length, end).trim();
+    const inner = this.readInner(after);
+    if (!inner && !/^\{?\}?$/.test(squeezeCode(after).replace(PAUSES, ""))) return null;
+    const calls = after.match(/\b\w+(?=\s{0,9}\()/g) ?? [];
+    const { index } = this.takePart(end + 1);
+    const assigns = ENDLESS.exec(rest)[1] ?? "";
+    return { code: rest.slice(0, close + 1), index, condition: `!${rest.slice(open, close + 1)}`, assigns, calls, inner: inner ? [inner] : [], isLate: true };
+  }
+
+  /** Returns the loop here with the statements of its `body` and the `condition` of its next pass; null if there are others in these. */
+  readPass() {
+    const { rest } = this;
+    const head = DO.exec(rest)?.[0] ?? ENDLESS_HEAD.exec(rest)?.[0] ?? "";
+    const open = head.length + rest.slice(head.length).search(/\S|$/);
+    const close = head && rest[open] === "{" ? findClosing(rest, open) : -1;
+    const after = close < 0 ? "" : WHILE.exec(rest.slice(close + 1))?.[0] ?? "";
+    const end = head !== "do" ? close : after ? findClosing(rest, close + 1 + after.length) : -1;
+    if (end < 0 || this.depth > DEEPEST) return null;
+    const condition = head === "do" ? rest.slice(close + 1 + after.length, end + 1) : "";
+    const pass = makePass(this.readBody({ code: rest.slice(open + 1, close), index: this.index + this.at + open + 1 }), condition);
+    return pass && { code: head, index: this.takePart(end + 1).index, ...pass };
+  }
+
+  /** Returns the statements of a loop; none if one is none that is rewritten. */
+  readBody(code) {
+    try {
+      return new this.constructor(code, this.depth + 1).readAll();
+    } catch {
+      return [];
+    }
+  }
+
+  /** Returns the condition of a loop that only waits, which is all that a code has, with braces or without; null if there is none. */
+  readInner(code) {
+    const inside = code.startsWith("{") ? code.slice(1, -1).trim() : code;
+    if (!WHILE.test(inside) || this.depth > DEEPEST) return null;
+    const reader = new this.constructor({ code: inside, index: 0 }, this.depth + 1);
+    const loop = reader.readWaiting();
+    return loop && !loop.assigns && !loop.inner.length && !reader.rest ? loop.condition : null;
+  }
+}
+
+/**
+ * Returns the `body` and the `condition` of a loop of loads, given its statements and the condition after these, or "": the condition of each statement
+ * that leaves a pass is one of the next pass, and so is that of a loop in the pass. Null if it has other statements.
+ */
+function makePass(statements, condition) {
+  const body = [];
+  const conditions = condition ? [condition] : [];
+  for (const it of statements) {
+    const [left, ...others] = it.then ?? [];
+    const isLast = it === statements.at(-1);
+    const isLeaving = left && !condition && !others.length && !it.otherwise.length && LEAVING.test(left.code) && /break/.test(left.code) === isLast;
+    if (isLeaving) conditions.push(`${isLast ? "!" : ""}(${it.condition})`);
+    else if (it.assigns && it.isLate) {
+      body.push({ code: it.assigns, index: it.index });
+      conditions.push(`(${it.condition})`);
+    } else if (it.block || it.then || it.condition !== undefined) return null;
+    else body.push(it);
+  }
+  const isEnding = condition || (statements.at(-1)?.then && conditions.length);
+  return isEnding && body.length ? { body, condition: conditions.join(" || ") } : null;
+}
+
+/** Returns the code of a statement or a block that begins at an index, after blanks, and where it ends. */
+function findBody(code, index) {
+  const begin = index + code.slice(index).search(/\S|$/);
+  // The body may be a loop itself, with a body of its own.
+  const [head] = WHILE.exec(code.slice(begin)) ?? [];
+  const close = head ? findClosing(code, begin + head.length) : -1;
+  const inner = close < 0 ? begin : close + 1 + code.slice(close + 1).search(/\S|$/);
+  const end = (code[inner] === "{" ? findClosing(code, inner) : code.indexOf(";", inner)) + 1 || code.length;
+  return { code: code.slice(begin, end), end };
+}
+
+/**
+ * Returns the statements of a code. Throws NoTest at a loop that does not only wait or load, and at a statement that has no end.
+ * @param {Part} code
+ * @returns {Statement[]}
+ */
+export function readStatements(code) {
+  return new ThreadReader(code).readAll();
+}
