@@ -21,7 +21,7 @@ const CLOSING = { "(": ")", "{": "}", "[": "]" };
 const DECLARATION =
   new RegExp(
     "^((?:(?:static|extern|inline|const|volatile|auto|(?:un)?signed|int|long|short|char|s?size_t|u?int(?:8|16|32|64|ptr)_t|_?[Bb]ool|_Atomic|" +
-      "atomic(?:_(?:u?int(?:(?:8|16|32|64|ptr)_t)?|bool|flag|u?l?long|[us]?char|u?short|size_t))?)\\b ?|[<>()])+)(\\*?)([A-Za-z_].*)$",
+      "atomic(?:_(?:u?int(?:(?:8|16|32|64|ptr)_t)?|bool|flag|u?l?long|[us]?char|u?short|size_t|t))?)\\b ?|[<>()])+)(\\*?)([A-Za-z_].*)$",
   );
 // In such a type, what has 64 bits, and what has 8 or 16. Words of the latter are below a limit, so that their signs do not matter.
 export const WIDE = /(?:^|\W|_)(?:u?l?long|s?size_t|u?int(?:64|ptr)_t)\b/;
@@ -29,10 +29,10 @@ const SMALL = /(?:^|\W|_)(?:[us]?char|u?short|u?int(?:8|16)_t)\b/;
 const SMALL_LIMIT = 128;
 // A variable in a declaration: the groups are its name, and its initial value after `=`, or in braces or parentheses.
 const DECLARATOR = /^(\w+(?:\[\d\](?==))?)(?:=(?!\{)(.+)|=?[{(](.*)[})])?$/;
-// A declaration of mutexes in squeezed code: the group is their names. And an array in a declaration: the groups are its name, the number of its
+// A declaration of mutexes in squeezed code: the groups are a `*` and their names. And an array in a declaration: the groups are its name, the number of its
 // words, and their initial values.
 const MUTEXES =
-  /^(?:(?:static|extern|inline|mutable) )*(?:mutex|mtx_t|pthread_(?:mutex_t|spinlock_t)) (\w+(?:,\w+)*)(?:=PTHREAD_MUTEX_INITIALIZER|\{\})?$/;
+  /^(?:(?:static|extern|inline|mutable) )*(?:mutex|mtx_t|spinlock_t|pthread_(?:mutex_t|spinlock_t))(?: |(\*))(\w+(?:,\w+)*)(?:=PTHREAD_MUTEX_INITIALIZER|\{\})?$/;
 const ARRAY = /^(\w+)\[([1-9])\](?:=?\{(.*)\})?$/;
 // A constant of C that is in base 10 or 16. (One in base 8 is none here.)
 const CONSTANT_OF_C = /^(-?[1-9]\d*|0|0x[\da-f]+)(?:ul{0,2}|l{1,2}u?)?$/i;
@@ -110,7 +110,10 @@ export function squeezeCode(code) {
     .replace(/\batomic_flag_(test_and_set|clear|test)(?:_explicit)?\((&?\w+)([,)])/g, (_, method, name, end) => convertFlag(method, name, end))
     .replace(/\b(READ|WRITE)_ONCE\((\*?)/g, (_, macro, star) => `atomic_${macro === "READ" ? "load" : "store"}_relaxed(${star ? "" : "&"}`)
     .replace(/\bsmp_(load_acquire|store_release)\(/g, "atomic_$1(")
-    .replace(/\bxchg\(/g, "atomic_exchange(");
+    .replace(/\bsmp_store_mb\((\*?)/g, (_, star) => `atomic_exchange(${star ? "" : "&"}`)
+    .replace(/\batomic_(read|set)\((?!\*)/g, (_, verb) => `atomic_${verb === "read" ? "load" : "store"}_relaxed(`)
+    .replace(/\batomic_(inc|dec)\((&?\w+)\)/g, (_, verb, name) => `atomic_fetch_${verb === "inc" ? "add" : "sub"}(${name},1)`)
+    .replace(/\bxchg(?:_relaxed|_acquire|_release)?\(/g, "atomic_exchange(");
 }
 
 /** Returns squeezed code in which functions of gcc and clang that access variables are those of C. */
@@ -193,8 +196,8 @@ export function parseConstant(code) {
  * @returns {Declaration[]}
  */
 export function parseDeclaration(code) {
-  const [, mutexes] = MUTEXES.exec(code) ?? [];
-  if (mutexes) return mutexes.split(",").map((name) => ({ name, value: undefined, isPointer: false, limit: 2, isWide: false, order: "mutex" }));
+  const [, pointer, mutexes] = MUTEXES.exec(code) ?? [];
+  if (mutexes) return mutexes.split(",").map((name) => ({ name, value: undefined, isPointer: pointer !== undefined, limit: 2, isWide: false, order: "mutex" }));
   const [, type, star, variables = ""] = DECLARATION.exec(code) ?? [];
   const declarators = splitDeclarators(variables).flatMap(listElements).map((it) => DECLARATOR.exec(it));
   if (!declarators.every(Boolean)) return [];

@@ -5,7 +5,7 @@ import { SPARE, ValueWriter } from "./c_values.js";
 // The patterns are of squeezed code. A guard: the groups are its name, and its arguments. A call that locks or unlocks: a mutex or a guard and a verb, or a
 // verb and a mutex. And a call that locks several ones: the group is their names.
 const GUARD = /^(?:const )?(?:lock_guard|unique_lock|scoped_lock)(?:<(?:\w+(?:,\w+)*)?>| )(\w+)[({](\w+(?:,\w+)*)[)}]$/;
-const LOCK = /^(?:(\w+)\.(lock|unlock)\(\)|(?:pthread_mutex|mtx)_(lock|unlock)\(&(\w+)\)|pthread_spin_(lock|unlock)\(&(\w+)\))$/;
+const LOCK = /^(?:(\w+)\.(lock|unlock)\(\)|(?:pthread_mutex|mtx)_(lock|unlock)\(&(\w+)\)|(?:pthread_)?spin_(lock|unlock)\(&?(\w+)\))$/;
 const LOCKS = /^lock\((\w+(?:,\w+)+)\)$/;
 // What says that a guard does not lock: its mutex is locked, or will be.
 const TAG = /^(?:adopt|defer)_lock$/;
@@ -35,7 +35,7 @@ export class LockWriter extends ValueWriter {
     this.addWait({ name: `${this.number}:${register}`, word: 0, isEqual: true });
   }
 
-  /** Writes the exchange that unlocks a mutex, or the store that unlocks a spin lock of pthreads. Throws NoTest if the name is that of no mutex. */
+  /** Writes the exchange that unlocks a mutex, or the store that unlocks a spin lock. Throws NoTest if the name is that of no mutex. */
   writeUnlock(name, isSpin = false) {
     if (this.variables.get(name)?.order !== "mutex") this.refuseStatement(OF_MUTEXES);
     if (!isSpin) this.writeExchange(name, 0, SPARE);

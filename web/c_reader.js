@@ -30,8 +30,9 @@ import {
 } from "./c_code.js";
 import { blankComments } from "./tokens.js";
 
-// How a test of herd begins. (The first word of one in C may be wrong.)
+// How a test of herd begins. (The first word of one in C may be wrong.) And one without its first line: the group is what is in its block.
 const HERD = /^\s*(?:C|X86|SRC)\s/;
+const BARE = /^\s*(?:\{([^{}]*)\}\s*)?(?:(?:static\s+)?void\s+)?P0\s*\([^(){};]*\*[^(){};]*\)\s*\{/;
 // The heading of a test of herd and its block: the groups are its name, and what is in the block.
 const HEADING = /^\s*(?:C|X86|SRC)\s+([^\s{]+)[^{(]*\{([^}]*)\}/;
 // A comment in C: the groups are the question in a line and that in a block. MARK of tools/c/source.py finds the same, also after a second `//`.
@@ -81,7 +82,7 @@ class ProgramReader {
   /** @param {string} text */
   constructor(text) {
     this.text = text;
-    this.isHerd = HERD.test(text);
+    this.isHerd = HERD.test(text) || BARE.test(text.replace(COMMENT, ""));
     this.rest = text;
     this.name = "Mine";
     this.words = new Map();
@@ -137,7 +138,10 @@ class ProgramReader {
 
   /** Reads the name and the initial values of a test of herd. */
   readHeading() {
-    const [heading, name, block] = HEADING.exec(this.rest) ?? refusePart(this.cutPart(this.rest.length), OF_HEADING);
+    const isBare = !HERD.test(this.rest);
+    const [, values = ""] = BARE.exec(this.rest) ?? [];
+    const bare = [values && this.rest.slice(0, this.rest.indexOf("}") + 1), this.name, values];
+    const [heading, name, block] = isBare ? bare : HEADING.exec(this.rest) ?? refusePart(this.cutPart(this.rest.length), OF_HEADING);
     this.name = name;
     for (const entry of splitCode({ code: block, index: this.index + heading.indexOf("{") + 1 }, ";").filter((it) => it.code.trim())) {
       const [, variable, value = "0"] = ENTRY.exec(squeezeCode(entry.code)) ?? refusePart(entry, OF_ENTRIES);

@@ -14,13 +14,15 @@ const OTHERS = /^(?:AArch64|ARM|PPC|RISCV|MIPS)$/i;
 // The blanks and comments before a program in C, and how it begins.
 const C_COMMENTS = /^(?:\s|\/\/.*|\/\*[^]*?\*\/)*/;
 const C = new RegExp(
-  "^(?:C\\s|#[ \\t]*(?:include|define|pragma|if|ifdef|ifndef)\\b|using\\s|(?:inline\\s+)?namespace\\b|extern\\s+\"C|alignas\\b|template\\b|typedef\\s|\\[\\[|" +
+  "^(?:C\\s|(?:\\{[^{}]*\\}\\s*)?P0\\s*\\([^(){};|]*\\*[^(){};|]*\\)\\s*\\{|#[ \\t]*(?:include|define|pragma|if|ifdef|ifndef)\\b|using\\s|(?:inline\\s+)?namespace\\b|extern\\s+\"C|alignas\\b|template\\b|typedef\\s|\\[\\[|" +
     "(?:(?:extern|static|inline|volatile|const|constexpr|thread_local|_Atomic)\\s+)*" +
     "(?:(?:atomic_\\w+|int|void|(?:un)?signed|long|short|char|s?size_t|bool|auto|struct|u?int(?:\\d+|ptr)_t|pthread_\\w+_t|mtx_t)\\s|" +
     "atomic<|std::|_Atomic\\())",
 );
 const OF_C = "`tools/from_c.py` compiles programs in C, C++ and Rust, and herd's tests in C";
 const OF_PROGRAM = " For that its threads are functions `P0`, `P1` and so on without parameters, and its last line asks, as `// lw: exists (0:r0=0)` does.";
+const OF_FIRST_LINE = " Its first line is `C mine` then.";
+const OF_FIRST_LINES = " Its first lines are `C mine` and `{}` then.";
 const OF_FIRST_WORD = " Its first word is `C` then.";
 const OF_GUESS = " The question is a guess: change it to yours.";
 const OF_BUTTON =
@@ -61,7 +63,9 @@ function explainProgram(words, text, place) {
   const command = `python3 tools/from_c.py --show ${file}`;
   const once = /_ONCE\b/.test(text) ? " (In place of `READ_ONCE(*x)` it takes `atomic_load_explicit(x, memory_order_relaxed)`.)" : "";
   const [, first] = /^\s*(C|X86|SRC)\s/.exec(text) ?? [];
-  const form = first === "C" ? "" : first ? OF_FIRST_WORD : OF_PROGRAM;
+  const [front, block] = /^\s*(\{[^{}]*\})?\s*P0\b/.exec(text.replace(C_COMMENTS, "")) ?? [];
+  const whole = front === undefined ? OF_PROGRAM : block ? OF_FIRST_LINE : OF_FIRST_LINES;
+  const form = first === "C" ? "" : first ? OF_FIRST_WORD : whole;
   const how = `${OF_C}: save this as \`${file}\`, then \`${command}\` prints a test for this page.${form}${once}`;
   const hint = { more: how, document: "from-c.html", command };
   if (RUST.test(text)) return { words: `${words} ${IS_READ}`, ...hint };

@@ -631,6 +631,7 @@ function comparePrograms(page, compare) {
   compare("a text that is no program has another hint", null, page.other_tools.findOtherLanguage({ text: "X86 A", index: 0, token: "X86" }));
 }
 
+const BARE = "P0(atomic_int *x) { *x = 1; }\nP1(atomic_int *x) { int r0 = *x; }\nexists (1:r0=0)\n";
 const LOOP = PROGRAM.split("//")[0].replace("int r0 = y;", "while (y) ;");
 const SB = "exists (0:EAX=0 /\\ 1:EAX=0)\n";
 const BLOCK = "{ x=0; y=0; }\n";
@@ -1728,6 +1729,47 @@ void P1() { l.lock(); n++; l.unlock(); }
 void w() { int s = seq; s += s; s += 3; seq = s; }
 void r() { int a, b; do { a = seq.load(std::memory_order_acquire); b = d; } while (a * a / 3 != b + (a && b ? 1 : 2)); }
 `, "`do`: no question of constants says when this loop ends"],
+  ["herd's form without its first line", `/* One. */
+{ x=0; v=2; }
+P0(int *x, int *y, spinlock_t *s)
+{
+	spin_lock(s);
+	WRITE_ONCE(*x, 1);
+	spin_unlock(s);
+	smp_store_mb(*y, 1);
+}
+
+P1(int *x, int *y, spinlock_t *s, atomic_t *v)
+{
+	int r0;
+	int r1;
+	atomic_inc(v);
+	r1 = smp_load_acquire(y);
+	spin_lock(s);
+	r0 = READ_ONCE(*x);
+	spin_unlock(s);
+	r1 = atomic_read(v);
+	r1 = xchg_acquire(y, 2);
+}
+
+exists (1:r0=0 /\\ 1:r1=1)
+`, `X86 Mine
+(* 0:EAX is s at its lock, 1:EAX is r1, 1:EBX is s at its lock, 1:ECX is r0 *)
+{ x=0; v=2; y=0; s=0; }
+ P0           | P1                ;
+ MOV EAX,$1   | MOV EDX,$1        ;
+ XCHG [s],EAX | LOCK XADD [v],EDX ;
+ MOV [x],$1   | MOV EAX,[y]       ;
+ MOV [s],$0   | MOV EBX,$1        ;
+ MOV EBX,$1   | XCHG [s],EBX      ;
+ XCHG [y],EBX | MOV ECX,[x]       ;
+              | MOV [s],$0        ;
+              | MOV EAX,[v]       ;
+              | MOV EAX,$2        ;
+              | XCHG [y],EAX      ;
+locations [y]
+exists (0:EAX=0 /\\ 1:EBX=0 /\\ 1:ECX=0 /\\ 1:EAX=1)
+`],
   ["33 instructions", `atomic_int x;\nvoid P0() { ${"x++; ".repeat(17)}}\n// lw: exists (x=1)\n`, "a thread has too many statements"],
   ["nine locations", `atomic_int ${NINE.join(", ")};\nvoid P0() { ${NINE.map((it) => `${it} = 1;`).join(" ")} }\n// lw: exists (a=1)\n`,
     "there are more than 8 locations"],
@@ -1765,6 +1807,8 @@ const HINTS = [
   ["a test of herd", WHOLE[0][1], `${BEGIN}${BUTTON}`,
     "`python3 tools/from_c.py --show SB+a.c` prints a test for this page. (In place of `READ_ONCE(*x)` it takes " +
     "`atomic_load_explicit(x, memory_order_relaxed)`.)"],
+  ["a test of herd without its first lines", BARE, `${BEGIN}${BUTTON}`, "Its first lines are `C mine` and `{}` then."],
+  ["a test of herd without its first line", `{ x=1; }\n${BARE}`, `${BEGIN}${BUTTON}`, "Its first line is `C mine` then."],
   ["the first word X86", WHOLE[2][1], `${FIRST}${BUTTON}`,
     "`python3 tools/from_c.py --show SB.cc` prints a test for this page. Its first word is `C` then."],
   ["a loop", LOCK, `${WOULD} but not ${OF_LOCKS}.`, "does.", [2, 24]],
