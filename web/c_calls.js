@@ -108,14 +108,14 @@ export class CallWriter extends LoopWriter {
 
   /** Returns code with the variables that pointers, members of objects and indices of arrays are. */
   resolvePlaces(code) {
-    const { names, objects, functions, arrays } = this.program;
+    const { names, objects, functions, arrays, unwritten } = this.program;
     const isOfType = (type, name) => {
       const [one, other] = [parseDeclaration(`${squeezeCode(type)} it`)[0], this.variables.get(name)];
       return one && other && one.order === other.order && one.limit === other.limit;
     };
     let text = code;
     if (CAST_OF_NUMBER.test(text)) text = text.replace(CAST, (whole, type, at) => (isOfType(type, /&\s*(\w+)/.exec(text.slice(at))?.[1]) ? "*" : whole));
-    if (text.includes("&")) text = text.replace(POINTED, (_, first, second) => first ?? second).replace(ARROW, "$1.");
+    if (text.includes("&")) text = text.replace(POINTED, (_, first, second) => unwritten.get(first ?? second) ?? first ?? second).replace(ARROW, "$1.");
     if (objects.size) {
       text = text.replace(MEMBER, (whole, object, member, open) => {
         const method = `${object}__${member}`;
@@ -409,12 +409,24 @@ function findReached(program, { code, values = [], name }) {
  */
 export function linkThreads(program) {
   const { threads, functions, isHerd } = program;
-  if (isHerd) return program;
+  if (isHerd) return { ...program, unwritten: new Map() };
   const codes = [...functions.values()].map((it) => [it.name, it.code.code]);
   const isCalled = ({ name, isStarted }) => {
     const call = new RegExp(`(?<![.\\w>])${name}\\s{0,9}\\(`);
     return !isStarted && !/^P\d$/.test(name) && codes.some(([other, code]) => other !== name && call.test(code));
   };
   const all = threads.filter((it) => !isCalled(it));
-  return { ...program, threads: all.map((it) => ({ ...it, reached: findReached(program, it) })) };
+  return { ...program, unwritten: findUnwritten(program), threads: all.map((it) => ({ ...it, reached: findReached(program, it) })) };
+}
+
+/** Returns the numbers of plain variables that functions have by pointers only, if none changes what a pointer or a reference is of. */
+function findUnwritten({ globals, words, threads, functions }) {
+  const all = [...functions.values(), ...threads];
+  const isChanging = ({ parameters, code }) => parseParameters(parameters).some((it) => it.mark && isChanged(it.name, code.code, []));
+  if (all.some(isChanging)) return new Map();
+  const isHidden = ({ name, element, object, order }) => {
+    const pattern = new RegExp(`\\b(?:${name}|${element?.split("[")[0] ?? name})\\b`);
+    return order === "plain" && !object && words.get(name) < WORD / 2 && !all.some((it) => pattern.test(it.code.code));
+  };
+  return new Map([...globals.values()].filter(isHidden).map(({ name }) => [name, String(words.get(name))]));
 }

@@ -5,7 +5,7 @@ import { parseConstant } from "./c_code.js";
 // A longer expression is not computed.
 const LONGEST = 200;
 // A token of an expression: the groups are a constant and an operator.
-const TOKEN = /\s*(?:(0x[\da-f]+|\d+|true|false)(?![\w.])|(\|\||&&|[=!<>]=|<<|>>|[-+*/%^&|<>!~()]))/iy;
+const TOKEN = /\s*(?:(0x[\da-f]+u?l{0,2}|\d+u?l{0,2}|true|false)(?![\w.])|(\|\||&&|[=!<>]=|<<|>>|[-+*/%^&|<>!~()]))/iy;
 // The operators with two sides, from those that are applied last to those that are applied first. All have words of 32 bits with a sign.
 const LEVELS = [
   { "||": (a, b) => Number(a !== 0 || b !== 0) }, { "&&": (a, b) => Number(a !== 0 && b !== 0) }, { "|": (a, b) => a | b }, { "^": (a, b) => a ^ b },

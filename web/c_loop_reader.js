@@ -14,7 +14,7 @@ const WAITING = new RegExp(`^\\{?(?:;|(\\w+=[^;{}]+);)?(?:${PAUSE})*\\}?$`);
 // The begin of a loop without a condition, up to the parenthesis of its first `if`; and what leaves it.
 const ENDLESS_HEAD = /^(?:while\s*\(\s*(?:true|1)\s*\)|for\s*\(\s*;\s*;\s*\))/;
 const ENDLESS = new RegExp(`${ENDLESS_HEAD.source}\\s*\\{\\s*(?:(?:bool|int|auto|unsigned)\\s+(\\w+\\s*=\\s*\\w+)\\s*;\\s*)?if\\s*\\(`);
-const BREAK = /^\s*(?:break\s*;|\{\s*break\s*;\s*\})/;
+const BREAK = /^\s*(?:(?:break|(return))\s*;|\{\s*(?:break|(return))\s*;\s*\})/;
 // A branch that leaves a loop or a pass, and what a loop sets before it looks: the group is the assignment.
 const LEAVING = /^\s*(?:continue|break)\s*$/;
 const SETTING = /^\{\s*(\w+\s*=\s*\w+)\s*;(?=\s*while\b)/;
@@ -39,13 +39,14 @@ class ThreadReader extends StatementReader {
     if (close < 0) return null;
     const { code, end } = isDo ? { ...body, end: close + 1 } : findBody(rest, close + 1);
     const [set = "", setting = ""] = isDo ? [] : SETTING.exec(code) ?? [];
-    const inner = isDo ? null : this.readInner(set ? `{${code.slice(set.length)}` : code);
+    const inner = this.readInner(set ? `{${code.slice(set.length)}` : code);
     const [found, assigns = ""] = inner ? ["", setting] : WAITING.exec(squeezeCode(code)) ?? [];
     if (found === undefined) return null;
     const calls = code.match(/\b\w+(?=\s{0,9}\()/g) ?? [];
     const { index } = this.takePart(end);
     const condition = rest.slice(begin + head + 1, close);
-    return { code: rest.slice(0, close + 1), index, condition, assigns, calls, inner: inner ? [inner] : [], isLate: isDo };
+    const isInnerFirst = isDo && inner !== null;
+    return { code: rest.slice(0, close + 1), index, condition, assigns, calls, inner: inner ? [inner] : [], isLate: isDo, isInnerFirst };
   }
 
   /** Returns the loop here, if it has no condition, begins with an `if` that leaves it, and otherwise only waits; null if it does not. */
@@ -55,7 +56,7 @@ class ThreadReader extends StatementReader {
     const open = head.length - 1;
     const close = head ? findClosing(rest, open) : -1;
     const end = head ? findClosing(rest, rest.indexOf("{")) : -1;
-    const [left] = BREAK.exec(rest.slice(close + 1, end)) ?? [];
+    const [left, one, other] = BREAK.exec(rest.slice(close + 1, end)) ?? [];
     if (close < 0 || left === undefined || end < close) return null;
     const after = rest.slice(close + 1 + left.length, end).trim();
     const inner = this.readInner(after);
@@ -63,7 +64,10 @@ class ThreadReader extends StatementReader {
     const calls = after.match(/\b\w+(?=\s{0,9}\()/g) ?? [];
     const { index } = this.takePart(end + 1);
     const assigns = ENDLESS.exec(rest)[1] ?? "";
-    return { code: rest.slice(0, close + 1), index, condition: `!${rest.slice(open, close + 1)}`, assigns, calls, inner: inner ? [inner] : [], isLate: true };
+    const condition = `!${rest.slice(open, close + 1)}`;
+    const loop = { code: rest.slice(0, close + 1), index, condition, assigns, calls, inner: inner ? [inner] : [], isLate: true };
+    const result = one ?? other;
+    return result ? { code: rest.slice(0, close + 1), index, block: [loop, { code: result, index: index + close + left.indexOf(result) + 1 }] } : loop;
   }
 
   /** Returns the loop here with the statements of its `body` and the `condition` of its next pass; null if there are others in these. */

@@ -6,8 +6,9 @@
 
 import { findClosing, parseConstant } from "./c_code.js";
 import { computeConstant } from "./c_constants.js";
-import { OF_LOOPS, removeOuterParentheses, splitOutside, splitTerms } from "./c_statements.js";
-import { OF_BRANCHES, OF_PLAIN_LOOPS, ThreadWriter } from "./c_thread.js";
+import { parseFormula } from "./c_question.js";
+import { OF_LOOPS, parseCondition, removeOuterParentheses, splitOutside, splitTerms } from "./c_statements.js";
+import { hasName, OF_BRANCHES, OF_PLAIN_LOOPS, ThreadWriter } from "./c_thread.js";
 import { WORD } from "./token_reader.js";
 
 // In squeezed code, a compare-exchange that says whether it has exchanged: a method's variable, the name of a function, and the arguments. And one that
@@ -19,9 +20,16 @@ const LOAD = /^(?:\*?[A-Za-z_]\w*|atomic_load\w{0,20}\([^()]*\))$/;
 const LOAD_IN_CONDITION = /\batomic_load\w{0,20}\([^()]*\)|\b[A-Za-z_]\w*\b(?!\()/g;
 const SET = /^(?:(?:const )?(?:auto|bool|int|long|unsigned(?: int| long)?|s?size_t|u?int\d+_t) )?(\w+)=([^=].*)$/;
 const PAUSE = /(?:pause|relax|yield)\w{0,20}\(\)|pause"|_fence\(/;
+const ASSIGNMENT = /(?<![=!<>])=(?!=)|\+\+|--/;
 const MOST = 400;
 const OF_PASSES = ": a loop of loads only sets variables of the thread to what it loads, each once";
 const OF_WORDS = ": no question of constants says when this loop ends";
+
+/** Returns whether a formula holds if all its variables have a word. */
+function isTrueOf({ sign, parts, word, isEqual }, found) {
+  if (!sign) return isEqual === (word === found);
+  return sign === "\\/" ? parts.some((it) => isTrueOf(it, found)) : parts.every((it) => isTrueOf(it, found));
+}
 
 /** Returns whether the first parenthesis of code is closed by its last letter. */
 function isCall(code) {
@@ -57,13 +65,41 @@ export class LoopWriter extends ThreadWriter {
   /** Writes a loop. Throws NoTest if it does more than to wait, to exchange and to load. */
   writeWaiting(statement) {
     if (statement.body) return this.writeLoadingPass(statement);
-    const swap = parseSwap(this.squeeze(statement.condition));
-    if (!swap) return super.writeWaiting(statement);
+    const code = this.squeeze(statement.condition);
+    const swap = parseSwap(code);
+    if (statement.isInnerFirst) this.checkInner(statement, swap, code);
+    if (!swap) return this.isOfWords(statement, code) ? this.writeLoadingPass({ ...statement, body: this.listAssigned(statement) }) : super.writeWaiting(statement);
     const { loaded, loadedBranches } = this;
     const [, place, value] = SET.exec(this.squeeze(statement.assigns)) ?? [];
     if (statement.assigns && !place) this.refuseStatement(OF_LOOPS);
     if (!this.writeAddition(swap, place, value, statement.isLate)) this.writeSwaps(swap, place, value, statement);
     return Object.assign(this, { loaded, loadedBranches });
+  }
+
+  /** Returns whether a loop of loads compares words of the thread, or otherwise than by `==` and `!=`. */
+  isOfWords({ assigns, inner, isLate, calls }, code) {
+    const formula = parseFormula(code);
+    const isSimple = formula !== null && !hasName(formula, (it) => this.locals.has(it) && !assigns);
+    const hasLoad = [...code.matchAll(LOAD_IN_CONDITION)].some(([it]) => it.startsWith("atomic_load") || (this.variables.has(it) && !this.locals.has(it)) || (assigns && isLate));
+    const isPlain = !inner.length && !calls.some((it) => this.functions.has(it)) && (!assigns || isLate) && !/\w\(/.test(code.replace(LOAD_IN_CONDITION, ""));
+    return isPlain && hasLoad && !isSimple && !ASSIGNMENT.test(code);
+  }
+
+  /** Returns the statement that a loop of loads assigns by. */
+  listAssigned({ assigns, index }) {
+    return assigns ? [{ code: assigns, index }] : [];
+  }
+
+  /**
+   * Throws NoTest for a loop that looks before it exchanges, unless it only looks for the word at which it ends: it finds this before the exchange that
+   * does, so that it may as well not look.
+   */
+  checkInner({ inner: [inner] }, swap, code) {
+    const { sides: [value = "", last = ""] = [] } = parseCondition(code)?.[0] ?? {};
+    const [, name = swap?.name] = /^atomic_exchange\w{0,20}\(&(\w+),/.exec(value) ?? [];
+    const formula = parseFormula(this.squeeze(inner));
+    const word = parseConstant(swap ? swap.expected : last);
+    if (!formula || hasName(formula, (it) => it !== name) || word === null || isTrueOf(formula, word)) this.refuseStatement(OF_LOOPS);
   }
 
   /**
@@ -155,8 +191,9 @@ export class LoopWriter extends ThreadWriter {
     const variables = new Set();
     const code = condition.replace(LOAD_IN_CONDITION, (it) => {
       if (parseConstant(it) !== null) return it;
-      const variable = written.includes(it) ? it : this.locals.has(it) ? this.refuseStatement(OF_LOOPS) : this.loadShared(it, "after its loop");
-      if (plain.includes(it) || (!written.includes(it) && this.accesses.at(-1).isPlain)) this.refuseStatement(OF_PLAIN_LOOPS);
+      const isOwn = written.includes(it) || this.known.has(it);
+      const variable = isOwn ? it : this.loadShared(it, "after its loop");
+      if (isOwn ? plain.includes(it) : this.accesses.at(-1).isPlain) this.refuseStatement(OF_PLAIN_LOOPS);
       variables.add(variable);
       return `{${variable}}`;
     });
@@ -184,6 +221,7 @@ export class LoopWriter extends ThreadWriter {
         if (!number) end.parts.push(parts.length > 1 ? { sign: "/\\", parts } : parts[0]);
       }
       if (!end.parts.length) this.refuseEnd(statement);
+      if (end.parts.length === 1) Object.assign(end, { sign: "/\\" });
     }
   }
 

@@ -33,10 +33,11 @@ const JOIN_LOOP = new RegExp(
   "^for\\((?:(?:const )?auto ?&{0,2}\\w+:(\\w+)|(?:int|size_t|unsigned|auto) (\\w+)=0;\\2(?:<|!=)(\\w+);(?:\\2\\+\\+|\\+\\+\\2))\\)" +
     "\\{?(?:(\\w+)(?:\\[\\2\\])?\\.join\\(\\)|(?:pthread|thrd)_join\\((\\w+)\\[\\2\\],[\\w&]*\\));\\}?$",
 );
-// The head of a loop that counts up to a digit: the groups are its index and the digit. And what starts threads in a loop, and joins them.
-const COUNTING = /^for\((?:int|size_t|unsigned|auto) (\w+)=0;\1(?:<|!=)([1-9]);(?:\1\+\+|\+\+\1)\)$/;
+// The head of a loop that counts: the groups are its index and its end. And what starts threads in a loop, and joins them.
+const COUNTING = /^for\((?:int|size_t|unsigned|long|auto) (\w+)=0;\1(?:<|!=)(\w+);(?:\1\+\+|\+\+\1)\)$/;
 // The head of a loop whose passes are runs.
 const REPEATING = /^(?:for\((?:\w+ )+(\w+)=\d+;(?:\1(?:<=?|!=)[\w']+)?;(?:\1\+\+|\+\+\1|\1\+=1)\)|while\((?:1|true)\)|for\(;;\))$/;
+const SETTING = /\[\s*\w+\s*\]\s*=/;
 const STARTING = /\bthread\b|_create\b|_back\b/;
 const JOINING = /\.\s{0,9}join\b|_join\b|\bjthread\b/;
 const JOIN = /^(?:(\w+(?:\[\d+\])?)\.join\(\)|(?:pthread|thrd)_join\((\w+(?:\[\d+\])?),[^,]*\))$/;
@@ -61,6 +62,11 @@ const ASSIGNMENT = /^(\w+)=([^=].*)$/;
 const INITIAL_STORE = /^atomic_(?:store|init)(?:_explicit|_relaxed|_release)?\(&(\w+),([^,]*)(?:,memory_order_\w+)?\)$/;
 const ASSERTION = /^assert\((.*)\)$/;
 // Why a part is refused.
+const MOST_THREADS = 4;
+const MOST_WORDS = 9;
+// How many calls of functions that set variables may be in one another.
+const DEEPEST = 8;
+const OF_MANY = ": a test has 4 threads at most, so start fewer";
 const OF_RUNS = ": one run is enough, since the page lists all final states";
 const OF_BEFORE = ": before its threads, `main` only declares variables, and sets them to constants, as `x = 0;`";
 const OF_RUNNING = ": while threads run, `main` only starts others and joins them, so give this to a thread of its own";
@@ -99,8 +105,9 @@ class MainReader extends StatementReader {
     const code = { code: rest.slice(body, end), index: head.index + body };
     this.takePart(end);
     if (found) return { ...head, joined: range ?? called ?? other, count: parseConstant(count ?? "") };
-    if (!STARTING.test(code.code)) refusePart(head, OF_RUNS);
-    if (index && !JOINING.test(code.code)) return { ...head, block: repeatCode(code, index, Number(times)) };
+    const isStarting = STARTING.test(code.code);
+    if (!isStarting && !(index && SETTING.test(code.code))) refusePart(head, OF_RUNS);
+    if (index && !JOINING.test(code.code)) return { ...head, repeat: (count) => repeatCode(code, index, count), times, isStarting };
     if (!REPEATING.test(squeezeCode(head.code)) || !JOINING.test(code.code)) refusePart(head, OF_RUNS);
     return { ...head, block: new MainReader(code).readAll(), isRepeated: true };
   }
@@ -126,6 +133,7 @@ class MainFollower {
     this.threads = [];
     this.running = new Map();
     this.hasJoined = false;
+    this.depth = 0;
     // Of handles and arrays of them, whether they join threads at the end of their block.
     this.containers = new Map();
     // The loop whose passes are runs, with the names of variables that it sets before its threads.
@@ -140,12 +148,21 @@ class MainFollower {
     for (const statement of statements) {
       if (statement.isRepeated) this.repeated = { statement, names: new Set() };
       if (statement.number) this.program.names.set(statement.number.name, statement.number.digit);
-      if (statement.block) this.followBlock(statement.block);
+      if (statement.repeat) this.followCounting(statement);
+      else if (statement.block) this.followBlock(statement.block);
       else if (statement.then) this.followBranch(statement);
       else if (statement.joined) this.joinAll(statement);
       else this.followSimple(statement);
       if (statement.number) this.program.names.delete(statement.number.name);
     }
+  }
+
+  /** Follows the passes of a loop that counts. Throws NoTest if there are more than threads in a test. */
+  followCounting(statement) {
+    const count = parseConstant(this.program.names.get(statement.times) ?? statement.times);
+    if (count === null || !count) refusePart(statement, OF_RUNS);
+    if (count > (statement.isStarting ? MOST_THREADS : MOST_WORDS)) refusePart(statement, statement.isStarting ? OF_MANY : OF_RUNS);
+    this.followBlock(statement.repeat(count));
   }
 
   /** Follows statements, at whose end some handles join the threads that are started in them. */
@@ -215,8 +232,28 @@ class MainFollower {
     else if (lambda) this.nameLambda(lambdaName, this.functions.get(lambda));
     else if (handle ?? other) this.joinThread(handle ?? other, statement);
     else if (condition) this.ask(statement, () => formatAssertion(this.asserted), condition, true);
-    else if (!this.threads.length) this.setWords(code, statement);
+    else if (!this.threads.length && this.followCall(code)) return;
+    else if (!this.threads.length || this.isUnread(code)) this.setWords(code, statement);
     else refusePart(statement, this.running.size ? OF_RUNNING : OF_AFTER);
+  }
+
+  /** Follows the statements of a function that squeezed code calls without arguments, before threads run. Returns whether it is such a call. */
+  followCall(code) {
+    const called = this.program.functions.get(/^(\w+)\(\)$/.exec(code)?.[1]);
+    if (!called || this.depth >= DEEPEST) return false;
+    this.depth += 1;
+    this.followStatements(new MainReader(called.code).readAll());
+    this.depth -= 1;
+    return true;
+  }
+
+  /** Returns whether squeezed code sets a variable that no thread reads that runs: it is in no function, and not among their arguments. */
+  isUnread(code) {
+    const { globals, functions } = this.program;
+    const name = ASSIGNMENT.exec(code)?.[1];
+    const pattern = new RegExp(`\\b(?:${name}|${globals.get(name)?.element?.split("[")[0] ?? name})\\b`);
+    const codes = [...this.functions.values(), ...functions.values()].map((it) => it.code.code);
+    return globals.has(name) && ![...codes, ...this.threads.flatMap((it) => it.values ?? [])].some((it) => pattern.test(it));
   }
 
   /** Gives a lambda a name, by which threads may call it. */

@@ -88,7 +88,7 @@ export class ArgumentBinder {
 
   /** Gives a reference or a pointer the variable, the object or the array that it refers to. Returns whether it has it. */
   bindPlace({ name, mark, declaration, base }, value) {
-    const { variables, objects, arrays } = this.scope.program;
+    const { variables, objects, arrays, unwritten } = this.scope.program;
     const number = mark === "*" ? computeConstant(value) : null;
     if (mark === "*" && number !== null && /\bvoid$/.test(base)) return this.bindNumber(name, number, WORD);
     const place = removeOuterParentheses(value);
@@ -97,6 +97,7 @@ export class ArgumentBinder {
     if (!name || !referred) return !name;
     this.setName(name, mark === "*" && !isArray ? `&${referred}` : referred);
     if (isArray || objects.has(referred)) return true;
+    if (unwritten.has(referred)) this.hasConstants = true;
     const { order, limit } = variables.get(referred) ?? { order: "plain", limit: this.scope.limits.get(referred) ?? WORD };
     const isKnown = variables.has(referred) || this.scope.locals.has(referred);
     const isOfType = declaration === null || (declaration.order === order && declaration.limit === limit);

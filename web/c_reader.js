@@ -43,6 +43,7 @@ const MARK_IN_STRING = /[(){};,]/g;
 // What a program may have that does not matter here.
 const HEADERS = /^[ \t]*#[ \t]*(?:include|pragma)\b.*/gm;
 const WITHOUT_EFFECT = /\busing\s[\w:\s]{0,80};|\balignas\s{0,9}\([\s\w:]{0,80}\)|\[\[[\w:, ]{0,80}\]\]|\bnoexcept\b/g;
+const HANDLES = /^(?:static\s+)?(?:pthread_t|thrd_t|(?:std::)?j?thread)\s+[\w\s,[\]]{1,80};$/;
 // An entry of a block of initial values: the groups are the name of a variable, and its value.
 const ENTRY = /^(?:\w[\w ]*[ *])?\[?([A-Za-z_]\w*)\]?(?:=(.+))?$/;
 // A function up to its code: the groups are its type, its name, and its parameters.
@@ -212,7 +213,7 @@ class ProgramReader {
     const part = this.cutPart(whole.length);
     if (this.isHerd) refusePart(part, OF_END);
     if (!whole.endsWith(";")) refusePart(part, OF_GLOBALS);
-    const isName = NAMING.test(whole) && defineName(squeezeCode(whole.slice(0, -1)), this.names);
+    const isName = HANDLES.test(whole) || (NAMING.test(whole) && defineName(squeezeCode(whole.slice(0, -1)), this.names));
     if (!isName) declareVariables(this, this.globals, whole.slice(0, -1), part, OF_GLOBALS);
     this.skipPart(whole.length);
   }

@@ -81,8 +81,13 @@ function joinPaths(one, other) {
   return one && other ? new Set([...one].filter((it) => other.has(it))) : one ?? other;
 }
 
-/** Returns whether a name in a formula passes a test. */
-function hasName({ parts, name }, test) {
+/**
+ * Returns whether a name in a formula passes a test.
+ * @param {Formula} formula
+ * @param {function(string): boolean} test
+ * @returns {boolean}
+ */
+export function hasName({ parts, name }, test) {
   return parts ? parts.some((it) => hasName(it, test)) : test(name);
 }
 
@@ -111,7 +116,7 @@ export class ThreadWriter extends LockWriter {
    * @param {number} number
    * @param {number[]} [kept]
    */
-  constructor({ words, names, functions, threads, owners, isHerd }, number, kept = []) {
+  constructor({ words, names, functions, threads, owners, unwritten, isHerd }, number, kept = []) {
     const { name, head, code, parameters, variables, returnsWord, isStarted } = threads[number];
     super(number, variables, names);
     Object.assign(this, { name, head, code, parameters, words, returnsWord, isStarted, isHerd, functions, kept });
@@ -123,7 +128,7 @@ export class ThreadWriter extends LockWriter {
     // By an index that is a parameter, or by a reference to all of it.
     const isHidden = ({ element, object }) =>
       (element && isOther(`\\b${element.split("[")[0]}\\b`)) || (object && isOther(`\\b${object}\\b(?!\\s{0,9}\\.)`));
-    const isOwned = (it) => (owners ? owners.get(it.name) === number : !it.isOfClass && isOwn(it.name) && !isHidden(it));
+    const isOwned = (it) => !unwritten.has(it.name) && (owners ? owners.get(it.name) === number : !it.isOfClass && isOwn(it.name) && !isHidden(it));
     this.own = [...variables.values()].filter((it) => it.order === "plain" && !it.isPointer && isOwned(it));
     if (returnsWord) this.locals.add(RESULT);
     this.isWide = false;

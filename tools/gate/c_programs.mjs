@@ -321,14 +321,9 @@ const REFUSED = [
   ["int r0 = y;", "while (y != 1) ;", `\`0:r0\`${UNSET}`],
   ["int r0 = y;", "while (1) ;", `\`while (1)\`${OF_LOOPS}`],
   ["int r0 = y;", "int r0 = y; while (r0 == 1) ;", `\`while (r0 == 1)\`${OF_LOOPS}`],
-  ["int r0 = y;", "int r0 = y; while (y != r0) ;", `\`while (y != r0)\`${OF_LOOPS}`],
-  ["int r0 = y;", "while (y + 1 == 1) ;", `\`while (y + 1 == 1)\`${OF_LOOPS}`],
-  ["int r0 = y;", "while (y && x + 1) ;", `\`while (y && x + 1)\`${OF_LOOPS}`],
-  ["int r0 = y;", "int r0 = y; while (y && r0) ;", `\`while (y && r0)\`${OF_LOOPS}`],
   ["int r0 = y;", "while (y || x.exchange(1)) ;", `\`while (y || x.exchange(1))\`${OF_LOOPS}`],
   ["int r0 = y;", "while (y || d) ;", `\`while (y || d)\`${OF_PLAIN_LOOPS}`, "y = 1;", "d = 1;"],
   ["int r0 = y;", "int r0 = y; if (r0) while (y && x) ; else while (!y || x) ;", `\`while (!y || x)\`${OF_BRANCHES}`],
-  ["int r0 = y;", "while (y < 1) ;", `\`while (y < 1)\`${OF_LOOPS}`],
   ["0:r0=0", "y=0", `\`while (y.exchange(1))\`${OF_PAIRS}`, "int r0 = y; }\nvoid P1(void) { y = 1;", "while (y.exchange(1)) ; }\nvoid P1(void) { y = 2;"],
   ["0:r0=0", "y=0", `\`while (y.exchange(1))\`${OF_PAIRS}`, "int r0 = y; }\nvoid P1(void) {", "while (y.exchange(1)) ; y--; }\nvoid P1(void) {"],
   ["atomic_int x, y", "atomic_int x, y = 2", `\`while (y.exchange(1))\`${OF_PAIRS}`, "int r0 = y; }\nvoid P1(void) {",
@@ -1769,6 +1764,102 @@ exists (1:r0=0 /\\ 1:r1=1)
               | XCHG [y],EAX      ;
 locations [y]
 exists (0:EAX=0 /\\ 1:EBX=0 /\\ 1:ECX=0 /\\ 1:EAX=1)
+`],
+  ["threads with pointers to their numbers", `#define N 2
+int ids[N]; atomic_int x[N]; int r[N]; pthread_t t[N];
+void init() { x[0] = 0; atomic_init(&x[1], 0); }
+void *w(void *arg) { int id = *(int *)arg; x[id] = 1; r[id] = x[1 - id]; return NULL; }
+int main() { init(); for (int i = 0; i < N; i++) { ids[i] = i; pthread_create(&t[i], NULL, w, &ids[i]); } for (int i = 0; i < N; i++) pthread_join(t[i], NULL); assert(r[0] || r[1]); }
+`, `X86 Mine
+(* 0:EAX is r_0, 1:EAX is r_1 *)
+{ x_0=0; x_1=0; }
+ P0             | P1             ;
+ MOV EBX,$1     | MOV EBX,$1     ;
+ XCHG [x_0],EBX | XCHG [x_1],EBX ;
+ MOV EAX,[x_1]  | MOV EAX,[x_0]  ;
+~exists (0:EAX=0 /\\ 1:EAX=0)
+`],
+  ["a thread that changes its number", `int ids[2]; atomic_int x[2]; int r[2]; pthread_t t[2];
+void *w(void *arg) { int id = *(int *)arg; *(int *)arg = 7; x[id] = 1; return NULL; }
+int main() { for (int i = 0; i < 2; i++) { ids[i] = i; pthread_create(&t[i], NULL, w, &ids[i]); } for (int i = 0; i < 2; i++) pthread_join(t[i], NULL); assert(x[0] == 1); }
+`, "`x[id] = 1`: an array is shared, and its indices are constants in it, as `a[0]`"],
+  ["ten threads", `std::atomic<int> x; void f() { x++; }
+int main() { std::vector<std::thread> v; for (int i = 0; i < 10; i++) v.emplace_back(f); for (auto& t : v) t.join(); }
+`, "`for (int i = 0; i < 10; i++)`: a test has 4 threads at most, so start fewer"],
+  ["no question, and a ticket lock", `struct TicketLock {
+  std::atomic<int> next{0}, serving{0};
+  void lock() { int t = next.fetch_add(1, std::memory_order_relaxed); while (serving.load(std::memory_order_acquire) != t) ; }
+  void unlock() { serving.store(serving.load(std::memory_order_relaxed) + 1, std::memory_order_release); }
+};
+TicketLock l; int n;
+void a() { l.lock(); n++; l.unlock(); }
+void b() { l.lock(); n++; l.unlock(); }
+`, `X86 Mine
+(* 0:EAX is t, 0:EBX is l_serving after its loop, 1:EAX is t, 1:EBX is l_serving after its loop *)
+{ l_next=0; l_serving=0; n=0; }
+ P0                     | P1                     ;
+ MOV EAX,$1             | MOV EAX,$1             ;
+ LOCK XADD [l_next],EAX | LOCK XADD [l_next],EAX ;
+ MOV EBX,[l_serving]    | MOV EBX,[l_serving]    ;
+ MOV ECX,[n]            | MOV ECX,[n]            ;
+ ADD ECX,$1             | ADD ECX,$1             ;
+ MOV [n],ECX            | MOV [n],ECX            ;
+ MOV ECX,[l_serving]    | MOV ECX,[l_serving]    ;
+ ADD ECX,$1             | ADD ECX,$1             ;
+ MOV [l_serving],ECX    | MOV [l_serving],ECX    ;
+locations [l_next; l_serving]
+exists ((0:EBX=0 /\\ 0:EAX=0 \\/ 0:EBX=1 /\\ 0:EAX=1) /\\ (1:EBX=0 /\\ 1:EAX=0 \\/ 1:EBX=1 /\\ 1:EAX=1) /\\ ~n=2)
+`],
+  ["no question, and loops that look and then exchange", `std::atomic<bool> l{false}; int n;
+void lock1() { for (;;) { if (!l.exchange(true, std::memory_order_acquire)) return; while (l.load(std::memory_order_relaxed)) { _mm_pause(); } } }
+void lock2() { do { while (l.load(std::memory_order_relaxed)) ; } while (l.exchange(true, std::memory_order_acquire)); }
+void P0() { lock1(); n++; l = false; }
+void P1() { lock2(); n++; l = false; }
+`, `X86 Mine
+(* 0:EAX is l at its lock, 1:EAX is l at its lock *)
+{ l=0; n=0; }
+ P0           | P1           ;
+ MOV EAX,$1   | MOV EAX,$1   ;
+ XCHG [l],EAX | XCHG [l],EAX ;
+ MOV EBX,[n]  | MOV EBX,[n]  ;
+ ADD EBX,$1   | ADD EBX,$1   ;
+ MOV [n],EBX  | MOV [n],EBX  ;
+ MOV EBX,$0   | MOV EBX,$0   ;
+ XCHG [l],EBX | XCHG [l],EBX ;
+locations [l]
+exists (0:EAX=0 /\\ 1:EAX=0 /\\ ~n=2)
+`],
+  ["a loop that looks at another variable and then exchanges", `std::atomic<bool> l{false}, k; int n;
+void lock2() { do { while (k.load(std::memory_order_relaxed)) ; } while (l.exchange(true, std::memory_order_acquire)); }
+void P0() { lock2(); n++; l = false; }
+void P1() { lock2(); n++; l = false; }
+`, "`do { while (k.load(std::memory_order_rel..`: write out each pass of a loop. `tools/from_c.py` follows loops"],
+  ["a loop that compares by less", `std::atomic<int> flag{0}; int data;
+void P0() { data = 42; flag.store(1, std::memory_order_release); }
+void P1() { int e = 0; while (flag.load(std::memory_order_acquire) < 1) { } e = data; }
+exists (1:e=0)
+`, `X86 Mine
+(* 1:EAX is e, 1:EBX is flag after its loop *)
+{ flag=0; data=0; }
+ P0             | P1             ;
+ MOV [data],$42 | MOV EAX,$0     ;
+ MOV [flag],$1  | MOV EBX,[flag] ;
+                | MOV EAX,[data] ;
+exists (1:EBX=1 /\\ 1:EAX=0)
+`],
+  ["a loop that compares with a variable of the thread", `std::atomic<int> x, y; 
+void P0() { int r = x; while (y != r) ; int s = x; }
+void P1() { x = 1; y = 1; }
+exists (0:r=1 /\\ 0:s=0)
+`, `X86 Mine
+(* 0:EAX is r, 0:EBX is y after its loop, 0:ECX is s *)
+{ x=0; y=0; }
+ P0          | P1           ;
+ MOV EAX,[x] | MOV EAX,$1   ;
+ MOV EBX,[y] | XCHG [x],EAX ;
+ MOV ECX,[x] | MOV EAX,$1   ;
+             | XCHG [y],EAX ;
+exists ((0:EBX=0 /\\ 0:EAX=0 \\/ 0:EBX=1 /\\ 0:EAX=1) /\\ 0:EAX=1 /\\ 0:ECX=0)
 `],
   ["33 instructions", `atomic_int x;\nvoid P0() { ${"x++; ".repeat(17)}}\n// lw: exists (x=1)\n`, "a thread has too many statements"],
   ["nine locations", `atomic_int ${NINE.join(", ")};\nvoid P0() { ${NINE.map((it) => `${it} = 1;`).join(" ")} }\n// lw: exists (a=1)\n`,
