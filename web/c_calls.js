@@ -23,6 +23,8 @@ const LONGEST = 4000;
 // In code with pointers that are known: what they point to, an object by a pointer, a member or a method of an object, and a word of an array.
 const POINTED = /\(\s{0,9}\*\s{0,9}&\s{0,9}(\w+)\s{0,9}\)|\*\s{0,9}&\s{0,9}(\w+)/g;
 const CAST = /\*\s{0,9}\(\s{0,9}([\w<>: ]{1,40}?)\s{0,9}\*\s{0,9}\)\s{0,9}(?=&)/g;
+const CAST_IN_CPP = /\b(?:static|reinterpret)_cast\s{0,9}<([\w<>: ]{1,40}?)\s{0,9}\*\s{0,9}>\s{0,9}\((\s{0,9}&\s{0,9}\w+\s{0,9})\)/g;
+const CAST_IN_PARENTHESES = /\*\s{0,9}\(\s{0,9}(\([\w<>: ]{1,40}\*\s{0,9}\)\s{0,9}&\s{0,9}\w+)\s{0,9}\)/g;
 const CAST_OF_NUMBER = /\*\s{0,9}\(\s{0,9}[\w<>: ]{1,40}\*\s{0,9}\)\s{0,9}&/;
 const ARROW = /(?<![\w)\]]\s{0,9})&\s{0,9}(\w+)\s{0,9}->/g;
 const MEMBER = /\b(\w+)\s{0,9}\.\s{0,9}(\w+)(?=\s{0,9}(\()?)/g;
@@ -110,10 +112,11 @@ export class CallWriter extends LoopWriter {
   resolvePlaces(code) {
     const { names, objects, functions, arrays, unwritten } = this.program;
     const isOfType = (type, name) => {
-      const [one, other] = [parseDeclaration(`${squeezeCode(type)} it`)[0], this.variables.get(name)];
+      const [one, other] = [parseDeclaration(squeezeCode(`${type} it`))[0], this.variables.get(name)];
       return one && other && one.order === other.order && one.limit === other.limit;
     };
     let text = code;
+    if (text.includes("&")) text = text.replace(CAST_IN_CPP, "($1*)$2").replace(CAST_IN_PARENTHESES, "*$1");
     if (CAST_OF_NUMBER.test(text)) text = text.replace(CAST, (whole, type, at) => (isOfType(type, /&\s*(\w+)/.exec(text.slice(at))?.[1]) ? "*" : whole));
     if (text.includes("&")) text = text.replace(POINTED, (_, first, second) => unwritten.get(first ?? second) ?? first ?? second).replace(ARROW, "$1.");
     if (objects.size) {
@@ -385,7 +388,7 @@ function splitArguments(code) {
 function findResult({ type }) {
   const squeezed = squeezeCode(type).replace(/\b(?:constexpr|virtual) /g, "");
   if (/(?:^| )void$/.test(squeezed)) return { isVoid: true, limit: WORD, isWide: false };
-  const [declared] = parseDeclaration(`${squeezed} it`);
+  const [declared] = parseDeclaration(squeezeCode(`${squeezed} it`));
   return declared && !declared.isPointer ? { isVoid: false, limit: declared.limit, isWide: declared.isWide } : { isVoid: true, limit: WORD, isWide: false };
 }
 

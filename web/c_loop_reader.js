@@ -45,6 +45,8 @@ class ThreadReader extends StatementReader {
     const calls = code.match(/\b\w+(?=\s{0,9}\()/g) ?? [];
     const { index } = this.takePart(end);
     const condition = rest.slice(begin + head + 1, close);
+    const setFirst = !isDo && !assigns && !inner ? splitAssignment(condition) : null;
+    if (setFirst) return { code: rest.slice(0, close + 1), index, ...setFirst, calls, inner: [], isLate: true };
     const isInnerFirst = isDo && inner !== null;
     return { code: rest.slice(0, close + 1), index, condition, assigns, calls, inner: inner ? [inner] : [], isLate: isDo, isInnerFirst };
   }
@@ -101,6 +103,15 @@ class ThreadReader extends StatementReader {
     const loop = reader.readWaiting();
     return loop && !loop.assigns && !loop.inner.length && !reader.rest ? loop.condition : null;
   }
+}
+
+/** Returns what a condition `assigns` first, in parentheses, and the `condition` without it; null if it does not. */
+function splitAssignment(code) {
+  const [begin, name] = /\(\s*(\w+)\s*=(?!=)/.exec(code) ?? [];
+  const open = begin ? code.indexOf(begin) : -1;
+  const close = open < 0 ? -1 : findClosing(code, open);
+  const isFirst = close >= 0 && !/\w/.test(code.slice(0, open));
+  return isFirst ? { assigns: squeezeCode(code.slice(open + 1, close)), condition: code.slice(0, open) + name + code.slice(close + 1) } : null;
 }
 
 /**

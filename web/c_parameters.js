@@ -33,7 +33,7 @@ export function parseParameters(code) {
     const type = `${typed.trim()}${array && "*"}`.replace(/(?<=[*&]) ?const$/, "");
     const [mark = ""] = /[&*]+$/.exec(type) ?? [];
     const base = type.slice(0, type.length - mark.length);
-    const declaration = /\bauto\b/.test(base) ? null : parseDeclaration(`${base} it`)[0] ?? null;
+    const declaration = /\bauto\b/.test(base) ? null : parseDeclaration(squeezeCode(`${base} it`))[0] ?? null;
     return { name, mark: mark.slice(0, 1), value, isConst: /\bconst\b/.test(base), declaration, isOrder: /\bmemory_order$/.test(base), base };
   });
 }

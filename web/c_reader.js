@@ -22,6 +22,7 @@ import {
   findClosing,
   OF_VALUES,
   parseConstant,
+  parseDeclaration,
   parseNamedValue,
   refusePart,
   replaceNames,
@@ -61,8 +62,13 @@ const CONSTANT = new RegExp(
 );
 // What may give a name to an order of memory, or to a reference.
 const NAMING = /\b(?:atomic_ref|memory_order)/;
-// The begin of a block of declarations.
-const SPACE = /^(?:(?:inline\s+)?namespace(?:\s+[\w:]+)?|extern\s+"C")\s*\{/;
+// A macro that is called without arguments: the groups are its name and its text. One that the kernel defines. Names of constants, and of a type, with it.
+const CALLED_MACRO = /^#[ \t]*define[ \t]+(\w+)\([ \t]*\)[ \t]+(\S.*)/;
+const ONCE = /^#[ \t]*define[ \t]+(?:READ_ONCE\(\w+\)|WRITE_ONCE\(\w+, ?\w+\))[ \t]+(?:do \{ )?\(?\*\((?:const )?volatile [\w() ]{1,40}\*\) ?&\(?\w+\)?\)?(?: ?= ?\(?\w+\)?)?(?:; \} while \(0\))?\)?[ \t]*(?=\r?\n|$)/;
+const ENUMERATION = /^enum(?:\s+\w+)?\s*\{([\w\s=,]{1,400})\}\s*;/;
+const ALIAS = /^(?:using\s+(\w+)\s*=\s*([\w:<>\s]{1,60})|typedef\s+([\w:<>\s]{1,60}?)\s+(\w+))\s*;/;
+// The begin of a block of declarations: the group is its name.
+const SPACE = /^(?:(?:inline\s+)?namespace(?:\s+([\w:]+))?|extern\s+"C")\s*\{/;
 // The begin of a structure: the groups are `typedef`, and its name. And what follows it: the names of objects or of types.
 const STRUCTURE = /^(typedef\s+)?(?:static\s+)?(?:struct|class)(?:\s+(\w+))?\s*(?:final\s*)?\{/;
 const OBJECTS = /^\s*([\w\s,]{0,200});/;
@@ -186,6 +192,7 @@ class ProgramReader {
 
   /** Reads a macro or a constant, if one is here, and returns whether it is. Throws NoTest at a macro that is no constant. */
   readNamedValue() {
+    if (this.readNames()) return true;
     const [macro, macroName, text = ""] = MACRO.exec(this.rest) ?? [];
     const [constant, constantName, code = ""] = CONSTANT.exec(this.rest) ?? [];
     if (!macro && !constant) return false;
@@ -197,12 +204,38 @@ class ProgramReader {
     return true;
   }
 
+  /** Reads names of constants or of a type, or a macro that is a function or does what the kernel's does, if one is here. Returns whether it is. */
+  readNames() {
+    const [macro, name, text] = CALLED_MACRO.exec(this.rest) ?? [];
+    const [enumeration, constants = ""] = ENUMERATION.exec(this.rest) ?? [];
+    const [alias, first, type, other, last] = ALIAS.exec(this.rest) ?? [];
+    const found = macro ?? enumeration ?? alias ?? ONCE.exec(this.rest)?.[0];
+    if (!found || (alias && !parseDeclaration(squeezeCode(`${type ?? other} it`)).length)) return false;
+    let word = -1;
+    for (const it of constants.split(",").filter((constant) => constant.trim())) {
+      const [constant, value] = it.split("=").map((part) => part.trim());
+      word = value === undefined ? word + 1 : parseConstant(value) ?? refusePart(this.cutPart(found.length), OF_VALUES);
+      this.names.set(constant, String(word));
+    }
+    if (alias) this.names.set(first ?? last, type ?? other);
+    if (macro) this.addMacro(this.cutPart(found.length), name, text);
+    this.skipPart(found.length);
+    return true;
+  }
+
+  /** Adds a macro as a function. */
+  addMacro(whole, name, text) {
+    const code = { code: `${text.replace(/;?\s*$/, "")};`, index: whole.index + whole.code.lastIndexOf(text) };
+    this.functions.set(name, { name, type: "void", head: whole.index, whole, parameters: "", code, variables: this.globals, returnsWord: false });
+  }
+
   /** Reads the begin of a namespace, if one is here, whose end is blank then. Returns whether it is. */
   readSpace() {
-    const [head] = SPACE.exec(this.rest) ?? [];
+    const [head, name] = SPACE.exec(this.rest) ?? [];
     const end = head ? findClosing(this.rest, head.length - 1) : -1;
     if (end < 0) return false;
     this.rest = `${this.rest.slice(0, end)} ${this.rest.slice(end + 1)}`;
+    if (name) this.rest = this.rest.replace(new RegExp(`\\b${name}::`, "g"), blank);
     this.skipPart(head.length);
     return true;
   }
@@ -234,7 +267,7 @@ class ProgramReader {
     const code = { code: this.rest.slice(length, end), index: this.index + length };
     const returnsWord = !this.isHerd && WORD_TYPE.test(type);
     const head = this.index + this.rest.indexOf(name, type.length);
-    const thread = { name, type, head, whole, parameters, code, variables, returnsWord, isStarted: false };
+    const thread = { name, type, head, whole, parameters: this.isHerd ? parameters : replaceNames(parameters, this.names), code, variables, returnsWord, isStarted: false };
     if (name === "main" && !this.isHerd) this.main = code;
     else this.threads.push(thread);
     if (name !== "main" || this.isHerd) this.functions.set(name, thread);

@@ -1861,6 +1861,286 @@ exists (0:r=1 /\\ 0:s=0)
              | XCHG [y],EAX ;
 exists ((0:EBX=0 /\\ 0:EAX=0 \\/ 0:EBX=1 /\\ 0:EAX=1) /\\ 0:EAX=1 /\\ 0:ECX=0)
 `],
+  ["a lock in a branch of a function", `#include <atomic>
+#include <mutex>
+std::atomic<int> instance{0};
+std::mutex m;
+int data;
+int get() {
+  int p = instance.load(std::memory_order_acquire);
+  if (p == 0) {
+    std::lock_guard<std::mutex> g(m);
+    p = instance.load(std::memory_order_relaxed);
+    if (p == 0) { data = 42; p = 1; instance.store(p, std::memory_order_release); }
+  }
+  return data;
+}
+void t1() { int a = get(); }
+void t2() { int b = get(); }
+// lw: exists (0:a=0 \\/ 1:b=0)
+`, `X86 Mine
+(* 0:EAX is p, 0:EBX is m at its lock, 0:ECX is a, 1:EAX is p, 1:EBX is m at its lock, 1:ECX is b *)
+{ instance=0; m=0; data=0; }
+ P0                 | P1                 ;
+ MOV EAX,[instance] | MOV EAX,[instance] ;
+ CMP EAX,$0         | CMP EAX,$0         ;
+ JNE L2             | JNE L2             ;
+ MOV EBX,$1         | MOV EBX,$1         ;
+ XCHG [m],EBX       | XCHG [m],EBX       ;
+ MOV EAX,[instance] | MOV EAX,[instance] ;
+ CMP EAX,$0         | CMP EAX,$0         ;
+ JNE L3             | JNE L3             ;
+ MOV [data],$42     | MOV [data],$42     ;
+ MOV EAX,$1         | MOV EAX,$1         ;
+ MOV [instance],EAX | MOV [instance],EAX ;
+ L3: MOV EDX,$0     | L3: MOV EDX,$0     ;
+ XCHG [m],EDX       | XCHG [m],EDX       ;
+ L2: MOV ECX,[data] | L2: MOV ECX,[data] ;
+locations [instance; data]
+exists (0:EBX=0 /\\ 1:EBX=0 /\\ (0:ECX=0 \\/ 1:ECX=0))
+`],
+  ["a structure by a pointer, with `main`", `typedef struct { atomic_bool interested[2]; atomic_int victim; } peterson_t;
+peterson_t L;
+int cnt;
+static void lock(peterson_t *l, int me) { int other = 1 - me; atomic_store(&l->interested[me], true); atomic_store(&l->victim, me); while (atomic_load(&l->interested[other]) && atomic_load(&l->victim) == me) ; }
+static void unlock(peterson_t *l, int me) { atomic_store(&l->interested[me], false); }
+int w0(void *a) { lock(&L, 0); cnt++; unlock(&L, 0); return 0; }
+int w1(void *a) { lock(&L, 1); cnt++; unlock(&L, 1); return 0; }
+int main(void) { thrd_t a, b; thrd_create(&a, w0, NULL); thrd_create(&b, w1, NULL); thrd_join(a, NULL); thrd_join(b, NULL); assert(cnt == 2); return 0; }
+`, `X86 Mine
+(* 0:EAX is L_interested_1 after its loop, 0:EBX is L_victim after its loop, 1:EAX is L_interested_0 after its loop, 1:EBX is L_victim after its loop *)
+{ L_interested_0=0; L_interested_1=0; L_victim=0; cnt=0; }
+ P0                        | P1                        ;
+ MOV ECX,$1                | MOV ECX,$1                ;
+ XCHG [L_interested_0],ECX | XCHG [L_interested_1],ECX ;
+ MOV ECX,$0                | MOV ECX,$1                ;
+ XCHG [L_victim],ECX       | XCHG [L_victim],ECX       ;
+ MOV EAX,[L_interested_1]  | MOV EAX,[L_interested_0]  ;
+ CMP EAX,$0                | CMP EAX,$0                ;
+ JE L2                     | JE L2                     ;
+ MOV EBX,[L_victim]        | MOV EBX,[L_victim]        ;
+ L2: MOV ECX,[cnt]         | L2: MOV ECX,[cnt]         ;
+ ADD ECX,$1                | ADD ECX,$1                ;
+ MOV [cnt],ECX             | MOV [cnt],ECX             ;
+ MOV ECX,$0                | MOV ECX,$0                ;
+ XCHG [L_interested_0],ECX | XCHG [L_interested_1],ECX ;
+locations [L_victim]
+forall (~0:EAX=0 /\\ 0:EBX=0 \\/ ~1:EAX=0 /\\ 1:EBX=1 \\/ cnt=2)
+`],
+  ["a class with a loop of loads, with `main`", `class SeqLock {
+public:
+  void write(int a, int b) {
+    unsigned s = seq_.load(std::memory_order_relaxed);
+    seq_.store(s + 1, std::memory_order_relaxed);
+    std::atomic_thread_fence(std::memory_order_release);
+    x_.store(a, std::memory_order_relaxed);
+    y_.store(b, std::memory_order_relaxed);
+    seq_.store(s + 2, std::memory_order_release);
+  }
+  void read(int& a, int& b) const {
+    unsigned s0, s1;
+    do {
+      s0 = seq_.load(std::memory_order_acquire);
+      a = x_.load(std::memory_order_relaxed);
+      b = y_.load(std::memory_order_relaxed);
+      std::atomic_thread_fence(std::memory_order_acquire);
+      s1 = seq_.load(std::memory_order_relaxed);
+    } while (s0 != s1 || (s0 & 1));
+  }
+private:
+  std::atomic<unsigned> seq_{0};
+  std::atomic<int> x_{0}, y_{0};
+};
+SeqLock sl;
+int ra, rb;
+int main() { std::thread w([] { sl.write(1, 1); }); std::thread r([] { sl.read(ra, rb); }); w.join(); r.join(); assert(!(ra == 0 && rb == 1)); assert(!(ra == 1 && rb == 0)); }
+`, `X86 Mine
+(* 0:EAX is s, 1:EAX is s0, 1:EBX is ra, 1:ECX is rb, 1:EDX is s1 *)
+{ sl_seq_=0; sl_x_=0; sl_y_=0; }
+ P0                | P1                ;
+ MOV EAX,[sl_seq_] | MOV EAX,[sl_seq_] ;
+ MOV EBX,EAX       | MOV EBX,[sl_x_]   ;
+ ADD EBX,$1        | MOV ECX,[sl_y_]   ;
+ MOV [sl_seq_],EBX | MOV EDX,[sl_seq_] ;
+ MOV [sl_x_],$1    |                   ;
+ MOV [sl_y_],$1    |                   ;
+ MOV EBX,EAX       |                   ;
+ ADD EBX,$2        |                   ;
+ MOV [sl_seq_],EBX |                   ;
+~exists ((1:EAX=0 /\\ 1:EDX=0 \\/ 1:EAX=2 /\\ 1:EDX=2) /\\ (1:EBX=0 /\\ 1:ECX=1 \\/ 1:EBX=1 /\\ 1:ECX=0))
+`],
+  ["no question, and a loop that returns", `class TTASLock { std::atomic<bool> locked = ATOMIC_VAR_INIT(false);
+public:
+ void lock() noexcept { for (;;) { if (!locked.exchange(true, std::memory_order_acquire)) return; while (locked.load(std::memory_order_relaxed)) { __builtin_ia32_pause(); } } }
+ bool try_lock() noexcept { return !locked.load(std::memory_order_relaxed) && !locked.exchange(true, std::memory_order_acquire); }
+ void unlock() noexcept { locked.store(false, std::memory_order_release); } };
+TTASLock l; int n;
+void a() { l.lock(); n++; l.unlock(); }
+void b() { if (l.try_lock()) { n++; l.unlock(); } }
+`, `X86 Mine
+(* 0:EAX is l_locked at its lock *)
+{ l_locked=0; n=0; }
+ P0                  | P1                  ;
+ MOV EAX,$1          | MOV EAX,[l_locked]  ;
+ XCHG [l_locked],EAX | CMP EAX,$0          ;
+ MOV EBX,[n]         | JNE END             ;
+ ADD EBX,$1          | MOV EAX,$1          ;
+ MOV [n],EBX         | XCHG [l_locked],EAX ;
+ MOV [l_locked],$0   | CMP EAX,$0          ;
+                     | JNE END             ;
+                     | MOV EAX,[n]         ;
+                     | ADD EAX,$1          ;
+                     | MOV [n],EAX         ;
+                     | MOV [l_locked],$0   ;
+                     | END:                ;
+locations [l_locked; n]
+exists (0:EAX=0)
+`],
+  ["no question, and names of numbers", `enum { IDLE, WANT };
+volatile int flag[2]; volatile int turn;
+void P0() { flag[0] = WANT; turn = 1; while (flag[1] == WANT && turn == 1) ; flag[0] = IDLE; }
+void P1() { flag[1] = WANT; turn = 0; while (flag[0] == WANT && turn == 0) ; flag[1] = IDLE; }
+`, `X86 Mine
+(* 0:EAX is flag_1 after its loop, 0:EBX is turn after its loop, 1:EAX is flag_0 after its loop, 1:EBX is turn after its loop *)
+{ flag_0=0; flag_1=0; turn=0; }
+ P0                  | P1                  ;
+ MOV [flag_0],$1     | MOV [flag_1],$1     ;
+ MOV [turn],$1       | MOV [turn],$0       ;
+ MOV EAX,[flag_1]    | MOV EAX,[flag_0]    ;
+ CMP EAX,$1          | CMP EAX,$1          ;
+ JNE L1              | JNE L1              ;
+ MOV EBX,[turn]      | MOV EBX,[turn]      ;
+ L1: MOV [flag_0],$0 | L1: MOV [flag_1],$0 ;
+locations [turn]
+exists ((~0:EAX=1 \\/ ~0:EBX=1) /\\ (~1:EAX=1 \\/ ~1:EBX=0))
+`],
+  ["numbers by casts, with `main`", `class Peterson { public: Peterson() : turn(0) { flag[0] = false; flag[1] = false; }
+ void enter(int id) { const int other = id ^ 1; flag[id].store(true); turn.store(other); while (flag[other].load() && turn.load() == other) { } }
+ void exit(int id) { flag[id].store(false); }
+ private: std::atomic<bool> flag[2]; std::atomic<int> turn; };
+static Peterson lock; static int value = 0;
+void *run(void *p) { int id = *((int *)p); lock.enter(id); value += 1; lock.exit(id); return nullptr; }
+int main() { pthread_t t[2]; int ids[2] = {0, 1}; for (int i = 0; i < 2; ++i) pthread_create(&t[i], nullptr, run, &ids[i]); for (int i = 0; i < 2; ++i) pthread_join(t[i], nullptr); assert(value == 2); }
+`, `X86 Mine
+(* 0:EAX is lock_flag_1 after its loop, 0:EBX is lock_turn after its loop, 1:EAX is lock_flag_0 after its loop, 1:EBX is lock_turn after its loop *)
+{ lock_flag_0=0; lock_flag_1=0; lock_turn=0; value=0; }
+ P0                     | P1                     ;
+ MOV ECX,$1             | MOV ECX,$1             ;
+ XCHG [lock_flag_0],ECX | XCHG [lock_flag_1],ECX ;
+ MOV ECX,$1             | MOV ECX,$0             ;
+ XCHG [lock_turn],ECX   | XCHG [lock_turn],ECX   ;
+ MOV EAX,[lock_flag_1]  | MOV EAX,[lock_flag_0]  ;
+ CMP EAX,$0             | CMP EAX,$0             ;
+ JE L2                  | JE L2                  ;
+ MOV EBX,[lock_turn]    | MOV EBX,[lock_turn]    ;
+ L2: MOV ECX,[value]    | L2: MOV ECX,[value]    ;
+ ADD ECX,$1             | ADD ECX,$1             ;
+ MOV [value],ECX        | MOV [value],ECX        ;
+ MOV ECX,$0             | MOV ECX,$0             ;
+ XCHG [lock_flag_0],ECX | XCHG [lock_flag_1],ECX ;
+locations [lock_turn]
+forall (~0:EAX=0 /\\ 0:EBX=1 \\/ ~1:EAX=0 /\\ 1:EBX=0 \\/ value=2)
+`],
+  ["no question, and macros that are called", `#define barrier() asm volatile("" ::: "memory")
+#define mb() asm volatile("mfence" ::: "memory")
+int x, y, r1, r2;
+void P0(void) { x = 1; mb(); r1 = y; }
+void P1(void) { y = 1; barrier(); r2 = x; }
+`, `X86 Mine
+(* 0:EAX is r1, 1:EAX is r2 *)
+{ x=0; y=0; }
+ P0          | P1          ;
+ MOV [x],$1  | MOV [y],$1  ;
+ MFENCE      | MOV EAX,[x] ;
+ MOV EAX,[y] |             ;
+exists (0:EAX=0 /\\ 1:EAX=0)
+`],
+  ["no question, and macros of the kernel", `#define READ_ONCE(x) (*(volatile int *)&(x))
+#define WRITE_ONCE(x, v) (*(volatile int *)&(x) = (v))
+int x, y;
+void P0(void) { WRITE_ONCE(x, 1); int r0 = READ_ONCE(y); }
+void P1(void) { WRITE_ONCE(y, 1); int r0 = READ_ONCE(x); }
+`, `X86 Mine
+(* 0:EAX is r0, 1:EAX is r0 *)
+{ x=0; y=0; }
+ P0          | P1          ;
+ MOV [x],$1  | MOV [y],$1  ;
+ MOV EAX,[y] | MOV EAX,[x] ;
+exists (0:EAX=0 /\\ 1:EAX=0)
+`],
+  ["no question, and a class in a namespace", `namespace sync { class SpinLock { public: void lock() { while (flag.test_and_set(std::memory_order_acquire)) { } } void unlock() { flag.clear(std::memory_order_release); } private: std::atomic_flag flag = ATOMIC_FLAG_INIT; }; }
+sync::SpinLock sl; int n;
+void P0() { std::lock_guard<sync::SpinLock> g(sl); n++; }
+void P1() { std::lock_guard<sync::SpinLock> g(sl); n++; }
+`, `X86 Mine
+(* 0:EAX is sl_flag at its lock, 1:EAX is sl_flag at its lock *)
+{ sl_flag=0; n=0; }
+ P0                 | P1                 ;
+ MOV EAX,$1         | MOV EAX,$1         ;
+ XCHG [sl_flag],EAX | XCHG [sl_flag],EAX ;
+ MOV EBX,[n]        | MOV EBX,[n]        ;
+ ADD EBX,$1         | ADD EBX,$1         ;
+ MOV [n],EBX        | MOV [n],EBX        ;
+ MOV [sl_flag],$0   | MOV [sl_flag],$0   ;
+locations [sl_flag]
+exists (0:EAX=0 /\\ 1:EAX=0 /\\ ~n=2)
+`],
+  ["no question, and a name of a type", `using Atom = std::atomic<int>; Atom x{0}, y{0};
+void P0() { x.store(1, std::memory_order_relaxed); int r0 = y.load(std::memory_order_relaxed); }
+void P1() { y.store(1, std::memory_order_relaxed); int r0 = x.load(std::memory_order_relaxed); }
+`, `X86 Mine
+(* 0:EAX is r0, 1:EAX is r0 *)
+{ x=0; y=0; }
+ P0          | P1          ;
+ MOV [x],$1  | MOV [y],$1  ;
+ MOV EAX,[y] | MOV EAX,[x] ;
+exists (0:EAX=0 /\\ 1:EAX=0)
+`],
+  ["no question, and names of types in C", `typedef _Atomic int aint; typedef std::mutex Lock; aint x, y; Lock m; int n;
+static void st(aint *p) { *p = 1; }
+void P0() { st(&x); std::lock_guard<Lock> g(m); n++; }
+void P1() { std::lock_guard<Lock> g(m); n++; }
+`, `X86 Mine
+(* 0:EAX is m at its lock, 1:EAX is m at its lock *)
+{ x=0; m=0; n=0; }
+ P0           | P1           ;
+ MOV EBX,$1   | MOV EAX,$1   ;
+ XCHG [x],EBX | XCHG [m],EAX ;
+ MOV EAX,$1   | MOV EBX,[n]  ;
+ XCHG [m],EAX | ADD EBX,$1   ;
+ MOV EBX,[n]  | MOV [n],EBX  ;
+ ADD EBX,$1   | MOV EBX,$0   ;
+ MOV [n],EBX  | XCHG [m],EBX ;
+ MOV EBX,$0   |              ;
+ XCHG [m],EBX |              ;
+locations [x]
+exists (0:EAX=0 /\\ 1:EAX=0 /\\ ~n=2)
+`],
+  ["no question, and loops whose conditions assign", `std::atomic<int> x; int d;
+void P0() { d = 1; x.store(3, std::memory_order_release); }
+void P1() { int r; while ((r = x.load(std::memory_order_acquire)) == 0) ; int s = d; int t; while (!(t = x)) { _mm_pause(); } }
+`, `X86 Mine
+(* 1:EAX is r, 1:EBX is s, 1:ECX is t *)
+{ x=0; d=0; }
+ P0         | P1          ;
+ MOV [d],$1 | MOV EAX,[x] ;
+ MOV [x],$3 | MOV EBX,[d] ;
+            | MOV ECX,[x] ;
+exists (~1:EAX=0 /\\ ~1:ECX=0 /\\ 1:EBX=0)
+`],
+  ["a compare-exchange that is tried once", `std::atomic<bool> l{false}; int n;
+bool try_lock() { bool e = false; return l.compare_exchange_strong(e, true); }
+void P0() { if (try_lock()) { n++; l = false; } }
+void P1() { if (try_lock()) { n++; l = false; } }
+`, "`return l.compare_exchange_strong(e, true..`: the x86 format has no compare-and-swap. `tools/from_c.py` follows it"],
+  ["a template", `template <typename L> struct Guard { L& l; Guard(L& x) : l(x) { l.lock(); } ~Guard() { l.unlock(); } };
+std::atomic<int> x;
+void P0() { x = 1; }
+`, "`template <typename L> struct Guard { L& ..`: outside of threads are only declarations of integers and `bool`, as `atomic_int x = 1;`"],
+  ["a template", `template <typename L> struct Guard { L& l; Guard(L& x) : l(x) { l.lock(); } ~Guard() { l.unlock(); } };
+std::atomic<int> x;
+void P0() { x = 1; }
+`, "`template <typename L> struct Guard { L& ..`: outside of threads are only declarations of integers and `bool`, as `atomic_int x = 1;`"],
   ["33 instructions", `atomic_int x;\nvoid P0() { ${"x++; ".repeat(17)}}\n// lw: exists (x=1)\n`, "a thread has too many statements"],
   ["nine locations", `atomic_int ${NINE.join(", ")};\nvoid P0() { ${NINE.map((it) => `${it} = 1;`).join(" ")} }\n// lw: exists (a=1)\n`,
     "there are more than 8 locations"],
