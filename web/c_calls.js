@@ -3,17 +3,19 @@
 // The records `Program`, `CThread` and `Part` are those of c_reader.js, and `Statement` is that of c_statements.js.
 // A `Call` has the function that is `called`, a `CThread`, and the codes of its `values`.
 
-import { findClosing, parseDeclaration, refusePart, replaceNames, squeezeCode } from "./c_code.js";
+import { findClosing, parseConstant, parseDeclaration, refusePart, replaceNames, squeezeCode } from "./c_code.js";
 import { computeConstant, foldConstants } from "./c_constants.js";
 import { ArgumentBinder, isChanged, parseParameters } from "./c_parameters.js";
 import { isCondition, OF_FUNCTIONS, removeOuterParentheses, splitOutside } from "./c_statements.js";
-import { OF_LOADS, SPARE } from "./c_values.js";
+import { OF_LOADS, OF_STEPS, SPARE } from "./c_values.js";
 import { readStatements } from "./c_loop_reader.js";
 import { LoopWriter } from "./c_loops.js";
 import { REGISTERS, WORD } from "./token_reader.js";
 
 // The code of a function that only returns a value: the group is this.
 const RETURNING = /^\s*return\b\s*([^;{}]+);\s*$/;
+// Functions that are read as others.
+const CONVERTED = /^(?:xchg|smp_|atomic_|READ_ONCE$|WRITE_ONCE$|__)/;
 const CALLED = /\b(\w+)\(/g;
 // How many calls may be in one another, and how many a thread may have.
 const DEEPEST = 12;
@@ -26,19 +28,20 @@ const CAST = /\*\s{0,9}\(\s{0,9}([\w<>: ]{1,40}?)\s{0,9}\*\s{0,9}\)\s{0,9}(?=&)/
 const CAST_IN_CPP = /\b(?:static|reinterpret)_cast\s{0,9}<([\w<>: ]{1,40}?)\s{0,9}\*\s{0,9}>\s{0,9}\((\s{0,9}&\s{0,9}\w+\s{0,9})\)/g;
 const CAST_IN_PARENTHESES = /\*\s{0,9}\(\s{0,9}(\([\w<>: ]{1,40}\*\s{0,9}\)\s{0,9}&\s{0,9}\w+)\s{0,9}\)/g;
 const CAST_OF_NUMBER = /\*\s{0,9}\(\s{0,9}[\w<>: ]{1,40}\*\s{0,9}\)\s{0,9}&/;
-const ARROW = /(?<![\w)\]]\s{0,9})&\s{0,9}(\w+)\s{0,9}->/g;
+const ARROW = /&\s{0,9}(\w+)\s{0,9}->/g;
 const MEMBER = /\b(\w+)\s{0,9}\.\s{0,9}(\w+)(?=\s{0,9}(\()?)/g;
 const INDEX = /\b(\w+)\s{0,9}\[([^\][]{1,80})\]/g;
 const THIS = /\bthis\s{0,9}->\s{0,9}/g;
 const SIBLING = /(?<![.\w>]\s{0,9})\b(\w+)(?=\s{0,9}\()/g;
 // A statement that stores the result of a call: the groups are before it and after it.
 const STORED = [/^(\*?\w+=)()$/, /^(atomic_(?:store|exchange)\w{0,20}\(&\w+,)((?:,memory_order_\w+)?\))$/];
+const CHANGING = /\+\+|--|(?<![=!<>])=(?!=)/;
 const USED = /^\(void\)\w+$/;
 // Why a statement is refused.
 const OF_ARGUMENTS = ": its arguments are constants, variables of the thread, and shared variables of the types of its parameters";
 const OF_HOISTED = ": call a function in a statement of its own, as `int r = f();`";
 const OF_EXITS = ": only the function of the thread itself ends the thread";
-const OF_VALUES = ": this function returns nothing";
+const OF_VALUES = ": this function returns no integer";
 
 /** Returns whether a value is a truth, which is 0 or 1. */
 function isTruth(code) {
@@ -73,6 +76,7 @@ export class CallWriter extends LoopWriter {
   /** Gives a function its arguments, and writes the copies of those that it changes. Throws NoTest if they don't fit its parameters. */
   enterFunction(called, values) {
     const binder = this.bindArguments(called, values) ?? refusePart(this.statement, OF_ARGUMENTS);
+    if (values.length > 1 && values.some((it) => CHANGING.test(it))) this.refuseStatement(OF_STEPS);
     if (binder.copies.filter(({ value }) => /[^\w+ -]/.test(value) || this.variables.has(value)).length > 1) this.refuseStatement(OF_LOADS);
     if (binder.isWide) this.isWide = true;
     for (const { variable, value } of binder.copies) {
@@ -88,7 +92,8 @@ export class CallWriter extends LoopWriter {
 
   /** Returns the binder of arguments that fit the parameters of a function; null if they don't. */
   bindArguments(called, values) {
-    const binder = new ArgumentBinder(this, called, new Map([...this.program.names, ...(called.members ?? [])]));
+    const names = called.isMacro ? this.names : this.program.names;
+    const binder = new ArgumentBinder(this, called, new Map([...names, ...(called.members ?? [])]));
     return binder.bindAll(values) ? binder : null;
   }
 
@@ -261,8 +266,11 @@ export class CallWriter extends LoopWriter {
     const name = /^\w+(?=\()/.exec(code.slice(begin))?.[0];
     const isCalling = (it) => [...it.matchAll(CALLED)].some(([, other]) => this.functions.has(other));
     if (this.isHerd || !isCalling(code)) return code;
-    if (!this.functions.has(name) || isCalling(code.slice(begin + name.length))) this.refuseStatement(OF_HOISTED);
-    const end = findClosing(code, begin + name.length) + 1;
+    const end = this.functions.has(name) ? findClosing(code, begin + name.length) + 1 : 0;
+    // What is compared with the result has no place before or after the call.
+    const [compared] = splitOutside(code.slice(end), "&&");
+    const isFirst = end && (compared.match(/\w+/g) ?? []).every((it) => parseConstant(it) !== null);
+    if (!isFirst || isCalling(code.slice(begin + name.length))) this.refuseStatement(OF_HOISTED);
     return code.slice(0, begin) + this.writeResult(code.slice(begin, end)) + code.slice(end);
   }
 
@@ -336,11 +344,6 @@ export class CallWriter extends LoopWriter {
     return (isIndex || isArgument || this.hasConstants) && !isAsked && !this.variables.has(name) && after.length === 1 && !isChanged(name, after[0], this.changing);
   }
 
-  /** Returns whether a name is that of a function or a method. */
-  isCalled(name) {
-    return this.functions.has(name) || [...this.functions.values()].some((it) => it.name === name);
-  }
-
   /** Returns the names of its shared variables with registers that it changes, and whose initial words it or its functions may have used before. */
   listUnset() {
     const others = (this.called.reached ?? "").slice(this.code.code.length);
@@ -411,9 +414,14 @@ function findReached(program, { code, values = [], name }) {
  * @returns {Program}
  */
 export function linkThreads(program) {
-  const { threads, functions, isHerd } = program;
+  const { threads, functions, names, isHerd } = program;
   if (isHerd) return { ...program, unwritten: new Map() };
   const codes = [...functions.values()].map((it) => [it.name, it.code.code]);
+  // A function of the program may do something else than the one that it is named as.
+  for (const [name, it] of [...functions].filter(([key]) => CONVERTED.test(key))) {
+    functions.set(`own__${name}`, it);
+    names.set(`${name}(`, `own__${name}`);
+  }
   const isCalled = ({ name, isStarted }) => {
     const call = new RegExp(`(?<![.\\w>])${name}\\s{0,9}\\(`);
     return !isStarted && !/^P\d$/.test(name) && codes.some(([other, code]) => other !== name && call.test(code));

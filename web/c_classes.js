@@ -17,6 +17,8 @@ const INITIAL = /(\w+)\s*(?:\(([^()]*)\)|\{([^{}]*)\})/g;
 const ASSIGNED = /^(\w+(?:\[\d\])?)(?:=|\.store\()([\w-]+)(?:,memory_order_\w+)?\)?$/;
 // A declaration of objects in squeezed code: the groups are their type, and their names.
 const OBJECTS = /^(?:(?:static|inline|extern) )*(?:(?:struct|class) )?(\w+) (\w+(?:,\w+)*)(?:\{\}|=\{0?\}|=\w+(?:\(\)|\{\}))?$/;
+/** Why a function with the name of another one is refused, as the end of a sentence. */
+export const OF_OVERLOADS = ": give each function a name of its own";
 const OF_MEMBERS = ": a class has integers, `bool`, mutexes, arrays of these, and functions";
 const OF_CONSTRUCTORS = ": a constructor has no parameters, and only sets variables to constants";
 
@@ -71,6 +73,7 @@ class ClassReader {
   /** Reads a method. */
   readMethod([{ length }, type, name, parameters]) {
     const head = this.cutPart(length).index + this.rest.indexOf(name, type.length);
+    if (this.methods.some((it) => it.name === name)) refusePart({ code: name, index: head }, OF_OVERLOADS);
     this.methods.push({ name, type, head, parameters, ...this.cutFunction(length) });
   }
 
@@ -117,6 +120,8 @@ export function readClass(name, code, names) {
 export function declareObjects(program, code, shown) {
   const [, type, objects] = (program.types.size && OBJECTS.exec(code)) || [];
   if (!program.types.has(type)) return false;
+  // The first variable is 0 then, whatever its own initial value is.
+  if (code.endsWith("={0}") && parseConstant(program.types.get(type).members[0]?.value ?? "0") !== 0) refusePart(shown, OF_VALUES);
   for (const object of objects.split(",")) addObject(program, object, program.types.get(type), shown);
   return true;
 }

@@ -81,7 +81,7 @@ export class LoopWriter extends ThreadWriter {
     const formula = parseFormula(code);
     const isSimple = formula !== null && !hasName(formula, (it) => this.locals.has(it) && !assigns);
     const hasLoad = [...code.matchAll(LOAD_IN_CONDITION)].some(([it]) => it.startsWith("atomic_load") || (this.variables.has(it) && !this.locals.has(it)) || (assigns && isLate));
-    const isPlain = !inner.length && !calls.some((it) => this.functions.has(it)) && (!assigns || isLate) && !/\w\(/.test(code.replace(LOAD_IN_CONDITION, ""));
+    const isPlain = !inner.length && !calls.some((it) => this.isCalled(it)) && (!assigns || isLate) && !/\w\(/.test(code.replace(LOAD_IN_CONDITION, ""));
     return isPlain && hasLoad && !isSimple && !ASSIGNMENT.test(code);
   }
 

@@ -242,7 +242,7 @@ class MainFollower {
     const called = this.program.functions.get(/^(\w+)\(\)$/.exec(code)?.[1]);
     if (!called || this.depth >= DEEPEST) return false;
     this.depth += 1;
-    this.followStatements(new MainReader(called.code).readAll());
+    this.followBlock(new MainReader(called.code).readAll());
     this.depth -= 1;
     return true;
   }

@@ -14,7 +14,7 @@
 // `limit`, which is 2 for a `bool`. It `isWide` if it has 64 bits, or not. The `element` is the code of a word of an array, as `a[0]`. The `order` is
 // that of the operators on it: seq_cst if it is atomic, relaxed if it is volatile, mutex if it is one, and otherwise plain.
 
-import { addObject, declareObjects, readClass } from "./c_classes.js";
+import { addObject, declareObjects, OF_OVERLOADS, readClass } from "./c_classes.js";
 import {
   blank,
   declareVariables,
@@ -80,6 +80,7 @@ const QUESTION = /^(?:~|exists|forall|locations)/;
 const OF_HEADING = ": a test begins with `C`, its name, and its initial values in braces";
 const OF_ENTRIES = ": initial values are entries as `x=1;`";
 const OF_GLOBALS = ": outside of threads are only declarations of integers and `bool`, as `atomic_int x = 1;`";
+const OF_MACROS = ": write its text where it is used";
 const OF_PARAMETERS = ": a parameter is a pointer to 32 bits, as `atomic_int *x`";
 const OF_THREADS = ": a thread is a function without parameters, or with an unused `void *`";
 const OF_END = ": after the threads is the question, as `exists (0:r0=0)`";
@@ -197,7 +198,7 @@ class ProgramReader {
     const [constant, constantName, code = ""] = CONSTANT.exec(this.rest) ?? [];
     if (!macro && !constant) return false;
     const value = parseNamedValue(replaceNames(macro ? text : code, this.names));
-    if (macro && (!macroName || value === null)) refusePart(this.cutPart(macro.length), ": write its text where it is used");
+    if (macro && (!macroName || value === null)) refusePart(this.cutPart(macro.length), OF_MACROS);
     if (value === null) return false;
     this.names.set(macroName ?? constantName, value);
     this.skipPart((macro ?? constant).length);
@@ -225,8 +226,10 @@ class ProgramReader {
 
   /** Adds a macro as a function. */
   addMacro(whole, name, text) {
-    const code = { code: `${text.replace(/;?\s*$/, "")};`, index: whole.index + whole.code.lastIndexOf(text) };
-    this.functions.set(name, { name, type: "void", head: whole.index, whole, parameters: "", code, variables: this.globals, returnsWord: false });
+    const statement = text.replace(/;?\s*$/, "");
+    if (statement.includes(";")) refusePart(whole, OF_MACROS);
+    const code = { code: `${statement};`, index: whole.index + whole.code.lastIndexOf(text) };
+    this.functions.set(name, { name, type: "void", head: whole.index, whole, parameters: "", code, variables: this.globals, returnsWord: false, isMacro: true });
   }
 
   /** Reads the begin of a namespace, if one is here, whose end is blank then. Returns whether it is. */
@@ -268,9 +271,12 @@ class ProgramReader {
     const returnsWord = !this.isHerd && WORD_TYPE.test(type);
     const head = this.index + this.rest.indexOf(name, type.length);
     const thread = { name, type, head, whole, parameters: this.isHerd ? parameters : replaceNames(parameters, this.names), code, variables, returnsWord, isStarted: false };
+    if (!this.isHerd && this.functions.has(name)) refusePart({ code: name, index: head }, OF_OVERLOADS);
     if (name === "main" && !this.isHerd) this.main = code;
-    else this.threads.push(thread);
-    if (name !== "main" || this.isHerd) this.functions.set(name, thread);
+    else {
+      this.threads.push(thread);
+      this.functions.set(name, thread);
+    }
     this.skipPart(end + 1);
   }
 }

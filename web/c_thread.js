@@ -256,7 +256,7 @@ export class ThreadWriter extends LockWriter {
    * that a question can ask how it ended. Throws NoTest if it does more, or if it may not be reached and then seems to wait.
    */
   writeWaiting({ condition, assigns, calls, inner }) {
-    if (calls.some((it) => this.functions.has(it))) this.refuseStatement(OF_LOOPS);
+    if (calls.some((it) => this.isCalled(it))) this.refuseStatement(OF_LOOPS);
     const { loaded, loadedBranches } = this;
     const code = this.squeeze(condition);
     const [comparison, another] = parseCondition(code) ?? [];
@@ -272,6 +272,11 @@ export class ThreadWriter extends LockWriter {
   isOfLoads(condition) {
     const formula = parseFormula(this.squeeze(condition));
     return formula !== null && !hasName(formula, (it) => !this.variables.has(it));
+  }
+
+  /** Returns whether a name is that of a function or a method of the program. */
+  isCalled(name) {
+    return this.functions.has(name) || [...this.functions.values()].some((it) => it.name === name);
   }
 
   /** Records when a loop or a lock ends. Throws NoTest if it may not be reached, and then seems to wait, since its registers are 0. */

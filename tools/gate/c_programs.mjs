@@ -2137,10 +2137,148 @@ void P1() { if (try_lock()) { n++; l = false; } }
 std::atomic<int> x;
 void P0() { x = 1; }
 `, "`template <typename L> struct Guard { L& ..`: outside of threads are only declarations of integers and `bool`, as `atomic_int x = 1;`"],
-  ["a template", `template <typename L> struct Guard { L& l; Guard(L& x) : l(x) { l.lock(); } ~Guard() { l.unlock(); } };
-std::atomic<int> x;
-void P0() { x = 1; }
-`, "`template <typename L> struct Guard { L& ..`: outside of threads are only declarations of integers and `bool`, as `atomic_int x = 1;`"],
+  ["no question, and functions that are named as those of the kernel", `int x;
+static void atomic_inc(int *p) { (*p)++; }
+static int smp_load_acquire(int *p) { return *p; }
+void P0(void) { atomic_inc(&x); }
+void P1(void) { atomic_inc(&x); int r = smp_load_acquire(&x); }
+`, `X86 Mine
+(* 1:EAX is r *)
+{ x=0; }
+ P0          | P1          ;
+ MOV EAX,[x] | MOV EBX,[x] ;
+ ADD EAX,$1  | ADD EBX,$1  ;
+ MOV [x],EAX | MOV [x],EBX ;
+             | MOV EAX,[x] ;
+locations [1:EAX]
+exists (~x=2)
+`],
+  ["two functions of one name", `std::atomic<int> x; void f(int a) { x = a; } void f(bool a) { x = a; } void P0() { f(2); }
+`, "`f`: give each function a name of its own"],
+  ["a step in an argument", `std::atomic<int> x; void f(int a, int b) { x = a; x = b; } void P0() { int r = 1; f(r++, r); }
+`, "`f(r++, r)`: write `++` and `--` of a thread's own variable in a statement of its own"],
+  ["a call in a sum", `std::atomic<int> x, y; int f() { int t = x.fetch_add(1); return t; } void P0() { if (f() + y == 3) y = 1; }
+`, "`if (f() + y == 3)`: call a function in a statement of its own, as `int r = f();`"],
+  ["a method in a loop that waits", `struct S { std::atomic<int> x, y; void relax() { y = 1; } void w() { while (!x) { relax(); } } }; S s; void P0() { s.w(); } void P1() { s.x = 1; }
+`, "`while (!x)`: write out each pass of a loop. `tools/from_c.py` follows loops"],
+  ["an object whose first variable has a word", `struct S { int a = 5; std::atomic<int> b; }; S s = {0}; void P0() { s.b = 1; } void P1() { int r = s.b; }
+`, "`S s = {0};`: an initial value is one constant, as in `x = 1` or `x{1}`, and of a `bool` 0 or 1"],
+  ["a macro of two statements", `std::atomic<int> x, y;
+#define BOTH() x = 1; y = 1
+void P0() { if (x) BOTH(); }
+`, "`#define BOTH() x = 1; y = 1`: write its text where it is used"],
+  ["functions that call each other", `std::atomic<int> x; void g(); void f() { x++; g(); } void g() { f(); } void P0() { f(); }
+`, "`f()`: write what the function does in its place"],
+  ["a function without a result", `std::atomic<int> x; void f() { x++; } void P0() { int r = f(); }
+`, "`int r = f()`: this function returns no integer"],
+  ["a function that returns on one path only", `std::atomic<int> x; int f() { if (x) return 1; } void P0() { int r = f(); x = r; }
+`, "`x = r`: `r` has no value on some path to here"],
+  ["an argument that is shared", `std::atomic<int> x; void f(int v) { x = v; } int main() { std::thread a(f, x), b(f, 2); a.join(); b.join(); }
+`, "`std::thread a(f, x), b(f, 2)`: its arguments are constants, variables of the thread, and shared variables of the types of its parameters"],
+  ["too few arguments", `std::atomic<int> x; void f(int v, int w) { x = v; } void P0() { f(1); }
+`, "`f(1)`: its arguments are constants, variables of the thread, and shared variables of the types of its parameters"],
+  ["a function that ends the thread", `std::atomic<int> x; void f() { pthread_exit(NULL); } void P0() { f(); x = 1; }
+`, "`pthread_exit(NULL)`: only the function of the thread itself ends the thread"],
+  ["an index below 0", `std::atomic<int> x[2]; void f(int v) { x[v - 1] = 1; } void P0() { f(0); }
+`, "`x[v - 1] = 1`: an array is shared, and its indices are constants in it, as `a[0]`"],
+  ["a branch of a number, with `main`", `std::atomic<int> x, y; int g;
+void f(int id) { if (id) { x = 1; return; } else { y = 1; } g = id; }
+int main() { std::thread a(f, 0), b(f, 1); a.join(); b.join(); assert(x == 1 && y == 1); }
+`, `X86 Mine
+(* 0:EAX is g *)
+{ x=0; y=0; }
+ P0           | P1           ;
+ MOV EBX,$1   | MOV EAX,$1   ;
+ XCHG [y],EBX | XCHG [x],EAX ;
+ MOV EAX,$0   |              ;
+forall (x=1 /\\ y=1)
+`],
+  ["a static variable of a thread", `std::atomic<int> x;
+void P0() { static int n; n++; x = n; }
+void P1() { x = 1; }
+`, "`static int n`: a static variable is shared, so declare it outside of functions"],
+  ["a call in the middle of a condition", `std::atomic<int> x; int n;
+int take() { int t = x.fetch_add(1); return t; }
+void P0() { if (x == 1 && take() == 1) n = 1; }
+void P1() { x = 1; n = 2; }
+`, "`if (x == 1 && take() == 1)`: call a function in a statement of its own, as `int r = f();`"],
+  ["a pointer of another type", `int d; atomic_int x;
+void set(atomic_int *p) { *p = 1; }
+void P0() { set(&d); }
+void P1() { int a = d; }
+`, "`set(&d)`: its arguments are constants, variables of the thread, and shared variables of the types of its parameters"],
+  ["a constructor with a parameter", `class C { public: C(int n) : v(n) {} std::atomic<int> v; }; C c(1);
+void P0() { c.v = 1; }
+`, "`C(int n) : v(n) {}`: a constructor has no parameters, and only sets variables to constants"],
+  ["no question, and a thread of a method, with `main`", `struct W { std::atomic<int> x; void run() { x++; } } w;
+int main() { std::thread t(&W::run, &w); t.join(); }
+`, `X86 Mine
+{ w_x=0; }
+ P0                  ;
+ MOV EAX,$1          ;
+ LOCK XADD [w_x],EAX ;
+locations [w_x]
+exists (true)
+`],
+  ["several variables in a declaration", `std::atomic<int> x, y;
+int f(int v) { int r = x, s = r, t = v; return s + t; }
+void P0() { int r = 5; int q = f(r); }
+void P1() { x = 1; }
+exists (0:q=6)
+`, `X86 Mine
+(* 0:EAX is r, 0:EBX is s, 0:ECX is q *)
+{ x=0; }
+ P0          | P1           ;
+ MOV EAX,[x] | MOV EAX,$1   ;
+ MOV EBX,EAX | XCHG [x],EAX ;
+ MOV ECX,EBX |              ;
+ ADD ECX,$5  |              ;
+exists (0:ECX=6)
+`],
+  ["an argument that another function changes", `std::atomic<int> x;
+void g(int& a) { a++; }
+void f(int b) { g(b); x.store(b, std::memory_order_relaxed); }
+void P0() { int r = 3; f(r); }
+void P1() { int s = x; }
+exists (0:r=3)
+`, `X86 Mine
+(* 0:EAX is r, 0:EBX is b, 1:EAX is s *)
+{ x=0; }
+ P0          | P1          ;
+ MOV EAX,$3  | MOV EAX,[x] ;
+ MOV EBX,EAX |             ;
+ ADD EBX,$1  |             ;
+ MOV [x],EBX |             ;
+exists (0:EAX=3)
+`],
+  ["a function that returns whether", `std::atomic<int> x{2};
+bool on() { return x.load(); }
+void P0() { int r0 = on(); bool b = on(); if (on()) r0++; }
+void P1() { x = 0; }
+exists (0:r0=2)
+`, `X86 Mine
+(* 0:EAX is r0, 0:EBX is b *)
+{ x=2; }
+ P0              | P1           ;
+ MOV ECX,[x]     | MOV EAX,$0   ;
+ CMP ECX,$0      | XCHG [x],EAX ;
+ JE L1           |              ;
+ MOV EAX,$1      |              ;
+ JMP L2          |              ;
+ L1: MOV EAX,$0  |              ;
+ L2: MOV ECX,[x] |              ;
+ CMP ECX,$0      |              ;
+ JE L3           |              ;
+ MOV EBX,$1      |              ;
+ JMP L4          |              ;
+ L3: MOV EBX,$0  |              ;
+ L4: MOV ECX,[x] |              ;
+ CMP ECX,$0      |              ;
+ JE END          |              ;
+ ADD EAX,$1      |              ;
+ END:            |              ;
+exists (0:EAX=2)
+`],
   ["33 instructions", `atomic_int x;\nvoid P0() { ${"x++; ".repeat(17)}}\n// lw: exists (x=1)\n`, "a thread has too many statements"],
   ["nine locations", `atomic_int ${NINE.join(", ")};\nvoid P0() { ${NINE.map((it) => `${it} = 1;`).join(" ")} }\n// lw: exists (a=1)\n`,
     "there are more than 8 locations"],
