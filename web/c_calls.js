@@ -5,36 +5,29 @@
 
 import { findClosing, parseConstant, parseDeclaration, refusePart, replaceNames, squeezeCode } from "./c_code.js";
 import { computeConstant, foldConstants } from "./c_constants.js";
-import { ArgumentBinder, isChanged, parseParameters } from "./c_parameters.js";
-import { isCondition, OF_FUNCTIONS, removeOuterParentheses, splitOutside } from "./c_statements.js";
-import { OF_LOADS, OF_STEPS, SPARE } from "./c_values.js";
 import { readStatements } from "./c_loop_reader.js";
 import { LoopWriter } from "./c_loops.js";
+import { ArgumentBinder, isChanged, parseParameters } from "./c_parameters.js";
+import { resolvePlaces } from "./c_places.js";
+import { isCondition, OF_FUNCTIONS, removeOuterParentheses, splitOutside } from "./c_statements.js";
+import { joinPaths } from "./c_thread.js";
+import { OF_LOADS, OF_STEPS, SPARE } from "./c_values.js";
 import { REGISTERS, WORD } from "./token_reader.js";
 
 // The code of a function that only returns a value: the group is this.
 const RETURNING = /^\s*return\b\s*([^;{}]+);\s*$/;
-// Functions that are read as others.
-const CONVERTED = /^(?:xchg|smp_|atomic_|READ_ONCE$|WRITE_ONCE$|__)/;
 const CALLED = /\b(\w+)\(/g;
 // How many calls may be in one another, and how many a thread may have.
 const DEEPEST = 12;
 const MOST = 200;
 // Longer code is not extended.
 const LONGEST = 4000;
-// In code with pointers that are known: what they point to, an object by a pointer, a member or a method of an object, and a word of an array.
-const POINTED = /\(\s{0,9}\*\s{0,9}&\s{0,9}(\w+)\s{0,9}\)|\*\s{0,9}&\s{0,9}(\w+)/g;
-const CAST = /\*\s{0,9}\(\s{0,9}([\w<>: ]{1,40}?)\s{0,9}\*\s{0,9}\)\s{0,9}(?=&)/g;
-const CAST_IN_CPP = /\b(?:static|reinterpret)_cast\s{0,9}<([\w<>: ]{1,40}?)\s{0,9}\*\s{0,9}>\s{0,9}\((\s{0,9}&\s{0,9}\w+\s{0,9})\)/g;
-const CAST_IN_PARENTHESES = /\*\s{0,9}\(\s{0,9}(\([\w<>: ]{1,40}\*\s{0,9}\)\s{0,9}&\s{0,9}\w+)\s{0,9}\)/g;
-const CAST_OF_NUMBER = /\*\s{0,9}\(\s{0,9}[\w<>: ]{1,40}\*\s{0,9}\)\s{0,9}&/;
-const ARROW = /&\s{0,9}(\w+)\s{0,9}->/g;
-const MEMBER = /\b(\w+)\s{0,9}\.\s{0,9}(\w+)(?=\s{0,9}(\()?)/g;
-const INDEX = /\b(\w+)\s{0,9}\[([^\][]{1,80})\]/g;
+// In a method, what is before its members, and a name that is called as a function.
 const THIS = /\bthis\s{0,9}->\s{0,9}/g;
-const SIBLING = /(?<![.\w>]\s{0,9})\b(\w+)(?=\s{0,9}\()/g;
+const SIBLING = /(?<!(?:\.|->)\s{0,9})\b(\w+)(?=\s{0,9}\()/g;
 // A statement that stores the result of a call: the groups are before it and after it.
 const STORED = [/^(\*?\w+=)()$/, /^(atomic_(?:store|exchange)\w{0,20}\(&\w+,)((?:,memory_order_\w+)?\))$/];
+// An argument that changes a variable, and a statement without an effect.
 const CHANGING = /\+\+|--|(?<![=!<>])=(?!=)/;
 const USED = /^\(void\)\w+$/;
 // Why a statement is refused.
@@ -108,29 +101,9 @@ export class CallWriter extends LoopWriter {
   translate(code, names, hasConstants) {
     if (this.isHerd) return squeezeCode(replaceNames(code, names));
     const called = code.replace(THIS, "").replace(SIBLING, (name) => names.get(`${name}(`) ?? name);
-    const replaced = this.resolvePlaces(replaceNames(called, names));
+    const replaced = resolvePlaces(replaceNames(called, names), this.program);
     const squeezed = squeezeCode(replaced);
     return hasConstants ? foldConstants(squeezed) : squeezed;
-  }
-
-  /** Returns code with the variables that pointers, members of objects and indices of arrays are. */
-  resolvePlaces(code) {
-    const { names, objects, functions, arrays, unwritten } = this.program;
-    const isOfType = (type, name) => {
-      const [one, other] = [parseDeclaration(squeezeCode(`${type} it`))[0], this.variables.get(name)];
-      return one && other && one.order === other.order && one.limit === other.limit;
-    };
-    let text = code;
-    if (text.includes("&")) text = text.replace(CAST_IN_CPP, "($1*)$2").replace(CAST_IN_PARENTHESES, "*$1");
-    if (CAST_OF_NUMBER.test(text)) text = text.replace(CAST, (whole, type, at) => (isOfType(type, /&\s*(\w+)/.exec(text.slice(at))?.[1]) ? "*" : whole));
-    if (text.includes("&")) text = text.replace(POINTED, (_, first, second) => unwritten.get(first ?? second) ?? first ?? second).replace(ARROW, "$1.");
-    if (objects.size) {
-      text = text.replace(MEMBER, (whole, object, member, open) => {
-        const method = `${object}__${member}`;
-        return open && functions.has(method) ? method : objects.has(object) ? names.get(`${object}.${member}`) ?? whole : whole;
-      });
-    }
-    return arrays.size ? text.replace(INDEX, (whole, name, index) => names.get(`${name}[${computeConstant(squeezeCode(index))}]`) ?? whole) : text;
   }
 
   /** Returns squeezed code with values in place of calls of functions that only return them, if their arguments are as names. */
@@ -190,7 +163,8 @@ export class CallWriter extends LoopWriter {
   /** Writes the statements of a function in place of its call, whose result a variable gets, unless this is null. */
   writeCall({ called, values }, target) {
     this.callCount += 1;
-    if (this.frames.includes(called) || called.code === this.called.code || this.frames.length >= DEEPEST || this.callCount > MOST) this.refuseStatement(OF_FUNCTIONS);
+    const isRepeated = this.frames.includes(called) || called.code === this.called.code;
+    if (isRepeated || this.frames.length >= DEEPEST || this.callCount > MOST) this.refuseStatement(OF_FUNCTIONS);
     const { names, end, exits, outer, statement, hasConstants, outerGuardCount, branches } = this;
     const inner = new Set(this.locals);
     const caller = { names, end, exits, outer, statement, hasConstants, outerGuardCount, target: this.target, isOver: false };
@@ -200,7 +174,7 @@ export class CallWriter extends LoopWriter {
     this.frames.push(called);
     this.writeStatements(readStatements(called.code), true);
     this.frames.pop();
-    this.known = [...this.exits.slice(exits.length), this.known].reduce((one, other) => (one && other ? new Set([...one].filter((it) => other.has(it))) : one ?? other));
+    this.known = [...this.exits.slice(exits.length), this.known].reduce(joinPaths);
     this.endFunction();
     Object.assign(this, caller);
     branches.length = count;
@@ -341,7 +315,8 @@ export class CallWriter extends LoopWriter {
     const isArgument = [...code.matchAll(new RegExp(`\\b(\\w+)\\s{0,9}\\([^;(){}]{0,80}\\b${name}\\b`, "g"))].some(([, it]) => this.isCalled(it));
     const [, ...after] = code.split(new RegExp(`\\b${name}\\b\\s{0,9}(?:=(?!=)|\\{)`));
     const isAsked = new RegExp(`\\b${name}\\b`).test(this.program.question.code);
-    return (isIndex || isArgument || this.hasConstants) && !isAsked && !this.variables.has(name) && after.length === 1 && !isChanged(name, after[0], this.changing);
+    const isKept = after.length === 1 && !isChanged(name, after[0], this.changing);
+    return (isIndex || isArgument || this.hasConstants) && isKept && !isAsked && !this.variables.has(name);
   }
 
   /** Returns the names of its shared variables with registers that it changes, and whose initial words it or its functions may have used before. */
@@ -390,54 +365,7 @@ function splitArguments(code) {
 /** Returns whether a function returns nothing, whether it returns words of 64 bits, and the limit of its words. */
 function findResult({ type }) {
   const squeezed = squeezeCode(type).replace(/\b(?:constexpr|virtual) /g, "");
-  if (/(?:^| )void$/.test(squeezed)) return { isVoid: true, limit: WORD, isWide: false };
   const [declared] = parseDeclaration(squeezeCode(`${squeezed} it`));
-  return declared && !declared.isPointer ? { isVoid: false, limit: declared.limit, isWide: declared.isWide } : { isVoid: true, limit: WORD, isWide: false };
-}
-
-/** Returns the code of a function, and of those that it calls or may call, by their names. */
-function findReached(program, { code, values = [], name }) {
-  const found = new Map([[name, `${code.code} ${values.join(" ")}`]]);
-  const functions = [...program.functions];
-  for (const text of found.values()) {
-    for (const [key, it] of functions) {
-      if (!found.has(key) && new RegExp(`\\b(?:${key}|${it.name}|${it.objectName ?? key})\\b`).test(text)) found.set(key, replaceNames(it.code.code, new Map(it.members ?? [])));
-    }
-  }
-  return [...found.values()].join("\n");
-}
-
-/**
- * Returns a program whose threads are those of its functions that no other one calls, if no `main` starts them, and each of which knows the code that it
- * reaches.
- * @param {Program} program
- * @returns {Program}
- */
-export function linkThreads(program) {
-  const { threads, functions, names, isHerd } = program;
-  if (isHerd) return { ...program, unwritten: new Map() };
-  const codes = [...functions.values()].map((it) => [it.name, it.code.code]);
-  // A function of the program may do something else than the one that it is named as.
-  for (const [name, it] of [...functions].filter(([key]) => CONVERTED.test(key))) {
-    functions.set(`own__${name}`, it);
-    names.set(`${name}(`, `own__${name}`);
-  }
-  const isCalled = ({ name, isStarted }) => {
-    const call = new RegExp(`(?<![.\\w>])${name}\\s{0,9}\\(`);
-    return !isStarted && !/^P\d$/.test(name) && codes.some(([other, code]) => other !== name && call.test(code));
-  };
-  const all = threads.filter((it) => !isCalled(it));
-  return { ...program, unwritten: findUnwritten(program), threads: all.map((it) => ({ ...it, reached: findReached(program, it) })) };
-}
-
-/** Returns the numbers of plain variables that functions have by pointers only, if none changes what a pointer or a reference is of. */
-function findUnwritten({ globals, words, threads, functions }) {
-  const all = [...functions.values(), ...threads];
-  const isChanging = ({ parameters, code }) => parseParameters(parameters).some((it) => it.mark && isChanged(it.name, code.code, []));
-  if (all.some(isChanging)) return new Map();
-  const isHidden = ({ name, element, object, order }) => {
-    const pattern = new RegExp(`\\b(?:${name}|${element?.split("[")[0] ?? name})\\b`);
-    return order === "plain" && !object && words.get(name) < WORD / 2 && !all.some((it) => pattern.test(it.code.code));
-  };
-  return new Map([...globals.values()].filter(isHidden).map(({ name }) => [name, String(words.get(name))]));
+  const isVoid = !declared || declared.isPointer;
+  return { isVoid, limit: isVoid ? WORD : declared.limit, isWide: !isVoid && declared.isWide };
 }

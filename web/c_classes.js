@@ -80,7 +80,8 @@ class ClassReader {
   /** Reads the initial words that a constructor sets. */
   readConstructor([{ length }, , parameters, values = ""]) {
     const { whole, code } = this.cutFunction(length);
-    const assigned = code.code.split(";").map((it) => squeezeCode(it.replaceAll("this->", "").replace(/\.store\b/, " =").replace(/= *\(([\w-]+)[^()]*\)/, "= $1")));
+    const convert = (it) => it.replaceAll("this->", "").replace(/\.store\b/, " =").replace(/= *\(([\w-]+)[^()]*\)/, "= $1");
+    const assigned = code.code.split(";").map((it) => squeezeCode(convert(it)));
     const found = assigned.filter(Boolean).map((it) => ASSIGNED.exec(it));
     if (parameters.trim() || found.includes(null)) refusePart(whole, OF_CONSTRUCTORS);
     for (const [, name, inner, other] of values.matchAll(INITIAL)) this.words.set(name, squeezeCode(inner ?? other) || "0");

@@ -29,10 +29,12 @@ const SMALL = /(?:^|\W|_)(?:[us]?char|u?short|u?int(?:8|16)_t)\b/;
 const SMALL_LIMIT = 128;
 // A variable in a declaration: the groups are its name, and its initial value after `=`, or in braces or parentheses.
 const DECLARATOR = /^(\w+(?:\[\d\](?==))?)(?:=(?!\{)(.+)|=?[{(](.*)[})])?$/;
-// A declaration of mutexes in squeezed code: the groups are a `*` and their names. And an array in a declaration: the groups are its name, the number of its
-// words, and their initial values.
-const MUTEXES =
-  /^(?:(?:static|extern|inline|mutable) )*(?:mutex|mtx_t|spinlock_t|pthread_(?:mutex_t|spinlock_t))(?: |(\*))(\w+(?:,\w+)*)(?:=PTHREAD_MUTEX_INITIALIZER|\{\})?$/;
+// A declaration of mutexes in squeezed code: the groups are a `*` and their names. And an array in a declaration: the groups are its name, the number of
+// its words, and their initial values.
+const MUTEXES = new RegExp(
+  "^(?:(?:static|extern|inline|mutable) )*(?:mutex|mtx_t|spinlock_t|pthread_(?:mutex_t|spinlock_t))(?: |(\\*))" +
+    "(\\w+(?:,\\w+)*)(?:=PTHREAD_MUTEX_INITIALIZER|\\{\\})?$",
+);
 const ARRAY = /^(\w+)\[([1-9])\](?:=?\{(.*)\})?$/;
 // A constant of C that is in base 10 or 16. (One in base 8 is none here.)
 const CONSTANT_OF_C = /^(-?[1-9]\d*|0|0x[\da-f]+)(?:ul{0,2}|l{1,2}u?)?$/i;
@@ -197,7 +199,8 @@ export function parseConstant(code) {
  */
 export function parseDeclaration(code) {
   const [, pointer, mutexes] = MUTEXES.exec(code) ?? [];
-  if (mutexes) return mutexes.split(",").map((name) => ({ name, value: undefined, isPointer: pointer !== undefined, limit: 2, isWide: false, order: "mutex" }));
+  const ofMutex = { value: undefined, isPointer: pointer !== undefined, limit: 2, isWide: false, order: "mutex" };
+  if (mutexes) return mutexes.split(",").map((name) => ({ name, ...ofMutex }));
   const [, type, star, variables = ""] = DECLARATION.exec(code) ?? [];
   const declarators = splitDeclarators(variables).flatMap(listElements).map((it) => DECLARATOR.exec(it));
   if (!declarators.every(Boolean)) return [];

@@ -13,7 +13,10 @@ import { WORD } from "./token_reader.js";
 
 // In squeezed code, a compare-exchange that says whether it has exchanged: a method's variable, the name of a function, and the arguments. And one that
 // returns what it has found.
-const SWAP = /^(?:(\w+)\.compare_exchange_(?:weak|strong)|(atomic_compare_exchange_(?:weak|strong)(?:_explicit)?|__atomic_compare_exchange_n|__sync_bool_compare_and_swap))\((.*)\)$/;
+const SWAP = new RegExp(
+  "^(?:(\\w+)\\.compare_exchange_(?:weak|strong)|(atomic_compare_exchange_(?:weak|strong)(?:_explicit)?|__atomic_compare_exchange_n|" +
+    "__sync_bool_compare_and_swap))\\((.*)\\)$",
+);
 const FOUND = /^(?:__sync_val_compare_and_swap|(?:atomic_)?cmpxchg)\((.*)\)$/;
 // A load, which may be of a plain variable; and what waits or fences in a pass.
 const LOAD = /^(?:\*?[A-Za-z_]\w*|atomic_load\w{0,20}\([^()]*\))$/;
@@ -48,7 +51,8 @@ function parseSwap(condition) {
   const [name, expected = "", desired = ""] = method ? [method, ...parts] : [parts[0].replace(/^&/, ""), ...parts.slice(1)];
   const isOfC = called && !called.startsWith("__sync");
   const isWhole = words !== undefined ? isCall(found) : isCall(removeOuterParentheses(negated));
-  if (!desired || !isWhole || !/^\w+$/.test(name) || (isOfC && !expected.startsWith("&")) || (words !== undefined && expected !== (last || "0"))) return null;
+  const isOther = (isOfC && !expected.startsWith("&")) || (words !== undefined && expected !== (last || "0"));
+  if (!desired || !isWhole || isOther || !/^\w+$/.test(name)) return null;
   return { name, expected: expected.replace(/^&/, ""), desired, isSetting: Boolean(method || isOfC) };
 }
 
@@ -68,7 +72,8 @@ export class LoopWriter extends ThreadWriter {
     const code = this.squeeze(statement.condition);
     const swap = parseSwap(code);
     if (statement.isInnerFirst) this.checkInner(statement, swap, code);
-    if (!swap) return this.isOfWords(statement, code) ? this.writeLoadingPass({ ...statement, body: this.listAssigned(statement) }) : super.writeWaiting(statement);
+    if (!swap && this.isOfWords(statement, code)) return this.writeLoadingPass({ ...statement, body: this.listAssigned(statement) });
+    if (!swap) return super.writeWaiting(statement);
     const { loaded, loadedBranches } = this;
     const [, place, value] = SET.exec(this.squeeze(statement.assigns)) ?? [];
     if (statement.assigns && !place) this.refuseStatement(OF_LOOPS);
@@ -80,7 +85,8 @@ export class LoopWriter extends ThreadWriter {
   isOfWords({ assigns, inner, isLate, calls }, code) {
     const formula = parseFormula(code);
     const isSimple = formula !== null && !hasName(formula, (it) => this.locals.has(it) && !assigns);
-    const hasLoad = [...code.matchAll(LOAD_IN_CONDITION)].some(([it]) => it.startsWith("atomic_load") || (this.variables.has(it) && !this.locals.has(it)) || (assigns && isLate));
+    const isLoad = (it) => it.startsWith("atomic_load") || (this.variables.has(it) && !this.locals.has(it));
+    const hasLoad = [...code.matchAll(LOAD_IN_CONDITION)].some(([it]) => isLoad(it) || (assigns && isLate));
     const isPlain = !inner.length && !calls.some((it) => this.isCalled(it)) && (!assigns || isLate) && !/\w\(/.test(code.replace(LOAD_IN_CONDITION, ""));
     return isPlain && hasLoad && !isSimple && !ASSIGNMENT.test(code);
   }

@@ -4,8 +4,9 @@
 // The records `Program` and `Part` are those of c_reader.js.
 
 import { alignCells } from "./aligned.js";
-import { CallWriter, linkThreads } from "./c_calls.js";
+import { CallWriter } from "./c_calls.js";
 import { refusePart } from "./c_code.js";
+import { linkThreads } from "./c_links.js";
 import { startThreads } from "./c_main.js";
 import { formatAssertion, formatFormula, limitQuestion } from "./c_question.js";
 import { checkThreads, readProgram } from "./c_reader.js";

@@ -64,7 +64,10 @@ const CONSTANT = new RegExp(
 const NAMING = /\b(?:atomic_ref|memory_order)/;
 // A macro that is called without arguments: the groups are its name and its text. One that the kernel defines. Names of constants, and of a type, with it.
 const CALLED_MACRO = /^#[ \t]*define[ \t]+(\w+)\([ \t]*\)[ \t]+(\S.*)/;
-const ONCE = /^#[ \t]*define[ \t]+(?:READ_ONCE\(\w+\)|WRITE_ONCE\(\w+, ?\w+\))[ \t]+(?:do \{ )?\(?\*\((?:const )?volatile [\w() ]{1,40}\*\) ?&\(?\w+\)?\)?(?: ?= ?\(?\w+\)?)?(?:; \} while \(0\))?\)?[ \t]*(?=\r?\n|$)/;
+const ONCE = new RegExp(
+  "^#[ \\t]*define[ \\t]+(?:READ_ONCE\\(\\w+\\)|WRITE_ONCE\\(\\w+, ?\\w+\\))[ \\t]+(?:do \\{ )?\\(?\\*\\((?:const )?volatile [\\w() ]{1,40}\\*\\) ?&" +
+    "\\(?\\w+\\)?\\)?(?: ?= ?\\(?\\w+\\)?)?(?:; \\} while \\(0\\))?\\)?[ \\t]*(?=\\r?\\n|$)",
+);
 const ENUMERATION = /^enum(?:\s+\w+)?\s*\{([\w\s=,]{1,400})\}\s*;/;
 const ALIAS = /^(?:using\s+(\w+)\s*=\s*([\w:<>\s]{1,60})|typedef\s+([\w:<>\s]{1,60}?)\s+(\w+))\s*;/;
 // The begin of a block of declarations: the group is its name.
@@ -229,7 +232,8 @@ class ProgramReader {
     const statement = text.replace(/;?\s*$/, "");
     if (statement.includes(";")) refusePart(whole, OF_MACROS);
     const code = { code: `${statement};`, index: whole.index + whole.code.lastIndexOf(text) };
-    this.functions.set(name, { name, type: "void", head: whole.index, whole, parameters: "", code, variables: this.globals, returnsWord: false, isMacro: true });
+    const common = { type: "void", parameters: "", variables: this.globals, returnsWord: false, isMacro: true };
+    this.functions.set(name, { name, head: whole.index, whole, code, ...common });
   }
 
   /** Reads the begin of a namespace, if one is here, whose end is blank then. Returns whether it is. */
@@ -270,7 +274,8 @@ class ProgramReader {
     const code = { code: this.rest.slice(length, end), index: this.index + length };
     const returnsWord = !this.isHerd && WORD_TYPE.test(type);
     const head = this.index + this.rest.indexOf(name, type.length);
-    const thread = { name, type, head, whole, parameters: this.isHerd ? parameters : replaceNames(parameters, this.names), code, variables, returnsWord, isStarted: false };
+    const named = this.isHerd ? parameters : replaceNames(parameters, this.names);
+    const thread = { name, type, head, whole, parameters: named, code, variables, returnsWord, isStarted: false };
     if (!this.isHerd && this.functions.has(name)) refusePart({ code: name, index: head }, OF_OVERLOADS);
     if (name === "main" && !this.isHerd) this.main = code;
     else {

@@ -76,8 +76,13 @@ function negateComparisons([only, another]) {
   return another ? [{ variable: null, word: null, isEqual: false }] : [{ ...only, isEqual: !only.isEqual }];
 }
 
-/** Returns the variables that are known after two paths; each is null if no run comes to its end. */
-function joinPaths(one, other) {
+/**
+ * Returns the variables that are known after two paths; each is null if no run comes to its end.
+ * @param {Set<string> | null} one
+ * @param {Set<string> | null} other
+ * @returns {Set<string> | null}
+ */
+export function joinPaths(one, other) {
   return one && other ? new Set([...one].filter((it) => other.has(it))) : one ?? other;
 }
 

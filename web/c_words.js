@@ -79,6 +79,7 @@ export function findAllWords(writers, words) {
   }
   return (site) => {
     const [number, register] = site.split(":");
-    return [...new Set([...all[Number(number)].registers.get(register) ?? ["0/0"]].map((it) => Number(it.split("/")[0])))].sort((one, other) => one - other);
+    const origins = [...all[Number(number)].registers.get(register) ?? ["0/0"]];
+    return [...new Set(origins.map((it) => Number(it.split("/")[0])))].sort((one, other) => one - other);
   };
 }
