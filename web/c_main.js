@@ -1,24 +1,20 @@
 // Follows `main` of a program in C or C++: the threads that it starts, in their order, the words of variables before it starts them, and what it asks
 // after it has joined them. Not proved.
 //
-// The records `Program`, `CThread` and `Part` are those of c_reader.js, and `Statement` is that of c_statements.js. A statement that joins all
-// threads of an array has the name of this array, `joined`, and the number of them, `count`, if it is a constant. A loop whose passes are runs
-// `isRepeated`, and has the statements of its `block`.
+// The records `Program`, `CThread` and `Part` are those of c_reader.js, and `Statement` is that of c_statements.js and c_main_reader.js.
 // A `Start` has the code by which a thread is joined, its `handle`, as `t1` or `threads[0]`, and what is `started`, its function and arguments after
-// this, unless it has only one `argument`. It `isJoining` if its handle joins it at the end of a block, or not. A pass of a loop has a `number`, with
-// the `name` and the `digit` of the index.
+// this, unless it has only one `argument`. It `isJoining` if its handle joins it at the end of a block, or not.
 
 import { declareObjects } from "./c_classes.js";
 import { formatAssertion, formatFormula, parseFormula } from "./c_question.js";
 import { declareVariables, defineName, findClosing, parseConstant, parseDeclaration, refusePart, replaceNames, squeezeCode } from "./c_code.js";
 import { foldConstants } from "./c_constants.js";
+import { MainReader, OF_RUNS } from "./c_main_reader.js";
 import { parseParameters } from "./c_parameters.js";
-import { OUTPUT, removeStrings, splitOutside, StatementReader } from "./c_statements.js";
+import { OUTPUT, removeStrings, splitOutside } from "./c_statements.js";
 
 // A lambda up to its code: the groups are what it captures, its parameters, and its type.
 const LAMBDA = /(?<![\w\])])\[([^\][]*)\]\s*(?:\(([^(){};]*)\)\s*)?(?:mutable\b\s*)?(?:noexcept\b\s*)?(?:->\s*(\w{1,20})\b\s*)?\{/;
-// What it may capture: variables by reference, and numbers.
-const CAPTURED = /^(?:&\w*|\w+)$/;
 // The patterns that follow are of squeezed code. What changes nothing that threads share, as output does, unless it has an effect.
 const HARMLESS = new RegExp(
   "^(?:(?:(?:pthread_(?:mutex|spin)|mtx)_(?:init|destroy)|static_assert|\\w*sleep\\w*|this_thread::\\w+|exit|abort|pthread_exit)\\(|return\\b|" +
@@ -28,18 +24,6 @@ const HARMLESS = new RegExp(
 const COUNTED = /^(?:\+\+(\w+)|(\w+)(?:\+\+|\+=1))$/;
 const ENDING = /^(?:return\b|exit\(|abort\()/;
 const EFFECT = /(?<![=!<>])=(?!=)|\+\+|--|exchange|store|fetch_|lambda/;
-// A loop that joins all threads of an array: the groups are this array, or the index and its end; and again the array.
-const JOIN_LOOP = new RegExp(
-  "^for\\((?:(?:const )?auto ?&{0,2}\\w+:(\\w+)|(?:int|size_t|unsigned|auto) (\\w+)=0;\\2(?:<|!=)(\\w+);(?:\\2\\+\\+|\\+\\+\\2))\\)" +
-    "\\{?(?:(\\w+)(?:\\[\\2\\])?\\.join\\(\\)|(?:pthread|thrd)_join\\((\\w+)\\[\\2\\],[\\w&]*\\));\\}?$",
-);
-// The head of a loop that counts: the groups are its index and its end. And what starts threads in a loop, and joins them.
-const COUNTING = /^for\((?:int|size_t|unsigned|long|auto) (\w+)=0;\1(?:<|!=)(\w+);(?:\1\+\+|\+\+\1)\)$/;
-// The head of a loop whose passes are runs.
-const REPEATING = /^(?:for\((?:\w+ )+(\w+)=\d+;(?:\1(?:<=?|!=)[\w']+)?;(?:\1\+\+|\+\+\1|\1\+=1)\)|while\((?:1|true)\)|for\(;;\))$/;
-const SETTING = /\[\s*\w+\s*\]\s*=/;
-const STARTING = /\bthread\b|_create\b|_back\b/;
-const JOINING = /\.\s{0,9}join\b|_join\b|\bjthread\b/;
 const JOIN = /^(?:(\w+(?:\[\d+\])?)\.join\(\)|(?:pthread|thrd)_join\((\w+(?:\[\d+\])?),[^,]*\))$/;
 // A call that starts or joins a thread, in a condition: the group is the call. And what its result is assigned to.
 const CHECKED = /^((?:pthread|thrd)_(?:create|join)\s*\([^()]*\))\s*(?:[!=<>]=?\s*\w+)?$/;
@@ -61,13 +45,13 @@ const OBJECT = /^(?:&|ref\()(\w+)\)?$/;
 const ASSIGNMENT = /^(\w+)=([^=].*)$/;
 const INITIAL_STORE = /^atomic_(?:store|init)(?:_explicit|_relaxed|_release)?\(&(\w+),([^,]*)(?:,memory_order_\w+)?\)$/;
 const ASSERTION = /^assert\((.*)\)$/;
-// Why a part is refused.
+// The most passes of a loop that starts threads, and of another one.
 const MOST_THREADS = 4;
 const MOST_WORDS = 9;
 // How many calls of functions that set variables may be in one another.
 const DEEPEST = 8;
+// Why a part is refused.
 const OF_MANY = ": a test has 4 threads at most, so start fewer";
-const OF_RUNS = ": one run is enough, since the page lists all final states";
 const OF_BEFORE = ": before its threads, `main` only declares variables, and sets them to constants, as `x = 0;`";
 const OF_RUNNING = ": while threads run, `main` only starts others and joins them, so give this to a thread of its own";
 const OF_AFTER = ": after the joins, `main` only prints, or asks by an `assert` or an `if`";
@@ -80,49 +64,6 @@ const OF_FORMULAS = ": what `main` asks compares variables with constants by `==
 const OF_NAMES = ": give it a name that no other variable has";
 const OF_CODE = ": a thread begins with a function or a lambda, and has an argument for each parameter";
 
-/** Reads the statements of `main`. */
-class MainReader extends StatementReader {
-  /** Returns the index of the `;` that ends the statement here, which is in no parentheses or braces; -1 if there is none. */
-  findEnd() {
-    let depth = 0;
-    const { rest } = this;
-    for (let at = 0; at < rest.length; at += 1) {
-      depth += Number("({[".includes(rest[at])) - Number(")}]".includes(rest[at]));
-      if (!depth && rest[at] === ";") return at;
-    }
-    return -1;
-  }
-
-  /** Returns the loop here, if it starts threads, or joins those of an array, or both. Throws NoTest if it does not. */
-  readLoop() {
-    const { rest } = this;
-    const close = findClosing(rest, Math.max(rest.indexOf("("), 0));
-    const body = close + 1 + rest.slice(close + 1).search(/\S|$/);
-    const end = (rest[body] === "{" ? findClosing(rest, body) + 1 : body + new MainReader({ code: rest.slice(body), index: 0 }).findEnd() + 1) || body;
-    const head = { code: rest.slice(0, close + 1 || rest.search(/[;{]|$/)), index: this.index + this.at };
-    const [found, range, , count, called, other] = JOIN_LOOP.exec(squeezeCode(rest.slice(0, end))) ?? [];
-    const [, index, times] = COUNTING.exec(squeezeCode(head.code)) ?? [];
-    const code = { code: rest.slice(body, end), index: head.index + body };
-    this.takePart(end);
-    if (found) return { ...head, joined: range ?? called ?? other, count: parseConstant(count ?? "") };
-    const isStarting = STARTING.test(code.code);
-    if (!isStarting && !(index && SETTING.test(code.code))) refusePart(head, OF_RUNS);
-    if (index && !JOINING.test(code.code)) return { ...head, repeat: (count) => repeatCode(code, index, count), times, isStarting };
-    if (!REPEATING.test(squeezeCode(head.code)) || !JOINING.test(code.code)) refusePart(head, OF_RUNS);
-    return { ...head, block: new MainReader(code).readAll(), isRepeated: true };
-  }
-}
-
-/** Returns the blocks of a loop that runs some times, with the digits of its index in place of this. */
-function repeatCode({ code, index }, name, times) {
-  const place = new RegExp(`([[+]\\s{0,9})${name}\\b`, "g");
-  const digits = Array.from({ length: times }, (_, digit) => digit);
-  return digits.map((digit) => {
-    const part = { code: code.replace(place, (_, before) => `${before}${String(digit).padEnd(name.length)}`), index };
-    return { ...part, block: new MainReader(part).readAll(), number: { name, digit: String(digit) } };
-  });
-}
-
 /** Follows the statements of `main`. */
 class MainFollower {
   /** @param {Program} program */
@@ -134,6 +75,9 @@ class MainFollower {
     this.running = new Map();
     this.hasJoined = false;
     this.depth = 0;
+    // The names of variables that `main` declares, and of the indices of the loops around a statement.
+    this.locals = new Set();
+    this.numbers = new Set();
     // Of handles and arrays of them, whether they join threads at the end of their block.
     this.containers = new Map();
     // The loop whose passes are runs, with the names of variables that it sets before its threads.
@@ -147,14 +91,20 @@ class MainFollower {
   followStatements(statements) {
     for (const statement of statements) {
       if (statement.isRepeated) this.repeated = { statement, names: new Set() };
-      if (statement.number) this.program.names.set(statement.number.name, statement.number.digit);
+      if (statement.number) this.setNumber(statement.number);
       if (statement.repeat) this.followCounting(statement);
       else if (statement.block) this.followBlock(statement.block);
       else if (statement.then) this.followBranch(statement);
       else if (statement.joined) this.joinAll(statement);
       else this.followSimple(statement);
-      if (statement.number) this.program.names.delete(statement.number.name);
+      if (statement.number) this.setNumber({ name: statement.number.name });
     }
+  }
+
+  /** Gives the index of a loop its digit in a pass, or takes it from it if there is none. */
+  setNumber({ name, digit }) {
+    if (digit) this.program.names.set(name, digit) && this.numbers.add(name);
+    else this.program.names.delete(name) && this.numbers.delete(name);
   }
 
   /** Follows the passes of a loop that counts. Throws NoTest if there are more than threads in a test. */
@@ -287,8 +237,10 @@ class MainFollower {
   addLambda(whole, code, [, captured, parameters = "", type]) {
     const name = `lambda_${this.functions.size}`;
     const { globals, names } = this.program;
-    const values = squeezeCode(captured).split(",").filter((it) => it && !it.startsWith("&"));
-    if (values.some((it) => !CAPTURED.test(it) || parseConstant(names.get(it) ?? "") === null)) refusePart(whole, OF_CAPTURES);
+    const isLocal = [...this.locals].some((it) => new RegExp(`\\b${it}\\b`).test(code.code));
+    const copied = squeezeCode(captured).split(",").filter((it) => it && !it.startsWith("&"));
+    const values = copied.flatMap((it) => (it === "=" && !isLocal ? [...this.numbers] : [it]));
+    if (values.some((it) => parseConstant(names.get(it) ?? "") === null)) refusePart(whole, OF_CAPTURES);
     const members = values.map((it) => [it, names.get(it)]);
     const head = whole.index;
     this.functions.set(name, { name: "lambda", type: type ?? "auto", head, whole, parameters, code, variables: globals, returnsWord: false, members });
@@ -360,8 +312,12 @@ class MainFollower {
     if (defineName(code, names)) return;
     const declared = parseDeclaration(code);
     if (declared.some((it) => globals.has(it.name))) refusePart(statement, OF_NAMES);
-    if (declareObjects(this.program, code, statement)) return;
+    if (declareObjects(this.program, code, statement)) {
+      for (const it of this.program.objects) this.locals.add(it);
+      return;
+    }
     for (const it of declared) this.repeated?.names.add(it.name);
+    for (const it of declared) this.locals.add(it.element?.split("[")[0] ?? it.name);
     if (declared.length) {
       declareVariables(this.program, globals, statement.code, statement, OF_BEFORE);
       return;

@@ -1,17 +1,20 @@
 // Reads a program in C or C++, or a test of herd in C: its shared variables, its threads, which are functions, and its question. Not proved.
 //
 // A `Program` has its `text`, a `name`, the initial `words` of its shared variables by their names, the declarations of those outside of functions in
-// `globals`, the values of its constants by their `names`, the names of its `functions`, its `threads`, and its `question`. It `isHerd`, or not. If it
-// has a `main`, this is a `Part`, and its threads are all other functions until c_main.js has followed it. If a loop of `main` runs its threads
-// repeatedly, `repeated` has the `statement` of the loop, and the `names` of variables that the loop sets before.
+// `globals`, the values of its constants by their `names`, its `functions` by their names, its `threads`, and its `question`. It has its structures and
+// classes, the `types`, by their names, and the names of their `objects` and of its `arrays`. It `isHerd`, or not. If it has a `main`, this is a `Part`,
+// and its threads are all other functions until c_main.js has followed it. If a loop of `main` runs its threads repeatedly, `repeated` has the
+// `statement` of the loop, and the `names` of variables that the loop sets before.
 // A `Part` has its `code`, as the program has it, or "", and its `index` in the text. A question is one; if `main` asks it, it has also the `source`
 // in `main`, which is a part.
 // A `CThread` has a `name`, its `code`, which is a `Part`, the index of its `head`, and the declarations of the shared `variables` that it may use,
-// by their names. It has its `whole` part, and the code of its `parameters`. It `returnsWord`, or not, and `isStarted` by `main`,
-// or not.
+// by their names. It has its `whole` part, and the codes of its `type` and of its `parameters`. It `returnsWord`, or not, and `isStarted` by `main`,
+// or not. If it is, it has the statement of its `start`, and the codes of the `values` of its parameters. A function has the names of `members`, with
+// their codes: of those of its object, whose name is its `objectName`, if it is a method, or of numbers, if it is a lambda. It `isMacro`, or not.
 // A member of a structure is a variable, and the name of its object is in its own, as `s_x` for `s.x`.
 // A `Declaration` has the `name` of a variable, and the code of its initial `value`, if it has one. It `isPointer`, or not. Its words are below its
-// `limit`, which is 2 for a `bool`. It `isWide` if it has 64 bits, or not. The `element` is the code of a word of an array, as `a[0]`. The `order` is
+// `limit`, which is 2 for a `bool`. It `isWide` if it has 64 bits, or not. It has the name of its `object`, if it is a member of one, which `isOfClass` if
+// this has methods. The `element` is the code of a word of an array, as `a[0]`. The `order` is
 // that of the operators on it: seq_cst if it is atomic, relaxed if it is volatile, mutex if it is one, and otherwise plain.
 
 import { addObject, declareObjects, OF_OVERLOADS, readClass } from "./c_classes.js";

@@ -251,7 +251,7 @@ const REFUSED_MAINS = [
   ["  t1.join();", "  t1.join(); t1.join();", "`t1.join()`: no thread that runs has this name"],
   ["  t1.join();", "", "`assert(r1 == 1 || r2 == 1)`: `main` joins all threads before"],
   ["t2.join();\n  assert(r1 == 1 || r2 == 1);", "", "`}`: `main` joins each thread, and not `t2`"],
-  ["[&] {", "[=] {", "`[=] { x.store(1, std::memory_order_relax..`: a lambda has its variables by reference, as `[&]`"],
+  ["  std::thread t1([&] {", "  int z = 2; std::thread t1([=] { r1 = z;", "`[=] { r1 = z; x.store(1, std::memory_ord..`: a lambda has its variables by reference, as `[&]`"],
   ["std::thread t2(", "std::thread t2(f, ", "`std::thread t2(f, [&]() mutable -> void ..`: a thread begins with a function or a lambda, and has an argument for each parameter"],
   ["[&] {", "[&](int i) {", "`std::thread t1([&](int i) { x.store(1, s..`: a thread begins with a function or a lambda, and has an argument for each parameter"],
   ["  assert", "  x = 3; assert", "`x = 3`: after the joins, `main` only prints, or asks by an `assert` or an `if`"],
@@ -2279,6 +2279,30 @@ exists (0:r0=2)
  END:            |              ;
 exists (0:EAX=2)
 `],
+  ["lambdas that copy numbers, with `main`", `std::atomic<int> x[2]; int r[2];
+int main() { std::vector<std::thread> ts; for (int i = 0; i < 2; i++) ts.emplace_back([=] { x[i] = 1; r[i] = x[1 - i]; }); for (auto& t : ts) t.join(); assert(r[0] || r[1]); }
+`, `X86 Mine
+(* 0:EAX is r_0, 1:EAX is r_1 *)
+{ x_0=0; x_1=0; }
+ P0             | P1             ;
+ MOV EBX,$1     | MOV EBX,$1     ;
+ XCHG [x_0],EBX | XCHG [x_1],EBX ;
+ MOV EAX,[x_1]  | MOV EAX,[x_0]  ;
+~exists (0:EAX=0 /\\ 1:EAX=0)
+`],
+  ["lambdas of numbers, with `main`", `std::atomic<int> x[2]; int r[2];
+int main() { std::vector<std::thread> ts; for (int i = 0; i < 2; i++) ts.push_back(std::thread([i]() { x[i].store(1, std::memory_order_relaxed); r[i] = x[!i].load(std::memory_order_relaxed); })); for (auto& t : ts) t.join(); assert(r[0] || r[1]); }
+`, `X86 Mine
+(* 0:EAX is r_0, 1:EAX is r_1 *)
+{ x_0=0; x_1=0; }
+ P0            | P1            ;
+ MOV [x_0],$1  | MOV [x_1],$1  ;
+ MOV EAX,[x_1] | MOV EAX,[x_0] ;
+~exists (0:EAX=0 /\\ 1:EAX=0)
+`],
+  ["a lambda that refers to a number", `std::atomic<int> x[2]; int r[2];
+int main() { std::vector<std::thread> ts; for (int i = 0; i < 2; i++) ts.push_back(std::thread([&]() { x[1].store(i, std::memory_order_relaxed); })); for (auto& t : ts) t.join(); assert(r[0] || r[1]); }
+`, "`x[1].store(i, std::memory_order_relaxed)`: `i` is not declared"],
   ["33 instructions", `atomic_int x;\nvoid P0() { ${"x++; ".repeat(17)}}\n// lw: exists (x=1)\n`, "a thread has too many statements"],
   ["nine locations", `atomic_int ${NINE.join(", ")};\nvoid P0() { ${NINE.map((it) => `${it} = 1;`).join(" ")} }\n// lw: exists (a=1)\n`,
     "there are more than 8 locations"],
