@@ -6,13 +6,13 @@
 import { alignCells } from "./aligned.js";
 import { CallWriter } from "./c_calls.js";
 import { refusePart } from "./c_code.js";
+import { areEntering, formatList, guessQuestion } from "./c_guess.js";
 import { linkThreads } from "./c_links.js";
 import { startThreads } from "./c_main.js";
-import { formatAssertion, formatFormula, limitQuestion } from "./c_question.js";
+import { formatAssertion, limitQuestion } from "./c_question.js";
 import { checkThreads, readProgram } from "./c_reader.js";
 import { RESULT } from "./c_thread.js";
 import { findAllWords } from "./c_words.js";
-import { guessProposition } from "./guess_question.js";
 import { readTest } from "./tests.js";
 import { WORD } from "./token_reader.js";
 
@@ -129,75 +129,15 @@ function formatRows(writers) {
 }
 
 /**
- * Returns the names of locations whose last word says what a run did, and that no question names: those that two threads write, and those that are
- * written and not read.
+ * Returns the writer of a thread, in which the conditions that a guessed question asks of have registers, if there are enough: that of its only branch if
+ * all threads are entering one, and those before its last load.
  */
-function listWritten(accesses, question) {
-  const isListed = (name) => {
-    const all = accesses.filter((it) => it.name === name && !it.isMutex);
-    const writers = new Set(all.filter((it) => it.isWrite).map((it) => it.thread));
-    return writers.size > 1 || (writers.size === 1 && !all.some((it) => it.isRead));
-  };
-  return [...new Set(accesses.map((it) => it.name))].filter((it) => isListed(it) && !new RegExp(`\\b${it}\\b`).test(question));
-}
-
-/**
- * Returns the formulas of lost additions: of each location that several threads only add constants to, some of them by a load and a store, and that has
- * another word than their sum.
- */
-function listLostAdditions({ words }, accesses) {
-  return [...new Set(accesses.filter((it) => it.added !== null).map((it) => it.name))].flatMap((name) => {
-    const writes = accesses.filter((it) => it.isWrite && it.name === name);
-    const isOfThreads = new Set(writes.map((it) => it.thread)).size > 1 && writes.some((it) => !it.isLocked);
-    if (!isOfThreads || !writes.every((it) => it.isSure && it.added !== null)) return [];
-    const word = writes.reduce((all, it) => (all + it.added) % WORD, words.get(name));
-    return [{ name, word, isEqual: false }];
-  });
-}
-
-/**
- * Returns a question for a test that has none: whether an addition can be lost, if a load and a store make one; and otherwise whether all variables
- * that threads loaded last can be 0, if these loads are reached, and if what a thread loaded before is not 0. It is `true` if a thread loads otherwise,
- * or none loads.
- */
-function guessQuestion(program, writers, accesses) {
-  const lost = listLostAdditions(program, accesses);
-  if (lost.length) return `exists (${formatFormula({ sign: "\\/", parts: lost })})`;
-  if (!writers.some((it) => it.loadedBranches.length)) {
-    const loads = writers.map((writer) => {
-      const awaited = writer.waits.flatMap(listNames);
-      const sites = writer.loads.map(({ variable, location }) => ({ site: writer.makeSite(variable), location }));
-      return sites.filter(({ site }) => !awaited.includes(site));
-    });
-    const loading = writers.filter((it) => it.loaded);
-    return `exists (${loading.every((it) => isAskedOf(it) && !it.hasBranch) ? guessProposition(loads) : "true"})`;
-  }
-  const asked = writers.filter(isAskedOf).flatMap((writer) => {
-    const branches = writer.loadedBranches.flatMap((it) => it.comparisons);
-    const atoms = [...branches, { variable: writer.loaded, word: 0, isEqual: true }];
-    return atoms.map(({ variable, word, isEqual }) => formatFormula({ name: writer.makeSite(variable), word, isEqual }));
-  });
-  return `exists (${[...new Set(asked)].join(" /\\ ") || "true"})`;
-}
-
-/** Returns the names in a formula. */
-function listNames({ parts, name }) {
-  return parts ? parts.flatMap(listNames) : [name];
-}
-
-/** Returns whether a question can ask of the variable that a thread loaded last: it has a value, or it is known in which states it has one. */
-function isAskedOf({ loaded, known, loadedBranches }) {
-  const comparisons = loadedBranches.flatMap((it) => it.comparisons);
-  if (comparisons.some(({ variable, word }) => variable === null || word === null)) return false;
-  return comparisons.length > 0 || known.has(loaded);
-}
-
-/** Returns the writer of a thread, in which the conditions before the last load have registers if a question is to be guessed and there are enough. */
-function writeThread(program, number) {
+function writeThread(program, number, isEntering = false) {
   const writer = new CallWriter(program, number).writeThread();
-  if (program.question.code || !writer.loadedBranches.length) return writer;
+  const branches = isEntering ? writer.entered[0] : writer.loadedBranches;
+  if (program.question.code || !branches.length) return writer;
   try {
-    return new CallWriter(program, number, writer.loadedBranches.map((it) => it.index)).writeThread();
+    return new CallWriter(program, number, branches.map((it) => it.index)).writeThread();
   } catch {
     return writer;
   }
@@ -208,29 +148,18 @@ function writeThread(program, number) {
  * known when it is written.
  */
 function writeThreads(program) {
-  const writers = program.threads.map((_, number) => writeThread(program, number));
+  const first = program.threads.map((_, number) => writeThread(program, number));
+  const isEntering = areEntering(program, first);
+  const writers = isEntering ? first.map((_, number) => writeThread(program, number, true)) : first;
   if (!program.threads.some((it) => it.values?.length || it.members?.length)) return writers;
   const owners = new Map(writers.flatMap((writer) => writer.own.map((it) => [it.name, writer.number])));
   const accesses = writers.flatMap((it) => it.accesses);
   for (const { thread, name } of accesses) owners.set(name, (owners.get(name) ?? thread) === thread ? thread : -1);
   try {
-    return program.threads.map((_, number) => writeThread({ ...program, owners }, number));
+    return program.threads.map((_, number) => writeThread({ ...program, owners }, number, isEntering));
   } catch {
     return writers;
   }
-}
-
-/**
- * Returns the list of sites that a question does not name, as the line before it; "" if there is none. If the question is a guess, these are also
- * registers, and all locations if no thread only loads.
- */
-function formatList(question, isGuess, accesses, sites) {
-  if (question.startsWith("locations")) return "";
-  const registers = isGuess ? sites.filter((it) => !question.includes(it)) : [];
-  const isOfStores = isGuess && question.endsWith("(true)") && !accesses.some((it) => it.isRead && !it.isWrite);
-  const names = isOfStores ? [...new Set(accesses.map((it) => it.name))] : listWritten(accesses, question);
-  const listed = [...registers, ...names];
-  return listed.length ? `locations [${listed.join("; ")}]\n` : "";
 }
 
 /** Returns the record of `rewriteProgram` of a text. Throws NoTest if it is not rewritten. */
@@ -258,17 +187,18 @@ function writeTest(text) {
   const isWide = checkWide(program, writers, used);
   const isWaiting = writers.some((it) => it.isWaiting);
   const isLocking = accesses.some((it) => it.isMutex && !it.isSpin);
-  return { made, isGuess: !asked, races: listRaces(accesses), isWaiting, isLocking, isWide, isRepeated: Boolean(program.repeated) };
+  const isOpen = !asked && whole.endsWith("(true)");
+  return { made, isGuess: !asked, isOpen, races: listRaces(accesses), isWaiting, isLocking, isWide, isRepeated: Boolean(program.repeated) };
 }
 
 /**
- * Returns the x86 test of a program in C or C++, or of a test of herd in C, and whether its question is a guess, since the program asks nothing; the
- * names of plain variables on which threads race; whether one pass is in place of a loop that waits; whether a location is in place of a mutex;
- * whether words of 32 bits are in place of those of 64; and whether a run is in place of a loop of them. Or returns why it is not rewritten: a part of
- * it, with its index, and the end of a sentence; or without an index why lw refuses the test.
+ * Returns the x86 test of a program in C or C++, or of a test of herd in C, and whether its question is a guess, since the program asks nothing, or asks
+ * at most that no thread waits any more (`isOpen`); the names of plain variables on which threads race; whether one pass is in place of a loop that
+ * waits; whether a location is in place of a mutex; whether words of 32 bits are in place of those of 64; and whether a run is in place of a loop of
+ * them. Or returns why it is not rewritten: a part of it, with its index, and the end of a sentence; or without an index why lw refuses the test.
  * @param {string} text
- * @returns {{made?: string, isGuess?: boolean, races?: string[], isWaiting?: boolean, isLocking?: boolean, isWide?: boolean, isRepeated?: boolean,
- *   why?: string, index?: number}}
+ * @returns {{made?: string, isGuess?: boolean, isOpen?: boolean, races?: string[], isWaiting?: boolean, isLocking?: boolean, isWide?: boolean,
+ *   isRepeated?: boolean, why?: string, index?: number}}
  */
 export function rewriteProgram(text) {
   try {

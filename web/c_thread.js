@@ -142,6 +142,8 @@ export class ThreadWriter extends LockWriter {
     this.loaded = null;
     this.loads = [];
     this.hasBranch = false;
+    // For each `if` the branches around its statements; none if it has an `else`.
+    this.entered = [];
     // The formula of the end of each loop that waits and of each lock; and the variables of loops that exchange, with the words that these may have.
     this.waits = [];
     this.isWaiting = false;
@@ -237,6 +239,7 @@ export class ThreadWriter extends LockWriter {
     const comparisons = this.writeCondition(this.readCondition(condition), other);
     const negated = { index, comparisons: negateComparisons(comparisons) };
     this.branches.push({ index, comparisons });
+    this.entered.push(otherwise.length ? [] : [...this.branches]);
     const before = new Set(this.known);
     this.writeBlock(then, isLast && !otherwise.length);
     this.branches.length = depth;

@@ -34,6 +34,7 @@ const OF_LOCKING =
   " A mutex is a word that `XCHG` takes and gives back: states in which a thread did not get it are in the list, too, and the question leaves them out.";
 const OF_WIDE = " Words of 64 bits are words of 32 bits here, which no sum of this program exceeds.";
 const OF_REPEATED = " The loop in `main` is one run here, which is enough, since the page lists all final states.";
+const OPEN = " The question only leaves out states in which a thread still waits: look at the list of states.";
 const NOT_ASKED = " The question `true` holds always: look at the list of states.";
 // How programs in Rust, Java and Go begin, what only C++ has, and how a thread in C begins.
 const RUST = /^\s*(?:use\b|fn\b|pub\b|static\s+\w+\s*:|#!?\[)/;
@@ -81,9 +82,9 @@ function explainProgram(words, text, place) {
  * @param {object} test
  * @returns {string}
  */
-export function explainMade({ made, isGuess, races, isWaiting, isLocking, isWide, isRepeated }) {
+export function explainMade({ made, isGuess, isOpen, races, isWaiting, isLocking, isWide, isRepeated }) {
   const parts = [[isWaiting, OF_WAITING], [isLocking, OF_LOCKING], [isWide, OF_WIDE], [isRepeated, OF_REPEATED]];
-  const question = made.endsWith("(true)\n") ? NOT_ASKED : isGuess ? OF_GUESS : "";
+  const question = made.endsWith("(true)\n") ? NOT_ASKED : isOpen ? OPEN : isGuess ? OF_GUESS : "";
   return `${explainRaces(races)}${parts.map(([isSo, sentence]) => (isSo ? sentence : "")).join("")}${question}`;
 }
 

@@ -892,6 +892,95 @@ int main() { std::thread a(producer), b(consumer); a.join(); b.join(); }
                 | MOV ECX,[data]  ;
 forall (~1:EAX=1 \\/ ~1:EBX=0 /\\ 1:ECX=42)
 `],
+  ["no question, and a branch of each thread", `volatile int x, y; int r0, r1;
+void P0() { x = 1; if (!y) r0 = 1; }
+void P1() { y = 1; if (x == 0) r1 = 1; }
+`, `X86 Mine
+(* 0:EAX is y in its condition, 0:EBX is r0, 1:EAX is x in its condition, 1:EBX is r1 *)
+{ x=0; y=0; }
+ P0          | P1          ;
+ MOV [x],$1  | MOV [y],$1  ;
+ MOV EAX,[y] | MOV EAX,[x] ;
+ CMP EAX,$0  | CMP EAX,$0  ;
+ JNE END     | JNE END     ;
+ MOV EBX,$1  | MOV EBX,$1  ;
+ END:        | END:        ;
+locations [0:EBX; 1:EBX]
+exists (0:EAX=0 /\\ 1:EAX=0)
+`],
+  ["no question, and branches that take back what keeps others out", `std::atomic<int> x, y; int n;
+void P0() { x.store(1, std::memory_order_relaxed); if (y.load() == 0) { n++; x.store(0, std::memory_order_release); } }
+void P1() { y.store(1, std::memory_order_relaxed); if (!x.load()) { n += 1; y.store(0, std::memory_order_release); } }
+`, `X86 Mine
+(* 0:EAX is y in its condition, 1:EAX is x in its condition *)
+{ x=0; y=0; n=0; }
+ P0          | P1          ;
+ MOV [x],$1  | MOV [y],$1  ;
+ MOV EAX,[y] | MOV EAX,[x] ;
+ CMP EAX,$0  | CMP EAX,$0  ;
+ JNE END     | JNE END     ;
+ MOV EBX,[n] | MOV EBX,[n] ;
+ ADD EBX,$1  | ADD EBX,$1  ;
+ MOV [n],EBX | MOV [n],EBX ;
+ MOV [x],$0  | MOV [y],$0  ;
+ END:        | END:        ;
+exists (0:EAX=0 /\\ 1:EAX=0 /\\ ~n=2)
+`],
+  ["no question, and branches that only take back", `volatile int x, y;
+void P0() { x = 1; if (!y) x = 0; }
+void P1() { y = 1; if (!x) y = 0; }
+`, `X86 Mine
+{ x=0; y=0; }
+ P0          | P1          ;
+ MOV [x],$1  | MOV [y],$1  ;
+ MOV EAX,[y] | MOV EAX,[x] ;
+ CMP EAX,$0  | CMP EAX,$0  ;
+ JNE END     | JNE END     ;
+ MOV [x],$0  | MOV [y],$0  ;
+ END:        | END:        ;
+locations [x; y]
+exists (true)
+`],
+  ["no question, and branches with an alternative", `volatile int x, y; int r0, r1;
+void P0() { x = 1; if (!y) r0 = 1; else r0 = 2; }
+void P1() { y = 1; if (!x) r1 = 1; }
+`, `X86 Mine
+(* 0:EAX is r0, 1:EAX is r1 *)
+{ x=0; y=0; }
+ P0             | P1          ;
+ MOV [x],$1     | MOV [y],$1  ;
+ MOV EBX,[y]    | MOV EBX,[x] ;
+ CMP EBX,$0     | CMP EBX,$0  ;
+ JNE L1         | JNE END     ;
+ MOV EAX,$1     | MOV EAX,$1  ;
+ JMP END        | END:        ;
+ L1: MOV EAX,$2 |             ;
+ END:           |             ;
+locations [0:EAX; 1:EAX]
+exists (true)
+`],
+  ["no question, and first words", `volatile int x = 1, y = 2; int r0, r1;
+void P0() { x = 3; y = 4; }
+void P1() { r0 = y; r1 = x; }
+`, `X86 Mine
+(* 1:EAX is r0, 1:EBX is r1 *)
+{ x=1; y=2; }
+ P0         | P1          ;
+ MOV [x],$3 | MOV EAX,[y] ;
+ MOV [y],$4 | MOV EBX,[x] ;
+exists (~1:EAX=2 /\\ 1:EBX=1)
+`],
+  ["no question, and nothing to list", `volatile int x, y;
+void P0() { x = y; }
+void P1() { y = x; }
+`, `X86 Mine
+{ x=0; y=0; }
+ P0          | P1          ;
+ MOV EAX,[y] | MOV EAX,[x] ;
+ MOV [x],EAX | MOV [y],EAX ;
+locations [x; y]
+exists (true)
+`],
   ["no question, and output of threads", "volatile int x, y;\nvoid P0() { x = 1; y = 1; }\nvoid P1() { int a = y; std::cout << a << \";\" << x << std::endl; puts(\"x\"); printf(\"(%d)\", x); }\n",
     `X86 Mine
 (* 1:EAX is a, 1:EBX is x as printed, 1:ECX is x as printed 2 *)
