@@ -172,7 +172,7 @@ export class CallWriter extends LoopWriter {
     this.enterFunction(called, values);
     Object.assign(this, { end: this.makeLabel(), exits: [...exits], outer: inner, outerGuardCount: this.guards.length, target });
     this.frames.push(called);
-    this.writeStatements(readStatements(called.code), true);
+    this.writeStatements(readStatements(called.code, this.names), true);
     this.frames.pop();
     this.known = [...this.exits.slice(exits.length), this.known].reduce(joinPaths);
     this.endFunction();

@@ -1,8 +1,9 @@
-// Reads the loops of a thread of a program in C: those that only wait, and those that load until their loads fit together. Not proved.
+// Reads the loops of a thread of a program in C: those that count to a constant, whose passes are written one after another, those that only wait, and
+// those that load until their loads fit together. Not proved.
 //
 // The records `Part` and `Statement` are those of c_reader.js and c_statements.js.
 
-import { findClosing, squeezeCode } from "./c_code.js";
+import { findClosing, parseConstant, refusePart, squeezeCode } from "./c_code.js";
 import { DEEPEST, StatementReader } from "./c_statements.js";
 
 // The body of a loop that only waits, in squeezed code: the group is what it assigns.
@@ -18,14 +19,40 @@ const BREAK = /^\s*(?:(?:break|(return))\s*;|\{\s*(?:break|(return))\s*;\s*\})/;
 // A branch that leaves a loop or a pass, and what a loop sets before it looks: the group is the assignment.
 const LEAVING = /^\s*(?:continue|break)\s*$/;
 const SETTING = /^\{\s*(\w+\s*=\s*\w+)\s*;(?=\s*while\b)/;
+// The head of a loop that counts: the groups are its variable, the first number, the variable again, the comparison, the bound, and how it counts.
+const COUNTED = new RegExp(
+  "^for\\s*\\(\\s*(?:(?:const|unsigned|signed|int|long|short|auto|(?:std\\s*::\\s*)?s?size_t|u?int\\d{1,2}_t)\\s+)+(\\w+)\\s*=\\s*(\\d{1,9})\\s*;" +
+    "\\s*(\\w+)\\s*(<=?|>=?|!=)\\s*(\\w+)\\s*;\\s*(\\w+\\s*(?:\\+\\+|--)|(?:\\+\\+|--)\\s*\\w+|\\w+\\s*[+-]=\\s*\\d{1,3})\\s*\\)",
+);
+const COMPARISONS = { "<": (a, b) => a < b, "<=": (a, b) => a <= b, ">": (a, b) => a > b, ">=": (a, b) => a >= b, "!=": (a, b) => a !== b };
+const LEAVES = /\b(?:break|continue|goto)\b/;
+const MOST_PASSES = 16;
+const OF_PASSES = ": count to 2 or 3 here, since a thread of a test has 32 instructions at most";
 const DO = /^do\b/;
 const WHILE = /^\s*while\s*(?=\()/;
 
 /** Reads the statements of a thread. */
 class ThreadReader extends StatementReader {
-  /** Returns the loop here, if it only waits or loads. Throws NoTest at another one, at a `switch`, and at an `else`. */
+  /** Returns the loop here, if it counts, or only waits or loads. Throws NoTest at another one, at a `switch`, and at an `else`. */
   readLoop() {
-    return this.readWaiting() ?? this.readEndless() ?? this.readPass() ?? super.readLoop();
+    return this.readCounted() ?? this.readWaiting() ?? this.readEndless() ?? this.readPass() ?? super.readLoop();
+  }
+
+  /** Returns the passes of the loop here, each as a block, if it counts to a constant and nothing else changes its variable; null if it does not. */
+  readCounted() {
+    const { rest } = this;
+    const [head = "", name] = COUNTED.exec(rest) ?? [];
+    const numbers = head ? listNumbers(head, this.names) : [];
+    if (numbers.length > MOST_PASSES) refusePart(this.takePart(head.length), OF_PASSES);
+    const { code, end } = findBody(rest, head.length);
+    const isChanged = new RegExp(`(?:\\+\\+|--|&)\\s*${name}\\b|\\b${name}\\s*(?:\\+\\+|--|(?:[-+*/%&|^]|<<|>>)?=(?!=))`).test(code);
+    if (!numbers.length || isChanged || LEAVES.test(code) || this.depth > DEEPEST) return null;
+    const inner = code.startsWith("{") ? code.slice(1, -1) : code;
+    const { index } = this.takePart(end);
+    const at = index + end - code.length + (inner === code ? 0 : 1);
+    const replace = (number) => inner.replace(new RegExp(`(?<![\\w.>])${name}\\b`, "g"), String(number).padEnd(name.length));
+    const readPass = (number) => ({ code: head, index, block: new this.constructor({ code: replace(number), index: at }, this.depth + 1, this.names).readAll() });
+    return { code: head, index, block: numbers.map(readPass) };
   }
 
   /** Returns the loop here with its `condition` and what it `assigns` and `calls`; null if it does more than to wait. */
@@ -89,7 +116,7 @@ class ThreadReader extends StatementReader {
   /** Returns the statements of a loop; none if one is none that is rewritten. */
   readBody(code) {
     try {
-      return new this.constructor(code, this.depth + 1).readAll();
+      return new this.constructor(code, this.depth + 1, this.names).readAll();
     } catch {
       return [];
     }
@@ -99,10 +126,25 @@ class ThreadReader extends StatementReader {
   readInner(code) {
     const inside = code.startsWith("{") ? code.slice(1, -1).trim() : code;
     if (!WHILE.test(inside) || this.depth > DEEPEST) return null;
-    const reader = new this.constructor({ code: inside, index: 0 }, this.depth + 1);
+    const reader = new this.constructor({ code: inside, index: 0 }, this.depth + 1, this.names);
     const loop = reader.readWaiting();
     return loop && !loop.assigns && !loop.inner.length && !reader.rest ? loop.condition : null;
   }
+}
+
+/**
+ * Returns the numbers that the variable of a loop has in its passes, given its head, at least the first ones if they are too many; none if the loop compares
+ * or counts another variable.
+ */
+function listNumbers(head, names) {
+  const [, name, first, compared, sign, named, step] = COUNTED.exec(head);
+  const bound = parseConstant(names.get(named) ?? named) ?? NaN;
+  const [counted] = /[A-Za-z_]\w*/.exec(step);
+  const size = Number(/\d+$/.exec(step.replace(counted, ""))?.[0] ?? 1) * (step.includes("-") ? -1 : 1);
+  if (compared !== name || counted !== name || Number.isNaN(bound)) return [];
+  const numbers = [];
+  for (let number = Number(first); COMPARISONS[sign](number, bound) && numbers.length <= MOST_PASSES; number += size) numbers.push(number);
+  return numbers.some((it) => it < 0) ? [] : numbers;
 }
 
 /** Returns what a condition `assigns` first, in parentheses, and the `condition` without it; null if it does not. */
@@ -150,8 +192,9 @@ function findBody(code, index) {
 /**
  * Returns the statements of a code. Throws NoTest at a loop that does not only wait or load, and at a statement that has no end.
  * @param {Part} code
+ * @param {Map<string, string>} names those of constants
  * @returns {Statement[]}
  */
-export function readStatements(code) {
-  return new ThreadReader(code).readAll();
+export function readStatements(code, names) {
+  return new ThreadReader(code, 0, names).readAll();
 }

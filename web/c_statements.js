@@ -68,11 +68,13 @@ export function explainCondition(code) {
 /** Reads the statements of a code, from its begin to its end. `at` is how far it is read, and `depth` the number of statements that it is in. */
 export class StatementReader {
   /**
+   * `names` has the constants that have names.
    * @param {Part} code
    * @param {number} [depth]
+   * @param {Map<string, string>} [names]
    */
-  constructor({ code, index }, depth = 0) {
-    Object.assign(this, { code, index, depth, at: 0 });
+  constructor({ code, index }, depth = 0, names = new Map()) {
+    Object.assign(this, { code, index, depth, names, at: 0 });
     this.skipBlanks();
   }
 
@@ -123,7 +125,7 @@ export class StatementReader {
   /** Returns a block, whose braces are not in its statements. */
   readBlock() {
     const { code, index } = this.takePart(findClosing(this.rest, 0) + 1);
-    return { code, index, block: new this.constructor({ code: code.slice(1, -1), index: index + 1 }, this.depth + 1).readAll() };
+    return { code, index, block: new this.constructor({ code: code.slice(1, -1), index: index + 1 }, this.depth + 1, this.names).readAll() };
   }
 
   /** Returns an `if`, with its `else`. Its code is up to its condition. */

@@ -169,7 +169,7 @@ export class ThreadWriter extends LockWriter {
       this.known.add(variable.name);
     }
     this.firstValues.clear();
-    this.writeStatements(readStatements(this.code), true);
+    this.writeStatements(readStatements(this.code, this.names), true);
     const known = [...this.exits, this.known].reduce(joinPaths, null);
     this.known = new Set([...known].filter((it) => this.locals.has(it)));
     this.endFunction();
