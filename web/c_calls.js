@@ -6,10 +6,10 @@
 import { findClosing, parseConstant, parseDeclaration, refusePart, replaceNames, squeezeCode } from "./c_code.js";
 import { computeConstant, foldConstants } from "./c_constants.js";
 import { readStatements } from "./c_loop_reader.js";
-import { LoopWriter } from "./c_loops.js";
 import { ArgumentBinder, isChanged, parseParameters } from "./c_parameters.js";
 import { resolvePlaces } from "./c_places.js";
 import { isCondition, OF_FUNCTIONS, removeOuterParentheses, splitOutside } from "./c_statements.js";
+import { SwapWriter } from "./c_swaps.js";
 import { joinPaths } from "./c_thread.js";
 import { OF_LOADS, OF_STEPS, SPARE } from "./c_values.js";
 import { REGISTERS, WORD } from "./token_reader.js";
@@ -43,8 +43,8 @@ function isTruth(code) {
 }
 
 /** Writes the instructions of a thread, in which functions are in place of their calls. */
-export class CallWriter extends LoopWriter {
-  /** Makes a writer of a thread, as a `LoopWriter`. */
+export class CallWriter extends SwapWriter {
+  /** Makes a writer of a thread, as a `SwapWriter`. */
   constructor(program, number, kept) {
     super(program, number, kept);
     Object.assign(this, { program: { ...program, variables: this.variables }, called: program.threads[number], callCount: 0, depth: 0 });

@@ -40,8 +40,12 @@ function isCall(code) {
   return findClosing(inner, inner.indexOf("(")) === inner.length - 1;
 }
 
-/** Returns the compare-exchange of which a loop waits that it exchanges; null if the condition is none. */
-function parseSwap(condition) {
+/**
+ * Returns the compare-exchange that fails if a condition holds, as a loop waits for it; null if the condition is none.
+ * @param {string} condition squeezed
+ * @returns {Swap | null}
+ */
+export function parseSwap(condition) {
   const code = removeOuterParentheses(condition);
   const [, negated = /^(.*)==(?:0|false)$/.exec(code)?.[1] ?? ""] = /^!(.*)$/.exec(code) ?? [];
   const [, method, called, values] = SWAP.exec(removeOuterParentheses(negated)) ?? [];
@@ -54,6 +58,17 @@ function parseSwap(condition) {
   const isOther = (isOfC && !expected.startsWith("&")) || (words !== undefined && expected !== (last || "0"));
   if (!desired || !isWhole || isOther || !/^\w+$/.test(name)) return null;
   return { name, expected: expected.replace(/^&/, ""), desired, isSetting: Boolean(method || isOfC) };
+}
+
+/**
+ * Returns the compare-exchange of a value, which is the word that it finds; null if the value is none.
+ * @param {string} value squeezed
+ * @returns {Swap | null}
+ */
+export function parseFound(value) {
+  const [, words] = FOUND.exec(value) ?? [];
+  const expected = words && splitOutside(words, ",")[1];
+  return expected ? parseSwap(`${value}!=${expected}`) : null;
 }
 
 /** Writes the instructions of a thread, in which loops by a compare-exchange and loops of loads are one pass. */

@@ -27,6 +27,7 @@ const OF_WIDE = ": the page takes words of 64 bits as words of 32, which sums or
 // A type of 64 bits, which is the group, and one of 32 without a sign.
 const WIDE_TYPE = /\b((?:atomic_)?(?:u?l?long|s?size_t|u?int(?:64|ptr)_t))\b/;
 const UNSIGNED = /\bunsigned\b(?!\s+(?:long|char|short))|\b(?:atomic_)?uint(?:32_t)?\b/;
+const OF_SWAPS = ": a compare-exchange is rewritten if its variable is only ever set to the two constants that it names";
 const OF_PAIRS = ": a loop that exchanges needs a variable that is only set to the constant that it writes, and to the one at which it ends";
 // A name in a question: the groups are the number of a thread before it, and the name. And those that are words of the question itself.
 const NAME = /(?<!\w)(?:P?(\d)\s*:\s*)?([A-Za-z_]\w*)/g;
@@ -40,13 +41,13 @@ function listRaces(accesses) {
 }
 
 /**
- * Throws NoTest for a loop that exchanges, if its variable may have another word than that which it writes and that at which it ends. Otherwise an
- * exchange that fails changes nothing.
+ * Throws NoTest for a loop that exchanges, or for a compare-exchange, if its variable may have another word than that which it writes and that at which it
+ * ends. Otherwise an exchange that fails changes nothing.
  */
 function checkPairs({ words }, writers, accesses) {
-  for (const { statement, name, words: pair } of writers.flatMap((it) => it.pairs)) {
+  for (const { statement, name, words: pair, isSingle } of writers.flatMap((it) => it.pairs)) {
     const written = accesses.filter((it) => it.isWrite && it.name === name).map((it) => it.word);
-    if ([words.get(name), ...written].some((it) => !pair.includes(it))) refusePart(statement, OF_PAIRS);
+    if ([words.get(name), ...written].some((it) => !pair.includes(it))) refusePart(statement, isSingle ? OF_SWAPS : OF_PAIRS);
   }
 }
 
@@ -186,19 +187,21 @@ function writeTest(text) {
   const made = alignCells(`X86 ${program.name}\n${comment}{ ${block}}\n${formatRows(writers)}${list}${question}\n`);
   const isWide = checkWide(program, writers, used);
   const isWaiting = writers.some((it) => it.isWaiting);
+  const isSwapping = writers.some((it) => it.pairs.some(({ isSingle }) => isSingle));
   const isLocking = accesses.some((it) => it.isMutex && !it.isSpin);
   const isOpen = !asked && whole.endsWith("(true)");
-  return { made, isGuess: !asked, isOpen, races: listRaces(accesses), isWaiting, isLocking, isWide, isRepeated: Boolean(program.repeated) };
+  return { made, isGuess: !asked, isOpen, races: listRaces(accesses), isWaiting, isSwapping, isLocking, isWide, isRepeated: Boolean(program.repeated) };
 }
 
 /**
  * Returns the x86 test of a program in C or C++, or of a test of herd in C, and whether its question is a guess, since the program asks nothing, or asks
  * at most that no thread waits any more (`isOpen`); the names of plain variables on which threads race; whether one pass is in place of a loop that
- * waits; whether a location is in place of a mutex; whether words of 32 bits are in place of those of 64; and whether a run is in place of a loop of
- * them. Or returns why it is not rewritten: a part of it, with its index, and the end of a sentence; or without an index why lw refuses the test.
+ * waits; whether an exchange is in place of a compare-exchange (`isSwapping`); whether a location is in place of a mutex; whether words of 32 bits are
+ * in place of those of 64; and whether a run is in place of a loop of them. Or returns why it is not rewritten: a part of it, with its index, and the
+ * end of a sentence; or without an index why lw refuses the test.
  * @param {string} text
- * @returns {{made?: string, isGuess?: boolean, isOpen?: boolean, races?: string[], isWaiting?: boolean, isLocking?: boolean, isWide?: boolean,
- *   isRepeated?: boolean, why?: string, index?: number}}
+ * @returns {{made?: string, isGuess?: boolean, isOpen?: boolean, races?: string[], isWaiting?: boolean, isSwapping?: boolean, isLocking?: boolean,
+ *   isWide?: boolean, isRepeated?: boolean, why?: string, index?: number}}
  */
 export function rewriteProgram(text) {
   try {

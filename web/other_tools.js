@@ -30,6 +30,7 @@ const OF_BUTTON =
   "also reorder or merge relaxed and plain accesses.";
 const OF_WAITING =
   " A loop that waits is one pass here: states in which it has not ended are in the list, too, and the question leaves them out.";
+const OF_SWAPPING = " A compare-exchange is an `XCHG` here, which does the same, since its variable has no third word.";
 const OF_LOCKING =
   " A mutex is a word that `XCHG` takes and gives back: states in which a thread did not get it are in the list, too, and the question leaves them out.";
 const OF_WIDE = " Words of 64 bits are words of 32 bits here, which no sum of this program exceeds.";
@@ -82,8 +83,8 @@ function explainProgram(words, text, place) {
  * @param {object} test
  * @returns {string}
  */
-export function explainMade({ made, isGuess, isOpen, races, isWaiting, isLocking, isWide, isRepeated }) {
-  const parts = [[isWaiting, OF_WAITING], [isLocking, OF_LOCKING], [isWide, OF_WIDE], [isRepeated, OF_REPEATED]];
+export function explainMade({ made, isGuess, isOpen, races, isWaiting, isSwapping, isLocking, isWide, isRepeated }) {
+  const parts = [[isWaiting, OF_WAITING], [isSwapping, OF_SWAPPING], [isLocking, OF_LOCKING], [isWide, OF_WIDE], [isRepeated, OF_REPEATED]];
   const question = made.endsWith("(true)\n") ? NOT_ASKED : isOpen ? OPEN : isGuess ? OF_GUESS : "";
   return `${explainRaces(races)}${parts.map(([isSo, sentence]) => (isSo ? sentence : "")).join("")}${question}`;
 }

@@ -303,6 +303,8 @@ const OF_STEPS = ": write `++` and `--` of a thread's own variable in a statemen
 const OF_PLAIN_STEPS = ": write `++` and `--` of a variable that is not atomic in a statement of its own";
 const OF_LOADS = ": load each shared variable into one of the thread first, since compilers choose which is first";
 const OF_PATHS = ", of which the question asks: declare it outside of blocks, with a value, as `int r0 = 0`";
+const OF_SWAPS = ": a compare-exchange is rewritten if its variable is only ever set to the two constants that it names";
+const OF_NO_CONSTANTS = ": a compare-exchange is rewritten only from one constant to another";
 const OF_CAS = ": the x86 format has no compare-and-swap. `tools/from_c.py` follows it";
 const OF_ENDS = ": its `;` is missing";
 const OF_SIDES = ": compare with a constant or a variable of the thread";
@@ -407,7 +409,11 @@ const REFUSED = [
   ["int r0 = y;", "int r0 = z;", "`int r0 = z`: `z` is not declared"],
   ["int r0 = y;", "int r0 = atomic_fetch_or(&y, 1);",
     "`int r0 = atomic_fetch_or(&y, 1)`: of locked instructions the x86 format has only exchange and addition"],
-  ["int r0 = y;", "int e = 0, r0 = atomic_compare_exchange_strong(&y, &e, 1);", `\`int e = 0, r0 = atomic_compare_exchange_..\`${OF_CAS}`],
+  ["int r0 = y;", "int e = 0, r0 = atomic_compare_exchange_strong(&y, &e, 2);", `\`int e = 0, r0 = atomic_compare_exchange_..\`${OF_SWAPS}`],
+  ["int r0 = y;", "int e = y, r0 = atomic_compare_exchange_strong(&y, &e, 1);", `\`int e = y, r0 = atomic_compare_exchange_..\`${OF_NO_CONSTANTS}`],
+  ["int r0 = y;", "int r0 = y.compare_exchange_strong(1, 1);", `\`int r0 = y.compare_exchange_strong(1, 1)\`${OF_NO_CONSTANTS}`],
+  ["int r0 = y;", "int e = 0; y.compare_exchange_strong(e, 1); int r0 = y.compare_exchange_weak(e, 1);", `\`int r0 = y.compare_exchange_weak(e, 1)\`${OF_NO_CONSTANTS}`],
+  ["int r0 = y;", "int e = 0, r0 = 1 + atomic_compare_exchange_strong(&y, &e, 1);", `\`int e = 0, r0 = 1 + atomic_compare_excha..\`${OF_CAS}`],
   ["int r0 = y;", "int r0 = y.load(std::memory_order_release);", `\`int r0 = y.load(std::memory_order_releas..\`${OF_ORDER}`],
   ["x = 1;", "x.store(1, std::memory_order_acquire);", `\`x.store(1, std::memory_order_acquire)\`${OF_ORDER}`],
   ["x = 1;", "x.exchange(1, std::memory_order_relaxed);", `\`x.exchange(1, std::memory_order_relaxed)\`${OF_ORDER}`],
@@ -434,7 +440,7 @@ const REFUSED = [
   ["x = 1;", "if (f(y) == 1) x = 1;", "`if (f(y) == 1)`: write what the function does in its place"],
   ["x = 1;", "if (y) x = 1; int r5; else x = 2;", "`else x = 2`: an `else` follows the one statement or block of its `if`"],
   ["x = 1;", "if (!y == 1) x = 1;", `\`if (!y == 1)\`${OF_CONDITIONS}`],
-  ["x = 1;", "if (atomic_compare_exchange_strong(&y, &x, 1)) x = 1;", `\`if (atomic_compare_exchange_strong(&y, &..\`${OF_CAS}`],
+  ["x = 1;", "if (atomic_compare_exchange_strong(&y, &x, 1)) x = 1;", `\`if (atomic_compare_exchange_strong(&y, &..\`${OF_NO_CONSTANTS}`],
   ["x = 1;", "if (y)", `\`0:r0\`${OF_PATHS}`],
   ["x = 1;", "if (y { x = 1; }", "`if (y { x = 1; } int r0 = y;`: its `)` is missing"],
   ["int r0 = y;", "if (y) x = 2", `\`x = 2\`${OF_ENDS}`],
@@ -2227,11 +2233,116 @@ void P1() { int r; while ((r = x.load(std::memory_order_acquire)) == 0) ; int s 
             | MOV ECX,[x] ;
 exists (~1:EAX=0 /\\ ~1:ECX=0 /\\ 1:EBX=0)
 `],
-  ["a compare-exchange that is tried once", `std::atomic<bool> l{false}; int n;
+  ["no question, and a compare-exchange that is tried once", `std::atomic<bool> l{false}; int n;
 bool try_lock() { bool e = false; return l.compare_exchange_strong(e, true); }
 void P0() { if (try_lock()) { n++; l = false; } }
 void P1() { if (try_lock()) { n++; l = false; } }
-`, "`return l.compare_exchange_strong(e, true..`: the x86 format has no compare-and-swap. `tools/from_c.py` follows it"],
+`, `X86 Mine
+(* 0:EAX is e, 0:EBX is try_lock_result, 1:EAX is e, 1:EBX is try_lock_result *)
+{ l=0; n=0; }
+ P0             | P1             ;
+ MOV EAX,$0     | MOV EAX,$0     ;
+ MOV EAX,$1     | MOV EAX,$1     ;
+ XCHG [l],EAX   | XCHG [l],EAX   ;
+ CMP EAX,$0     | CMP EAX,$0     ;
+ JNE L2         | JNE L2         ;
+ MOV EBX,$1     | MOV EBX,$1     ;
+ JMP L3         | JMP L3         ;
+ L2: MOV EBX,$0 | L2: MOV EBX,$0 ;
+ L3: CMP EBX,$0 | L3: CMP EBX,$0 ;
+ JE END         | JE END         ;
+ MOV ECX,[n]    | MOV ECX,[n]    ;
+ ADD ECX,$1     | ADD ECX,$1     ;
+ MOV [n],ECX    | MOV [n],ECX    ;
+ MOV ECX,$0     | MOV ECX,$0     ;
+ XCHG [l],ECX   | XCHG [l],ECX   ;
+ END:           | END:           ;
+locations [0:EAX; 1:EAX; l]
+exists (~0:EBX=0 /\\ ~1:EBX=0 /\\ ~n=2)
+`],
+  ["no question, and compare-exchanges in many forms", `std::atomic<int> x{0}; int r1, r2;
+void a() { r1 = __sync_bool_compare_and_swap(&x, 0, 1); }
+void b() { int e = 0; bool ok = x.compare_exchange_strong(e, 1); r2 = ok; }
+void c() { int e = 0; if (!__atomic_compare_exchange_n(&x, &e, 1, 0, 5, 5)) e = 7; }
+`, `X86 Mine
+(* 0:EAX is x_before, 0:EBX is r1, 1:EAX is e, 1:EBX is ok, 1:ECX is r2, 2:EAX is e *)
+{ x=0; }
+ P0             | P1              | P2           ;
+ MOV EAX,$1     | MOV EAX,$0      | MOV EAX,$0   ;
+ XCHG [x],EAX   | MOV EAX,$1      | MOV EAX,$1   ;
+ CMP EAX,$0     | XCHG [x],EAX    | XCHG [x],EAX ;
+ JNE L1         | CMP EAX,$0      | CMP EAX,$0   ;
+ MOV EBX,$1     | JNE L1          | JE END       ;
+ JMP L2         | MOV EBX,$1      | MOV EAX,$7   ;
+ L1: MOV EBX,$0 | JMP L2          | END:         ;
+ L2:            | L1: MOV EBX,$0  |              ;
+                | L2: MOV ECX,EBX |              ;
+locations [0:EAX; 0:EBX; 1:EAX; 1:EBX; 1:ECX; 2:EAX; x]
+exists (true)
+`],
+  ["no question, and compare-exchanges in C", `#include <stdatomic.h>
+atomic_int lock; int n;
+void P0() { int e = 0; if (!atomic_compare_exchange_strong(&lock, &e, 1)) return; n = 1; atomic_store(&lock, 0); }
+void P1() { if (__sync_val_compare_and_swap(&lock, 0, 1) == 0) { int r = n; __sync_lock_release(&lock); } }
+`, `X86 Mine
+(* 0:EAX is e, 1:EAX is lock_before, 1:EBX is r *)
+{ lock=0; n=0; }
+ P0              | P1              ;
+ MOV EAX,$0      | MOV EAX,$1      ;
+ MOV EAX,$1      | XCHG [lock],EAX ;
+ XCHG [lock],EAX | CMP EAX,$0      ;
+ CMP EAX,$0      | JNE END         ;
+ JE L1           | MOV EBX,[n]     ;
+ JMP END         | MOV [lock],$0   ;
+ L1: MOV [n],$1  | END:            ;
+ MOV EBX,$0      |                 ;
+ XCHG [lock],EBX |                 ;
+ END:            |                 ;
+locations [0:EAX; lock]
+exists (1:EAX=0 /\\ 1:EBX=0)
+`],
+  ["no question, and a compare-exchange of the kernel", `volatile int lock, n;
+void P0() { int old = cmpxchg(&lock, 0, 1); if (old == 0) { WRITE_ONCE(n, 1); smp_store_release(&lock, 0); } }
+void P1() { if (cmpxchg(&lock, 0, 1) != 0) return; int r = n; }
+`, `X86 Mine
+(* 0:EAX is lock_before, 0:EBX is old, 1:EAX is lock_before, 1:EBX is r *)
+{ lock=0; n=0; }
+ P0              | P1              ;
+ MOV EAX,$1      | MOV EAX,$1      ;
+ XCHG [lock],EAX | XCHG [lock],EAX ;
+ MOV EBX,EAX     | CMP EAX,$0      ;
+ CMP EBX,$0      | JE L1           ;
+ JNE END         | JMP END         ;
+ MOV [n],$1      | L1: MOV EBX,[n] ;
+ MOV [lock],$0   | END:            ;
+ END:            |                 ;
+locations [0:EAX; 0:EBX; lock]
+exists (1:EAX=0 /\\ 1:EBX=0)
+`],
+  ["no question, and the word that a compare-exchange finds", `volatile int x;
+void P0() { int a = cmpxchg(&x, 0, 5); }
+void P1() { int b = __sync_val_compare_and_swap(&x, 5, 0); if (cmpxchg(&x, 5, 0) == 5) b = 9; if (cmpxchg(&x, 0, 5)) b = 8; }
+`, `X86 Mine
+(* 0:EAX is x_before, 0:EBX is a, 1:EAX is x_before, 1:EBX is b, 1:ECX is x_before_, 1:EDX is x_before__ *)
+{ x=0; }
+ P0           | P1             ;
+ MOV EAX,$5   | MOV EAX,$0     ;
+ XCHG [x],EAX | XCHG [x],EAX   ;
+ MOV EBX,EAX  | MOV EBX,EAX    ;
+              | MOV ECX,$0     ;
+              | XCHG [x],ECX   ;
+              | CMP ECX,$5     ;
+              | JNE L1         ;
+              | MOV EBX,$9     ;
+              | L1: MOV EDX,$5 ;
+              | XCHG [x],EDX   ;
+              | CMP EDX,$0     ;
+              | JE END         ;
+              | MOV EBX,$8     ;
+              | END:           ;
+locations [0:EAX; 0:EBX; 1:EAX; 1:EBX; 1:ECX; 1:EDX; x]
+exists (true)
+`],
   ["a template", `template <typename L> struct Guard { L& l; Guard(L& x) : l(x) { l.lock(); } ~Guard() { l.unlock(); } };
 std::atomic<int> x;
 void P0() { x = 1; }
