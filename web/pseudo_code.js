@@ -24,6 +24,8 @@ const ONLY_NAME = new RegExp(`^${NAME}:?$`, "i");
 const BEGIN = new RegExp(`^${NAME}\\s*:(?!=)(.*)$`, "i");
 const FENCE = /^(?:mfence|fence|smp_mb|atomic_thread_fence|__sync_synchronize)\b\s*(?:\([\w:,\s]*\))?$/i;
 const ASSIGNMENT = /^([A-Za-z_]\w*)\s*:?=\s*(\w+)$/;
+// A line below the names of threads, as manuals of Linux have it.
+const RULE = /^[=\-\s]{3,}$/;
 const BESIDE = /\t|\|\|?| {2,}/;
 
 /** Returns the statements of a part of a line; null if it has something else. */
@@ -84,7 +86,7 @@ function hasSharedRegister(codes) {
 /** Returns what is read of a text: the code of the threads, with registers for their own names, and a table of it with a question. */
 function readPseudoCode(text) {
   const [front = "", language = ""] = FRONT.exec(text) ?? [];
-  const lines = text.slice(front.length).split("\n").map((it) => it.replace(/\/\/.*$/, "").trim()).filter(Boolean);
+  const lines = text.slice(front.length).split("\n").map((it) => it.replace(/\/\/.*$/, "").trim()).filter((it) => it && !RULE.test(it));
   const end = lines.findIndex((it) => QUESTION.test(it) || ASKS.test(it));
   const rows = end < 0 ? lines : lines.slice(0, end);
   const question = end >= 0 && QUESTION.test(lines[end]) ? lines.slice(end).join("\n") : "";

@@ -2533,7 +2533,7 @@ const OTHERS = [
   ["Java", "public class A { volatile int x; }\n"], ["Java", "// One.\nimport java.util.*;\n"], ["Java", "class A extends Thread {\n"], ["Go", "package main\n"],
   ["Go", "package main\n\nimport \"sync/atomic\"\n"], ["Go", "func main() {\n"],
 ];
-const BEGINS = ["using namespace std;", "namespace a {}", "alignas(8) int x;", "constexpr int N = 1;", "#pragma once", "bool a;", "extern \"C\" {}", "[[maybe_unused]] int a;"];
+const BEGINS = ["enum { A, B };", "enum State { A };", "class A { std::atomic<int> a; };", "using namespace std;", "namespace a {}", "alignas(8) int x;", "constexpr int N = 1;", "#pragma once", "bool a;", "extern \"C\" {}", "[[maybe_unused]] int a;"];
 const LOCK = PROGRAM.replace("int r0 = y;", "while (y.exchange(d)) ;");
 const OF_LOCKS = `\`while (y.exchange(d))\`${OF_LOOPS}`;
 const WAITS = " A loop that waits is one pass here: states in which it has not ended are in the list, too, and the question leaves them out.";

@@ -769,6 +769,8 @@ const MENDED_TEXTS = [
   ["x = 1 || x = 2\n", "This is pseudo code", "X86 Mine\n{}\n P0         | P1         ;\n MOV [x],$1 | MOV [x],$2 ;\nlocations [x;]\nexists (true)\n"],
   ["SRC MP\n{}\nP0:\n x := 1\nP1:\n r0 := x\nexists (1:r0=1)\n", "This is pseudo code", "SRC MP\n{}\n P0     | P1      ;\n x := 1 | r0 := x ;\nexists (1:r0=1)\n"],
   ["P0: x = y\nP1: y = x\n", "`P0` is not expected here.", null],
+  ["CPU 1    CPU 2\n======== ========\nx = 1;   r1 = y;\n", "This is pseudo code",
+    "X86 Mine\n{}\n P0         | P1          ;\n MOV [x],$1 | MOV EBX,[y] ;\nexists (1:EBX=0)\n"],
   ["initially x = y = 0\nThread 1:\n x := 1\n mfence\n r1 := y\nThread 2:\n y := 1\n mfence\n r2 := x\nexists r1 = 0 and r2 = 0\n", "This is pseudo code",
     "X86 Mine\n{ x=0; y=0; }\n P0          | P1          ;\n MOV [x],$1  | MOV [y],$1  ;\n MFENCE      | MFENCE      ;\n MOV EBX,[y] | MOV ECX,[x] ;\nexists 0:EBX = 0 /\\ 1:ECX = 0\n"],
   ["P0 | P1\nx = 1 | r1 = y\ny = 1 | r2 = x\n", "This is pseudo code",
