@@ -72,7 +72,7 @@ const TEXTS = [
     "X86 Mine\n(* 0:EAX is EAX, 1:EAX is EBX *)\n{ x=0; y=0; }\n P0          | P1          ;\n MOV [x],$1  | MOV [y],$1  ;\n MOV EAX,[y] | MOV EAX,[x] ;\nexists (0:EAX=0 /\\ 1:EAX=0)\n"],
   ["the kernel's columns, with initial words below the names", "\tCPU 1\t\t\tCPU 2\n\t===============\t\t===============\n\t{ A == 1; B == 2 }\n\tA = 3;\t\t\tx = B;\n\tB = 4;\t\t\ty = A;\n",
     `${ACCESSES}${GUESS}`,
-    "X86 Mine\n(* 1:EAX is x, 1:EBX is y *)\n{ A=1; B=2; }\n P0         | P1          ;\n MOV [A],$3 | MOV EAX,[B] ;\n MOV [B],$4 | MOV EBX,[A] ;\nexists (~1:EAX=0 /\\ 1:EBX=0)\n"],
+    "X86 Mine\n(* 1:EAX is x, 1:EBX is y *)\n{ A=1; B=2; }\n P0         | P1          ;\n MOV [A],$3 | MOV EAX,[B] ;\n MOV [B],$4 | MOV EBX,[A] ;\nexists (~1:EAX=2 /\\ 1:EBX=1)\n"],
   ["macros and barriers of the kernel", "\tCPU 1\t\t      CPU 2\n\t===============\t      ===============\n\tWRITE_ONCE(a, 1);\n\t<write barrier>\n\tWRITE_ONCE(b, 1);     x = READ_ONCE(b);\n\t                      <read barrier>\n\t                      y = READ_ONCE(a);\n",
     `${ACCESSES}${GUESS}`,
     "X86 Mine\n(* 1:EAX is x, 1:EBX is y *)\n{ a=0; b=0; }\n P0         | P1          ;\n MOV [a],$1 | MOV EAX,[b] ;\n MOV [b],$1 | MOV EBX,[a] ;\nexists (~1:EAX=0 /\\ 1:EBX=0)\n"],
