@@ -5,8 +5,11 @@
 
 import { alignCells } from "./aligned.js";
 import { readBlocks, rewriteReturns } from "./assembly_reader.js";
+import { limitTest, lowerText } from "./assembly_test.js";
 import { rewriteWhole } from "./notation.js";
+import { isRead } from "./other_tools.js";
 import { isReserved, WORD } from "./token_reader.js";
+import { leaveAllLoops } from "./waiting.js";
 
 const MAX_THREADS = 4;
 // More instructions of a thread than this are not rewritten.
@@ -23,6 +26,7 @@ const ON_STACK = /^(?!lock\b).*(?:\[[er]sp\s*[-+]|\d\(%[er]sp\))/i;
 // An instruction that loads the address of a variable from a table; and one with an address in a register, other than that of the stack.
 const OF_TABLE = /@GOTPCREL\b/i;
 const ADDRESS = /[[(][^[\]()]*(?<!\w)%?(?:[re](?:[abcd]x|[sd]i)|r(?:[89]|1[0-5])d?)\b/i;
+const IS_SUM = /^(?:\w+:\s*)*lea/i;
 // A line of instructions that a test may have: labels, an instruction, or both. And instructions that no test has.
 const NAMES = "mov|x?add|sub|cmp|xchg|inc|dec|test|x?or|and|j[nmez]|[mls]fence|nop|pause";
 const OTHER_NAMES = "call|lea|cdqe?|cltq|imul|set\\w+|cmov\\w+|cmpxchg|bt[src]?|sh[lr]|sa[lr]|neg|not|j\\w+|push|pop|leave";
@@ -39,7 +43,7 @@ const NAME = "([A-Za-z_][\\w.$]*(?:::[A-Za-z_][\\w.$]*)*)";
 const VARIABLES = [
   new RegExp(`(?<![\\w.$:])()${NAME}(?:\\+(\\d+))?(?=\\(%rip\\)|\\[rip\\])`, "gi"),
   new RegExp(`(\\[(?:rip\\s*\\+\\s*|rel\\s+)?)${NAME}(?:\\s*\\+\\s*(\\d+))?(?=\\s*\\])`, "gi"),
-  new RegExp(`(\\b[dq]?word\\s+ptr\\s+)${NAME}(?:\\+(\\d+))?(?=\\s*(?:,|$))`, "gi"),
+  new RegExp(`(\\b(?:byte|[dq]?word)\\s+ptr\\s+)${NAME}(?:\\+(\\d+))?(?=\\s*(?:,|$))`, "gi"),
 ];
 const REGISTER = /^(?:[re]?(?:[abcd]x|[sd]i|[bs]p|ip)|r(?:[89]|1[0-5])[dwb]?)$/i;
 // An instruction of 64 bits.
@@ -53,6 +57,9 @@ const UNOPTIMIZED = "These are instructions of a compiler without optimization, 
 // The sentence on code of a library.
 const POSITION_INDEPENDENT = "These are instructions of a library, which loads the address of each variable from a table: compile without `-fPIC`.";
 const BEGIN = "These are instructions without a test around them";
+const TOO_LARGE = "a test has eight locations at most, and each thread of it 32 instructions";
+const OF_ENDS = "The question only asks for the ends of loops: change it to yours.";
+const OTHERWISE = "Write it by `MOV`, `ADD`, `CMP`, jumps forward, `MFENCE`, `XCHG` and `LOCK XADD`, or leave it out";
 
 /**
  * Returns words with commas between them, and `and` before the last one.
@@ -165,8 +172,7 @@ function listLocations(lines, isFirst) {
 }
 
 /** Returns the locations that threads store, and whose last word no register shows: no thread loads them, or several store them. */
-function listStoredLocations(threads) {
-  const isAtt = /%e?[a-z]{2}\b|\$\w/.test(threads.flat().join("\n"));
+function listStoredLocations(threads, isAtt) {
   const stored = threads.map((it) => listLocations(it.filter((line) => /\b(?:mov|xchg|xadd|add|inc|dec|sub)/i.test(line)), !isAtt));
   const loaded = new Set(threads.flatMap((it) => listLocations(it, isAtt)));
   return [...new Set(stored.flat())].filter((name) => !loaded.has(name) || stored.filter((it) => it.includes(name)).length > 1);
@@ -174,15 +180,19 @@ function listStoredLocations(threads) {
 
 /**
  * Returns the end of a test of some threads of instructions: it asks for 0 in the registers that the last loads write, if each thread ends with a load, and
- * lists the other registers, and the locations whose last word no register shows; all locations, if there are no registers.
+ * lists the other registers, and the locations whose last word no register shows; all locations, if there are no registers. `isShown` says whether a register
+ * of a thread is listed.
  * @param {string[][]} threads
+ * @param {boolean} isAtt
+ * @param {function(string): boolean} [isShown]
  * @returns {{list: string, question: string, isAsked: boolean}}
  */
-function makeQuestion(threads) {
+function makeQuestion(threads, isAtt, isShown = () => true) {
   const loads = threads.map((it) => LOAD.exec(it.at(-1)));
   const asked = loads.every(Boolean) ? loads.map(([, first, last], thread) => `${thread}:E${(first ?? last).toUpperCase()}`) : [];
-  const registers = threads.flatMap((it, thread) => [...it.join("\n").matchAll(OPERAND)].map(([, register]) => `${thread}:E${register.toUpperCase()}`));
-  const locations = registers.length ? listStoredLocations(threads) : [true, false].flatMap((it) => listLocations(threads.flat(), it));
+  const operands = threads.flatMap((it, thread) => [...it.join("\n").matchAll(OPERAND)].map(([, register]) => `${thread}:E${register.toUpperCase()}`));
+  const registers = operands.filter(isShown);
+  const locations = registers.length ? listStoredLocations(threads, isAtt) : [true, false].flatMap((it) => listLocations(threads.flat(), it));
   const listed = [...new Set([...registers, ...locations])].filter((it) => !asked.includes(it));
   const question = asked.length ? asked.map((it) => `${it}=0`).join(" /\\ ") : "true";
   return { list: listed.length ? `locations [${listed.map((it) => `${it};`).join(" ")}]\n` : "", question, isAsked: asked.length > 0 };
@@ -198,8 +208,6 @@ function areInstructions(lines) {
 
 /** Returns a sentence that refuses the variables of lines, of which a map has the locations, or null. */
 function refuseVariables(lines, locations, variables) {
-  const part = findPartOfWord(lines, locations);
-  if (part) return `${BEGIN}: \`${part}\` is in the middle of a word.`;
   const namesakes = findNamesakes(locations);
   if (namesakes) return `${BEGIN}, in which ${formatNames(namesakes.map((it) => `\`${it}\``))} would have one name.`;
   const large = findLargeWord(variables, lines);
@@ -209,7 +217,6 @@ function refuseVariables(lines, locations, variables) {
 /** Returns a sentence that refuses the lines of a text of instructions, or null: "" says that they are no instructions. */
 function refuseLines(threads, names) {
   const lines = threads.flat();
-  const others = lines.filter((it) => !ASSEMBLY.test(it));
   if (!areInstructions(lines)) return "";
   if (lines.some((it) => FRAME.test(it))) return UNOPTIMIZED;
   const onStack = lines.find((it) => ON_STACK.test(it));
@@ -218,8 +225,7 @@ function refuseLines(threads, names) {
   const parts = names.length ? `, as \`${names[0]}\` and \`${names[1]}\`` : "";
   if (threads.length > MAX_THREADS) return `${BEGIN}, in ${threads.length} parts${parts}: a test has four threads at most.`;
   if (threads.some((it) => it.length > MAX_LINES)) return `${BEGIN}: a thread has 32 at most.`;
-  if (others.length) return `${BEGIN}, of which the page does not rewrite \`${others[0]}\`.`;
-  const address = lines.find((it) => ADDRESS.test(it));
+  const address = lines.find((it) => ADDRESS.test(it) && !IS_SUM.test(it));
   return address ? `${BEGIN}: \`${address}\` has an address in a register, and lw has locations by their names only.` : null;
 }
 
@@ -246,6 +252,57 @@ function describeThreads({ threads, names, first, leftOut }, locations) {
   ].filter(Boolean);
 }
 
+/** Returns a text of instructions in its parts: the front of a test before it, and its end, if it has them, its threads, and the locations in them. */
+function readSource(text) {
+  const [front = ""] = FRONT.exec(text) ?? [];
+  const index = text.search(QUESTION);
+  const end = index < front.length ? text.length : index;
+  const read = readThreads(text.slice(front.length, end));
+  const locations = new Map();
+  const threads = read.threads.map((it) => rewriteReturns(it).map((line) => rewriteVariables(line, locations)));
+  return { ...read, front, locations, threads, tail: numberThreads(text.slice(end), read.first) };
+}
+
+/** Returns the text of a test of threads of lines. */
+function formatTest(head, threads, tail) {
+  const names = threads.map((_, thread) => `P${thread}`);
+  const rows = Array.from({ length: Math.max(...threads.map((it) => it.length)) }, (_, row) => threads.map((it) => it[row] ?? ""));
+  return `${head}\n${[names, ...rows].map((it) => ` ${it.join(" | ")} ;\n`).join("")}${tail}`;
+}
+
+/** Returns the front of a test with words at the begin. */
+const formatHead = (front, words) => front || `X86 Mine\n{${words.replace(/.+/, " $& ")}}`;
+
+/**
+ * Returns a test that has the instructions of a text in lw's notation, whether its question asks for something, and what is said of it; null if lw would not
+ * read it.
+ */
+function makeWritten({ front, threads, tail, locations, variables }) {
+  if (findPartOfWord(threads.flat(), locations)) return null;
+  const { list, question, isAsked } = makeQuestion(threads, /%e?[a-z]{2}\b|\$\w/.test(threads.flat().join("\n")));
+  const made = formatTest(formatHead(front, formatWords(variables, threads.flat())), threads, tail || `${list}exists (${question})\n`);
+  const { text, words } = rewriteWhole(made);
+  return isRead(text) || (threads.length && isRead(leaveAllLoops(text))) ? { text, isAsked, said: [words] } : null;
+}
+
+/**
+ * Returns a test that does the same as the instructions of a text, as `makeWritten` does, and whether its question asks only for the ends of loops
+ * (`isLimited`); or `why` there is none: the end of a sentence.
+ */
+function makeLowered(source) {
+  try {
+    const { part, lines, own, block, isShown, tail, ends, said } = lowerText(source);
+    if (part) return { why: `: \`${part}\` is in the middle of a word.` };
+    const { list, question, isAsked } = makeQuestion(own, false, isShown);
+    const { text } = rewriteWhole(formatTest(formatHead(source.front, block), lines, tail || `${list}exists (${question})\n`));
+    const { text: made, why } = limitTest(text, ends, QUESTION);
+    return why ? { why } : isRead(made) ? { text: made, isAsked, isLimited: ends.length > 0, said } : { why: `: ${TOO_LARGE}` };
+  } catch ({ message, step }) {
+    if (!step) throw new Error(message);
+    return { why: `, of which the page does not rewrite \`${step.code}\`${message ? `: ${message}` : `. ${OTHERWISE}`}` };
+  }
+}
+
 /**
  * Returns a sentence that says that a text has only instructions, with a question or without one, and proposes to make a test of them; or "".
  * @param {FaultPlace} place
@@ -254,23 +311,16 @@ function describeThreads({ threads, names, first, leftOut }, locations) {
 export function explainAssembly(place) {
   const { text } = place;
   if (NAMES_ROW.test(text)) return "";
-  const [front = ""] = FRONT.exec(text) ?? [];
-  const end = text.search(QUESTION);
-  const read = readThreads(text.slice(front.length, end < front.length ? text.length : end));
-  const locations = new Map();
-  const threads = read.threads.map((it) => rewriteReturns(it).map((line) => rewriteVariables(line, locations)));
-  const refused = refuseLines(threads, read.names) ?? refuseVariables(threads.flat(), locations, read.variables);
+  const source = readSource(text);
+  const { threads, tail, locations } = source;
+  const refused = refuseLines(threads, source.names) ?? refuseVariables(threads.flat(), locations, source.variables);
   if (refused !== null) return refused;
-  const names = threads.map((_, thread) => `P${thread}`);
-  const rows = Array.from({ length: Math.max(...threads.map((it) => it.length)) }, (_, row) => threads.map((it) => it[row] ?? ""));
-  const { list, question, isAsked } = makeQuestion(threads);
-  const tail = end < front.length ? `${list}exists (${question})\n` : numberThreads(text.slice(end), read.first);
-  const head = front || `X86 Mine\n{${formatWords(read.variables, threads.flat()).replace(/.+/, " $& ")}}`;
-  const { text: made, words } = rewriteWhole(`${head}\n${[names, ...rows].map((it) => ` ${it.join(" | ")} ;\n`).join("")}${tail}`);
+  const { text: made, isAsked, isLimited, said, why } = makeWritten(source) ?? makeLowered(source);
+  if (why) return `${BEGIN}${why.replace(/[^.]$/, "$&.")}`;
   place.proposeChange(threads.length > 1 ? alignCells(made) : made, 0, text.length);
-  place.change.title = threads.length > 1 ? `Make ${formatNames(names)} of them` : "Make it P0 of a test";
+  place.change.title = threads.length > 1 ? `Make ${formatNames(threads.map((_, thread) => `P${thread}`))} of them` : "Make it P0 of a test";
   place.change.done = "Rewritten.";
   place.isOffer = true;
-  const guess = isAsked ? "The question is a guess: change it to yours." : "The question `true` holds always: look at the list of states.";
-  return [`${BEGIN}.`, ...describeThreads(read, locations), end < front.length && guess, words].filter(Boolean).join(" ").trim();
+  const guess = isAsked ? "The question is a guess: change it to yours." : isLimited ? OF_ENDS : "The question `true` holds always: look at the list of states.";
+  return [`${BEGIN}.`, ...describeThreads(source, locations), !tail && guess, ...said].filter(Boolean).join(" ").trim();
 }

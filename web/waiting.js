@@ -225,8 +225,18 @@ function leaveLoops(text, language) {
     if (next) left.push(next);
     else thread += 1;
   }
-  const made = left.at(-1).text;
+  const made = left.at(-1)?.text ?? text;
   return { left, made: alignCells(text) === text ? alignCells(made) : made };
+}
+
+/**
+ * Returns an x86 test in which threads leave all loops that only wait; the test itself, if there is none.
+ * @param {string} text
+ * @returns {string}
+ */
+export function leaveAllLoops(text) {
+  const { left, made } = leaveLoops(text, "X86");
+  return left.length ? made : text;
 }
 
 /** Returns sentences on loops that only wait. */

@@ -12,6 +12,7 @@ import { loadModules } from "./c_programs.mjs";
 const PARTS = ["faults", "other_tools"];
 const BEGIN = "These are instructions without a test around them";
 const GUESS = "The question is a guess: change it to yours.";
+const ENDS = "The question only asks for the ends of loops: change it to yours.";
 const TRUE = "The question `true` holds always: look at the list of states.";
 
 // A text, how the words on it begin after `BEGIN`, and the test that is made of it, or null.
@@ -21,7 +22,7 @@ const TEXTS = [
     "X86 Mine\n{}\n P0 ;\n MOV [x],1 ;\n MOV EAX,[y] ;\n CMP EAX,$0 ;\n je L2 ;\n jmp END ;\n L2: MOV [z],1 ;\n END: ;\nlocations [0:EAX; x; z;]\nexists (true)\n"],
   ["a jump back to a lone return", "f:\n.L0:\n\tcmpl $0, x(%rip)\n\tjne .L3\n.L1:\n\tret\n.L3:\n\tmovl $1, y(%rip)\n\tjmp .L1\n",
     `. ${TRUE}`,
-    "X86 Mine\n{}\n P0 ;\n cmpl $0, x(%rip) ;\n jne L3 ;\n jmp END ;\n L3: movl $1, y(%rip) ;\n END: ;\nlocations [x; y;]\nexists (true)\n"],
+    "X86 Mine\n{}\n P0 ;\n MOV EAX,[x] ;\n CMP EAX,$0 ;\n JE END ;\n MOV [y],$1 ;\n END: ;\nlocations [y; x;]\nexists (true)\n"],
   ["a jump back to code", "P0:\n\tmovl x(%rip), %eax\n\ttestl %eax, %eax\n\tjne .L2\n.L3:\n\tmovl $1, y(%rip)\n\tret\n.L2:\n\tmovl $2, z(%rip)\n\tjmp .L3\n",
     `. ${TRUE}`,
     "X86 Mine\n{}\n P0 ;\n MOV EAX,[x] ;\n CMP EAX,$0 ;\n je L3 ;\n L2: MOV [z],$2 ;\n L3: MOV [y],$1 ;\nlocations [0:EAX; z; y;]\nexists (true)\n"],
@@ -29,8 +30,8 @@ const TEXTS = [
     `. ${TRUE}`,
     "X86 Mine\n{}\n P0 ;\n mov eax, [x] ;\n cmp eax, 1 ;\n jne L2 ;\n L4: mov ebx, [z] ;\n cmp ebx, 2 ;\n je L2 ;\n mov [z], 3 ;\n L2: mov [y], 1 ;\nlocations [0:EAX; 0:EBX; y;]\nexists (true)\n"],
   ["a loop with a pause at the end", "f:\n.L2:\n\tmov eax, [x]\n\ttest eax, eax\n\tje .L3\n\tmov [y], 1\n\tret\n.L3:\n\tpause\n\tjmp .L2\n",
-    `. ${TRUE}`,
-    "X86 Mine\n{}\n P0 ;\n L2: mov eax, [x] ;\n test eax, eax ;\n jne B1 ;\n L3: pause ;\n jmp L2 ;\n B1: mov [y], 1 ;\nlocations [0:EAX; y;]\nexists (true)\n"],
+    `. ${ENDS} A loop that waits is one pass here: \`0:EBX=1\` says that P0 has come to its end. Other states are in the list, too, and the question leaves them out.`,
+    "X86 Mine\n{}\n P0 ;\n MOV EAX,[x] ;\n CMP EAX,$0 ;\n JE END ;\n MOV [y],$1 ;\n MOV EBX,$1 ;\n END: ;\nlocations [0:EAX; y;]\nexists (0:EBX=1)\n"],
   ["five functions", "a:\n mov [x],1\n ret\nb:\n mov [x],2\n ret\nc:\n mov [x],3\n ret\nd:\n mov [x],4\n ret\ne:\n mov [x],5\n ret\n",
     ", in 5 parts, as `a` and `b`: a test has four threads at most.",
     null],
@@ -66,7 +67,7 @@ const TEXTS = [
     "X86 Mine\n{}\n P0 ;\n MOV [x],$1 ;\n mfence ;\n MOV EAX,[y] ;\nlocations [x;]\nexists (0:EAX=0)\n"],
   ["a lock with a semicolon", "f:\n\tlock; addl $1, x(%rip)\n\tmovl y(%rip), %eax\n\tret\n",
     `. ${GUESS}`,
-    "X86 Mine\n{}\n P0 ;\n lock addl $1, x(%rip) ;\n movl y(%rip), %eax ;\nlocations [x;]\nexists (0:EAX=0)\n"],
+    "X86 Mine\n{}\n P0 ;\n MOV EBX,$1 ;\n LOCK XADD [x],EBX ;\n MOV EAX,[y] ;\nlocations [x;]\nexists (0:EAX=0)\n"],
   ["a name that is a register of a source test", "f:\n movl %eax, r1(%rip)\n ret\n",
     `. The location of \`r1\` is \`r1_\`. ${TRUE}`,
     "X86 Mine\n{}\n P0 ;\n MOV [r1_],EAX ;\nlocations [0:EAX; r1_;]\nexists (true)\n"],
@@ -113,8 +114,8 @@ const TEXTS = [
     `. ${GUESS}`,
     "X86 Mine\n{}\n P0          | P1          ;\n MOV [x],1   | MOV [x],1   ;\n MOV EAX,[y] | MOV EAX,[y] ;\nlocations [x;]\nexists (0:EAX=0 /\\ 1:EAX=0)\n"],
   ["a loop that a jump enters", "P0:\n jmp T\nL: pause\nT: mov eax,[x]\n cmp eax,0\n je L\nP1:\n mov [x],1\n",
-    `. ${TRUE}`,
-    "X86 Mine\n{}\n P0             | P1        ;\n jmp T          | mov [x],1 ;\n L: pause       |           ;\n T: mov eax,[x] |           ;\n cmp eax,0      |           ;\n je L           |           ;\nlocations [0:EAX;]\nexists (true)\n"],
+    `. ${ENDS}`,
+    "X86 Mine\n{}\n P0          | P1         ;\n MOV EAX,[x] | MOV [x],$1 ;\n CMP EAX,$0  |            ;\n JE END      |            ;\n MOV EBX,$1  |            ;\n END:        |            ;\nlocations [0:EAX;]\nexists (0:EBX=1)\n"],
   ["a label that looks like a thread", "P0:\n cmp eax,0\n je T1\n mov [x],1\nT1: mov [y],1\nP1:\n mov ebx,[y]\n",
     `. ${TRUE}`,
     "X86 Mine\n{}\n P0            | P1          ;\n cmp eax,0     | mov ebx,[y] ;\n je T1         |             ;\n mov [x],1     |             ;\n T1: mov [y],1 |             ;\nlocations [0:EAX; 1:EBX; x;]\nexists (true)\n"],
