@@ -6,12 +6,16 @@
 import { alignCells } from "./aligned.js";
 import { readBlocks, rewriteReturns } from "./assembly_reader.js";
 import { limitTest, lowerText } from "./assembly_test.js";
+import { rewriteListing } from "./disassembly.js";
 import { rewriteWhole } from "./notation.js";
+import { explainProcessor } from "./other_processors.js";
 import { isRead } from "./other_tools.js";
 import { isReserved, WORD } from "./token_reader.js";
 import { leaveAllLoops } from "./waiting.js";
 
 const MAX_THREADS = 4;
+// More functions than these are not named one by one.
+const MAX_NAMED = 3;
 // More instructions of a thread than this are not rewritten.
 const MAX_LINES = 64;
 // The front of a test, with which a text of instructions may begin; and how a question begins, or the list of locations before it.
@@ -50,12 +54,20 @@ const REGISTER = /^(?:[re]?(?:[abcd]x|[sd]i|[bs]p|ip)|r(?:[89]|1[0-5])[dwb]?)$/i
 const WIDE = /\bqword\b|\b(?:mov|x?add|sub|xchg|cmp|inc|dec|x?or|and)q\b|\br(?:[abcd]x|[sd]i|\d\d?)\b/i;
 // A location in an instruction, in brackets or relative to the next instruction.
 const LOCATION = /\[\s*(?:rip\s*\+\s*|rel\s+)?(\w+)\s*\]|(?<![\w.$])([A-Za-z_]\w*)(?:\(%rip\)|\[rip\])/gi;
-// Functions that are no threads: they start these, or set variables before them.
-const NO_THREAD = /^(?:main|_start|_GLOBAL__sub_I_.*|__cxx_global_var_init.*)(?:\(.*\))?$/;
+// Functions that are no threads: they start these, or set variables before them, or are parts of libraries. That of a thread of C++ is `_M_run`.
+const NO_THREAD = new RegExp(
+  "^(?!.*_M_run)\"?(?:(?:main|_start|_init|_fini|(?:de)?register_tm_clones|__do_global_dtors_aux|frame_dummy|_dl_relocate_static_pie|_GLOBAL__sub_I_.*|__cxx_global_var_init.*)" +
+    "(?:\\(.*\\))?|__clang_call_terminate|_ZN?K?S[at].*|_ZN\\d+__gnu_cxx.*|(?:std|__gnu_cxx)::.*|.*@.*|.*\\.cold(?:\\.\\d+)?)\"?$",
+);
+// Code that only jumps to an address in a register, as that of a thread of C++ that calls a function.
+const ONLY_INDIRECT = /^jmpq?\s+(?:\*|\[|qword\b)/i;
 // The sentence on code that is not optimized.
 const UNOPTIMIZED = "These are instructions of a compiler without optimization, which keep variables on the stack: compile with `-O2`.";
 // The sentence on code of a library.
 const POSITION_INDEPENDENT = "These are instructions of a library, which loads the address of each variable from a table: compile without `-fPIC`.";
+// An address that the linker has not put in yet, and the sentence on it.
+const UNLINKED = /(?<!\w)0x0\(%rip\)|\[rip\s*\+\s*0x0\]/i;
+const NOT_LINKED = "These are instructions of an object file, which lacks the addresses of its variables: use `objdump -dr`, or that of the linked program.";
 const BEGIN = "These are instructions without a test around them";
 const TOO_LARGE = "a test has eight locations at most, and each thread of it 32 instructions";
 const OF_ENDS = "The question only asks for the ends of loops: change it to yours.";
@@ -98,7 +110,8 @@ function areNumbered(blocks, first) {
 function readThreads(text) {
   const [front, ...others] = readBlocks(text);
   const all = others.filter((it) => it.lines.some(Boolean));
-  const kept = all.filter((it) => !NO_THREAD.test(it.name));
+  const isThread = ({ name, lines: [...code] }) => !NO_THREAD.test(name) && !ONLY_INDIRECT.test(code.find(Boolean));
+  const kept = all.filter(isThread);
   const [blocks, leftOut] = kept.length ? [kept, all.filter((it) => !kept.includes(it)).map((it) => it.name)] : [all, []];
   const variables = others.filter((it) => it.words.length);
   if (!blocks.length || front.lines.some(Boolean)) {
@@ -222,6 +235,7 @@ function refuseLines(threads, names) {
   const onStack = lines.find((it) => ON_STACK.test(it));
   if (onStack) return `${BEGIN}. \`${onStack}\` accesses the stack, which no test has.`;
   if (lines.some((it) => OF_TABLE.test(it))) return POSITION_INDEPENDENT;
+  if (lines.some((it) => UNLINKED.test(it))) return NOT_LINKED;
   const parts = names.length ? `, as \`${names[0]}\` and \`${names[1]}\`` : "";
   if (threads.length > MAX_THREADS) return `${BEGIN}, in ${threads.length} parts${parts}: a test has four threads at most.`;
   if (threads.some((it) => it.length > MAX_LINES)) return `${BEGIN}: a thread has 32 at most.`;
@@ -241,13 +255,14 @@ export function numberThreads(question, first) {
 }
 
 /** Returns what is said of the threads of a text of instructions. */
-function describeThreads({ threads, names, first, leftOut }, locations) {
+function describeThreads({ threads, names, first, leftOut, front, isDisassembly }, locations) {
   const renamed = [...locations].filter(([from, to]) => from !== to);
-  const others = leftOut.map((it) => `\`${it}\``);
+  const others = leftOut.length > MAX_NAMED ? [`\`${leftOut[0]}\``, `${leftOut.length - 1} other functions`] : leftOut.map((it) => `\`${it}\``);
   return [
     threads.length > 1 && !names.length && "A blank line begins the next thread.",
     first && `\`${names[0]}\` is P0 here, since the first thread has the number 0.`,
     others.length && `${formatNames(others)} ${others.length === 1 ? "is" : "are"} left out.`,
+    isDisassembly && !front && "A disassembly has no initial values: they are 0 here.",
     ...renamed.slice(0, 2).map(([from, to]) => `The location of \`${from}\` is \`${to}\`.`),
   ].filter(Boolean);
 }
@@ -257,10 +272,11 @@ function readSource(text) {
   const [front = ""] = FRONT.exec(text) ?? [];
   const index = text.search(QUESTION);
   const end = index < front.length ? text.length : index;
-  const read = readThreads(text.slice(front.length, end));
+  const listing = rewriteListing(text.slice(front.length, end));
+  const read = readThreads(listing.text);
   const locations = new Map();
   const threads = read.threads.map((it) => rewriteReturns(it).map((line) => rewriteVariables(line, locations)));
-  return { ...read, front, locations, threads, tail: numberThreads(text.slice(end), read.first) };
+  return { ...read, front, locations, threads, isDisassembly: listing.isDisassembly, tail: numberThreads(text.slice(end), read.first) };
 }
 
 /** Returns the text of a test of threads of lines. */
@@ -311,6 +327,8 @@ function makeLowered(source) {
 export function explainAssembly(place) {
   const { text } = place;
   if (NAMES_ROW.test(text)) return "";
+  const processor = explainProcessor(text);
+  if (processor) return processor;
   const source = readSource(text);
   const { threads, tail, locations } = source;
   const refused = refuseLines(threads, source.names) ?? refuseVariables(threads.flat(), locations, source.variables);

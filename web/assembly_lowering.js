@@ -4,7 +4,7 @@
 // The records `Flow` and `Words` are those of thread_flow.js and possible_words.js.
 
 import { parseOperation } from "./assembly_operations.js";
-import { StepWriter } from "./assembly_steps.js";
+import { OF_CALL, StepWriter } from "./assembly_steps.js";
 import { getOnly, makeWords } from "./possible_words.js";
 import { joinStates, Refusal, SharedWords } from "./register_state.js";
 import { areFlagsRead, findCarried, findFlow } from "./thread_flow.js";
@@ -14,16 +14,22 @@ const OF_LOOP = "lw has no loops: write the passes out";
 const OF_PAIRS = "a loop that exchanges is read if its variable is only set to the constant that it writes, and to the one at which it ends";
 const OF_ENDLESS = "its loop never ends";
 const OF_REGISTERS = "the thread uses more registers than the six of lw";
+// Code that has no operation, and a sentence of its own.
+const OF_MEANING = /^(?:call\w*|ud2|hlt|int3?|(?:lock )?cmpxchg(?:8|16)b)\b/i;
 const LINE = /^((?:\w+:\s*)*)(.*)$/;
 
-/** Returns the steps of the lines of a thread. */
+/** Returns the steps of the lines of a thread, and the indices of the steps that its labels are before, or of the end. Throws Refusal. */
 function readSteps(lines, isAtt) {
-  const steps = lines.map((line) => {
+  const all = lines.map((line) => {
     const [, labels, code] = LINE.exec(line);
     return { labels: labels.match(/\w+/g) ?? [], code, operation: parseOperation(code, isAtt) ?? { operands: [] } };
   });
-  // Labels after the last instruction are those of the end.
-  return steps.at(-1)?.code === "" ? steps.slice(0, -1) : steps;
+  const indices = new Map(all.flatMap(({ labels }, at) => labels.map((it) => [it, at])));
+  const steps = all.at(-1)?.code === "" ? all.slice(0, -1) : all;
+  const isUnread = ({ code, operation: { name, label } }) => (!name && !OF_MEANING.test(code)) || (label && !indices.has(label));
+  const unread = steps.find(isUnread);
+  if (unread) throw new Refusal(unread.operation.label ? OF_CALL : "", unread);
+  return { steps, indices };
 }
 
 /** Returns the register of lw for each that a thread uses, and those that are free: of others than lw's own a free one. `asked` are not free. */
@@ -201,10 +207,9 @@ function writeAll(flows, shared, registers, begins) {
  * @returns {object}
  */
 export function lowerThreads(threads, { isAtt, initial, begins, asked }) {
-  const all = threads.map((lines) => readSteps(lines, isAtt));
-  const unread = all.flat().find((it) => !it.operation.name && !/^(?:call|ud2|hlt|int3?|(?:lock )?cmpxchg(?:8|16)b)\b/i.test(it.code));
-  if (unread) throw new Refusal("", unread);
-  const flows = all.map(findFlow);
+  const read = threads.map((lines) => readSteps(lines, isAtt));
+  const all = read.map((it) => it.steps);
+  const flows = read.map((it) => findFlow(it.steps, it.indices));
   const open = flows.findIndex((it) => !it);
   if (open >= 0) throw new Refusal(OF_LOOP, all[open].find((it) => it.operation.name === "j"));
   const registers = all.map((steps, thread) => nameRegisters(steps, asked[thread] ?? []));

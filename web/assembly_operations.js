@@ -12,7 +12,7 @@ const SIZE = /^(byte|[dq]?word)(?:\s+ptr)?(?=[\s[])\s*/i;
 // A location: relative to the next instruction, in brackets, or only its name.
 const LOCATION = /^(?:\[\s*(?:rip\s*\+\s*|rel\s+)?([A-Za-z_]\w*)(?:\s*\+\s*rip)?\s*\]|([A-Za-z_]\w*)(?:\[rip\]|\(%[re]ip\)))$/i;
 const NAME = /^[A-Za-z_]\w*$/;
-const PLAIN = "mov|add|sub|cmp|test|and|or|xor|xchg|xadd|cmpxchg|inc|dec|lea|push|pop";
+const PLAIN = "mov|add|sub|adc|sbb|cmp|test|and|or|xor|xchg|xadd|cmpxchg|inc|dec|neg|not|lea|push|pop";
 const SUFFIXED = new RegExp(`^(${PLAIN})([bwlq])?$`);
 const IDLE = /^(?:pause|nop\w*|lfence|sfence|endbr\d*|cld)$/;
 const EXTENSION = /^mov([sz])(?:([bwl])([wlq])|xd?)$/;
@@ -120,7 +120,7 @@ export function parseOperation(code, isAtt) {
   return { ...operation, isLocked: Boolean(lock) };
 }
 
-const SETS_FLAGS = /^(?:add|sub|cmp|test|and|or|xor|inc|dec|xadd|cmpxchg)$/;
+const SETS_FLAGS = /^(?:add|sub|adc|sbb|cmp|test|and|or|xor|inc|dec|neg|xadd|cmpxchg)$/;
 
 /** Returns the parts of 8, of 16 and of 64 bits of a register that an access of some width has. */
 const listParts = ({ register, width }) => ["b", "w", "h"].slice(0, { 8: 1, 16: 2 }[width] ?? 3).map((it) => register + it);
@@ -143,7 +143,7 @@ export function listAccesses(operation) {
   const terms = operands.flatMap((it) => it.address ?? []).map((it) => ({ ...it, width: 64 }));
   const written = [!/^(?:cmp|test|push|cmpxchg)$/.test(name) && to, /^x(?:chg|add)$/.test(name) && from, name === "cmpxchg" && { register: "RAX", width }];
   const isRegister = (it) => it?.register;
-  const isFlagRead = condition && condition !== "mp";
+  const isFlagRead = (condition && condition !== "mp") || /^(?:adc|sbb)$/.test(name);
   return {
     reads: [...[...read, ...terms].filter(isRegister).flatMap(listParts), ...(isFlagRead ? ["F"] : [])],
     writes: [...written.filter(isRegister).flatMap(listParts), ...(SETS_FLAGS.test(name) ? ["F"] : [])],

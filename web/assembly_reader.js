@@ -25,8 +25,8 @@ const VARIABLE = /^([A-Za-z_]\w*)\s+(?=d[bwdq]\s)/i;
 // The size of each word of a directive; other directives have a number of bytes.
 const BYTES = { long: 4, int: 4, "4byte": 4, quad: 8, "8byte": 8, value: 2, short: 2, "2byte": 2, byte: 1, db: 1, dw: 2, dd: 4, dq: 8 };
 // What is left out: directives, lines around segments and procedures, and instructions without effect.
-const DIRECTIVE = "\\.|(?:section|segment|global|extern|bits|default|align|public|extrn|include\\w*|comm|end)\\b";
-const IGNORED = new RegExp(`^(?:${DIRECTIVE}|\\S+\\s+(?:segment|ends|endp)\\b|endbr(?:32|64)$|(?:data16\\s+|cs\\s+)*nop\\w*(?:\\s|$))`, "i");
+const DIRECTIVE = "\\.|(?:section|segment|global|extern|bits|default|align|public|extrn|include\\w*|comm|end|title|npad|assume)\\b";
+const IGNORED = new RegExp(`^(?:${DIRECTIVE}|\\S+\\s+(?:segment|ends|endp)\\b|endbr(?:32|64)$|(?:data16\\s+|cs\\s+)*nop\\w*(?:\\s|$)|xchg\\s+%?ax,\\s*%?ax$)`, "i");
 // The line that begins a procedure of Microsoft's assembler.
 const PROCEDURE = /^(\S+)\s+proc\b/i;
 // A directive with the name of a function or of a variable.
@@ -128,13 +128,15 @@ class AssemblyReader {
     else if (rest && !IGNORED.test(rest)) this.block.lines.push(rest.replace(/\s+/g, " "));
   }
 
-  /** Reads a label, which the rest of its line follows: that of a jump, the name of a block, or one to which nothing jumps, which is left out. */
+  /** Reads a label, which the rest of its line follows: that of a jump, the name of a block, or both, or one to which nothing jumps, which is left out. */
   readLabel(label, rest, at) {
-    if (this.targets.has(label)) this.block.lines.push(`${label}:`);
-    else if (!label.startsWith(".") && this.beginsBlock(label, rest, at)) {
+    const isTarget = this.targets.has(label);
+    const isBegin = isTarget ? this.declared.has(label) : !label.startsWith(".") && this.beginsBlock(label, rest, at);
+    if (isBegin) {
       const [, digit] = /^P(\d)(?:\(.*\))?$/.exec(label) ?? [];
       this.beginBlock(label, digit === undefined ? null : Number(digit));
     }
+    if (isTarget) this.block.lines.push(`${label}:`);
   }
 
   /**

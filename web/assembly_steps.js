@@ -3,7 +3,7 @@
 // The record `Operation` is that of assembly_operations.js, and `Words` are those of possible_words.js.
 
 import { isClearing } from "./assembly_operations.js";
-import { ANY, combineWords, compareWords, findCondition, getOnly, makeWords } from "./possible_words.js";
+import { ANY, combineWords, compareWords, findCondition, getOnly, joinWords, makeWords } from "./possible_words.js";
 import { Refusal, RegisterState } from "./register_state.js";
 
 const WORD = 2 ** 32;
@@ -11,14 +11,15 @@ const OPPOSITE = { e: "ne", ne: "e" };
 const OF_SUM = "the sum may not fit into the bits that it is written to";
 const OF_FLAGS = "a branch reads flags after it that lw does not have";
 const OF_CAS = "lw's machine has no compare-exchange. One that expects a constant and writes another one is read, as `XCHG`, if its variable has only these two words";
-const OF_CALL = "a test has no calls: let the compiler inline the function";
+/** Why a call is refused. */
+export const OF_CALL = "a test has no calls: let the compiler inline the function, and leave out assertions, as by `-DNDEBUG`";
 const OF_END = "a test has no such end";
 const BITWISE = { and: (one, by) => (one & by) >>> 0, or: (one, by) => (one | by) >>> 0, xor: (one, by) => (one ^ by) >>> 0 };
 // Operations that have a method of the same name, or of this one.
 const METHODS = {
   mov: "writeMove", movz: "writeMove", movs: "writeSigned", xchg: "writeExchange", xadd: "writeExchangeSum", cmpxchg: "writeCompareExchange",
   add: "writeSum", sub: "writeSum", inc: "writeSum", dec: "writeSum", cmp: "writeComparison", test: "writeTest", and: "writeBits", or: "writeBits",
-  xor: "writeBits", lea: "writeAddress", set: "writeSet", cmov: "writeChoice", mfence: "writeFence", nop: "writeNothing", push: "writeNothing", pop: "writePop",
+  xor: "writeBits", neg: "writeNegation", not: "writeNegation", adc: "writeCarry", sbb: "writeCarry", lea: "writeAddress", set: "writeSet", cmov: "writeChoice", mfence: "writeFence", nop: "writeNothing", push: "writeNothing", pop: "writePop",
 };
 
 /** Writes steps, one after another. */
@@ -61,10 +62,20 @@ export class StepWriter extends RegisterState {
       const words = this.shared.access(from.location, narrow);
       this.emit(`MOV ${this.names.get(to.register)},[${from.location}]`);
       this.write(to.register, width, words);
+    } else if (to.register && from?.register && width >= 32 && narrow === width && this.getContent(from.register).known < width) {
+      this.copyPart(to.register, from.register);
     } else if (to.register) {
       const { text, words } = this.take(from, narrow);
       this.set(to, width, text, words);
     } else throw new Refusal("");
+  }
+
+  /** Copies a register of which only the lowest bits are known. */
+  copyPart(to, from) {
+    const content = this.getContent(from);
+    this.emit(`MOV ${this.names.get(to)},${this.names.get(from)}`);
+    this.forget(to);
+    this.contents.set(to, content);
   }
 
   writeSigned(operation) {
@@ -279,10 +290,51 @@ export class StepWriter extends RegisterState {
     const isNeutral = isSelf || by === (name === "and" ? 2 ** Math.min(width, 32) - 1 : 0);
     if (to.isStack && isLocked && isNeutral) return this.fence();
     if (to.location && isLocked && isNeutral) return this.addToLocation(to.location, width, { number: 0 }, 1, true);
+    const results = to.location && isLocked && this.shared.access(to.location, width).list?.map((it) => BITWISE[name](it, by));
+    if (results && results.every((it) => it === results[0])) return this.exchangeFor(to.location, width, results[0]);
     if (!to.register) throw new Refusal("");
     const isMask = name === "and" && Number.isInteger(Math.log2(by + 1)) && this.read(to.register, width).max <= by;
     if (!isNeutral && !isMask) this.replace(to, width, (word) => BITWISE[name](word, by));
     return this.setFlags(to, width);
+  }
+
+  /** Exchanges a location for a constant. */
+  exchangeFor(location, width, word) {
+    this.forgetFlags();
+    const spare = this.takeSpare();
+    this.emit(`MOV ${spare},$${word}`);
+    this.emit(`XCHG [${location}],${spare}`);
+    this.share(location, width, makeWords([word]));
+    this.changes = [...this.changes, { step: this.step, register: null }];
+  }
+
+  writeNegation({ name, width, operands: [to] }) {
+    if (!to.register || width > 32 || this.areFlagsRead) throw new Refusal("");
+    this.replace(to, width, (word) => (name === "not" ? 2 ** width - 1 - word : (2 ** width - word) % 2 ** width));
+    this.flags = null;
+  }
+
+  /** A sum with the carry flag, or a difference, is one of two sums; the flag of lw says which. */
+  writeCarry({ name, width, operands: [to, from] }) {
+    const found = this.findCondition("b");
+    if (this.areFlagsRead) throw new Refusal(OF_FLAGS);
+    if (!to.register || width !== 32) throw new Refusal("");
+    const register = this.names.get(to.register);
+    if (name === "sbb" && to.register === from.register) this.write(to.register, width, this.choose(register, found, [WORD - 1, 0]));
+    else {
+      const sign = name === "sbb" ? -1 : 1;
+      const added = [sign * from.number, sign * (from.number + 1)];
+      const skipped = added.indexOf(0);
+      if (skipped < 0 || !OPPOSITE[found]) throw new Refusal("");
+      const before = this.read(to.register, width);
+      const sum = this.add(before, makeWords([(added[1 - skipped] + WORD) % WORD]), width);
+      const label = this.makeLabel();
+      this.emit(`J${(skipped ? found : OPPOSITE[found]).toUpperCase()} ${label}`);
+      this.emit(`ADD ${register},$${(added[1 - skipped] + WORD) % WORD}`);
+      this.pending = [...this.pending, label];
+      this.write(to.register, width, joinWords(before, sum));
+    }
+    this.flags = null;
   }
 
   /** An address is a sum of registers, of which some are added twice or more often, and a number. */
@@ -341,8 +393,6 @@ export class StepWriter extends RegisterState {
     if (OPPOSITE[found]) this.emit(`J${OPPOSITE[found].toUpperCase()} ${label}`);
     if (!isSkipped) this.emit(`MOV ${this.names.get(to.register)},${from.location ? `[${from.location}]` : this.names.get(from.register)}`);
     if (OPPOSITE[found]) this.pending = [...this.pending, label];
-    const both = OPPOSITE[found] ? combineWords(before, source, (one) => one) : null;
-    const words = both ? makeWords([...before.list, ...source.list]) : { list: null, max: Math.max(before.max, source.max) };
-    this.write(to.register, width, isSkipped ? before : found === "always" ? source : words);
+    this.write(to.register, width, isSkipped ? before : found === "always" ? source : joinWords(before, source));
   }
 }

@@ -145,6 +145,7 @@ export class RegisterState {
 
   /** Records that a location may have some words. */
   share(location, width, words) {
+    this.shared.access(location, width);
     if (!this.isImpossible) this.shared.store(location, width, words);
   }
 

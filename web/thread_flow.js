@@ -18,14 +18,14 @@ function findExecuted(steps, indices, at) {
     // A jump to itself stays.
     if (!isPassed || passed.has(to)) return to;
     passed.add(to);
-    to = condition ? (indices.get(label) ?? steps.length) : to + 1;
+    to = condition ? indices.get(label) : to + 1;
   }
 }
 
-/** Returns the indices of steps that follow each step of a thread. Undefined labels are those of the end. */
+/** Returns the indices of steps that follow each step of a thread. */
 function listNext(steps, indices) {
   return steps.map(({ operation: { label, condition } }, at) => ({
-    jumped: label && findExecuted(steps, indices, indices.get(label) ?? steps.length),
+    jumped: label && findExecuted(steps, indices, indices.get(label)),
     continued: condition === "mp" ? undefined : findExecuted(steps, indices, at + 1),
   }));
 }
@@ -81,12 +81,12 @@ function findLive(steps, next, atEnd) {
 }
 
 /**
- * Returns the flow of the steps of a thread; null if it has a loop that a run may enter in the middle.
- * @param {{labels: string[], operation: Operation}[]} steps
+ * Returns the flow of the steps of a thread, of whose labels a map has the indices; null if it has a loop that a run may enter in the middle.
+ * @param {{operation: Operation}[]} steps
+ * @param {Map<string, number>} indices
  * @returns {Flow | null}
  */
-export function findFlow(steps) {
-  const indices = new Map(steps.flatMap(({ labels }, at) => labels.map((it) => [it, at])));
+export function findFlow(steps, indices) {
   const next = listNext(steps, indices);
   const first = findExecuted(steps, indices, 0);
   const { order, back } = sortSteps(next, first);

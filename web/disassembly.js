@@ -1,0 +1,74 @@
+// Rewrites what disassemblers print, and listings of Microsoft's compiler, as assembly: addresses and bytes before instructions are left out, variables and
+// labels have names. Not proved.
+
+// A line that begins a function: objdump's, or gdb's.
+const FUNCTION = /^(?:[\da-f]{4,16}\s+<([^>]+(?:>[^>]*)*)>:|Dump of assembler code for function ([^:]+(?:::[^:]+)*):)\s*$/i;
+// An instruction with its address, and perhaps its bytes; and what the linker puts into the instruction before it: a place, a name and a number.
+const INSTRUCTION = /^\s*(?:=>\s*)?(?:0x)?([\da-f]+)(?:\s+<\+\d+>)?:(?:\s+(?:[\da-f]{2}(?=\s|$)\s?)+(?=\s|$))?\s*(.*)$/i;
+const RELOCATION = /^\s*([\da-f]+):\s+R_X86_64_(?:PC32|PLT32|GOTPCRELX|REX_GOTPCRELX)\s+([.\w$]+)([+-]0x[\da-f]+)?\s*$/i;
+const REST = /^(?:End of assembler dump\.?|Disassembly of section .*|.*:\s+file format \S+|\s*\.\.\.)\s*$/i;
+// An address that a comment names, in AT&T's notation and in Intel's: the groups are the address, the name of what is there, and the number of bytes after it.
+const TO_SYMBOL = /(?:(?<![\w.])-?(?:0x)?[\da-f]+\(%rip\)|\[rip\s*[+-]\s*(?:0x)?[\da-f]+\])(.*?)\s+#\s+(?:0x)?([\da-f]+)(?:\s+<([^>+]+)(?:\+(?:(0x[\da-f]+)|(\d+)))?>)?\s*$/i;
+const JUMP = /^((?:(?:bnd|notrack)\s+)?(?:j\w+|callq?)\s+)(?:0x)?([\da-f]+)(?:\s+<([^>+]+(?:>[^>+]*)*)(\+\w+)?>)?\s*$/i;
+const MANGLED = /\?([A-Za-z_]\w*)((?:@[A-Za-z_]\w*)*)@@[\w@?$]*/g;
+
+/** Returns an instruction in which a variable has its name, if a comment or a relocation says it. What is no variable is one of the `functions`. */
+function nameVariable(code, relocation, functions) {
+  const [whole, rest, end, name, hexadecimal, decimal = "0"] = TO_SYMBOL.exec(code) ?? [];
+  const symbol = relocation?.name ?? name;
+  if (whole === undefined || !symbol || functions.has(symbol)) return code;
+  // A number of a relocation counts from its place, and the processor's from the end of the instruction.
+  const offset = relocation ? relocation.added + parseInt(end, 16) - relocation.at : Number(hexadecimal ?? decimal);
+  const place = symbol.replace(/^\./, "") + (offset ? `+${offset}` : "");
+  return code.replace(TO_SYMBOL, `${place}${whole.startsWith("[") ? "[rip]" : "(%rip)"}${rest}`);
+}
+
+/** Returns the lines of a disassembly, each with its `address`, its `code`, the `name` of the function that it begins, and its `relocation`, if it has them. */
+function readLines(text) {
+  const lines = [];
+  for (const line of text.split("\n")) {
+    const [, at, symbol, added = "0"] = RELOCATION.exec(line) ?? [];
+    const [, name, other] = FUNCTION.exec(line) ?? [];
+    const [, address, code] = INSTRUCTION.exec(line) ?? [];
+    if (symbol && lines.length) {
+      const number = added.startsWith("-") ? -Number(added.slice(1)) : Number(added.replace("+", ""));
+      lines.at(-1).relocation = { at: parseInt(at, 16), name: symbol, added: number };
+    } else if (name ?? other) lines.push({ name: name ?? other });
+    else if (address && code) lines.push({ address: address.replace(/^0+(?=.)/, "").toLowerCase(), code });
+    else if (!address && line.trim() && !REST.test(line)) lines.push({ code: line });
+  }
+  return lines;
+}
+
+/** Returns an instruction with the name or the label to which it jumps or that it calls, in a function, and this label; null if it does neither. */
+function nameTarget({ code, relocation }, current) {
+  const [, jump, target, symbol, offset] = JUMP.exec(code) ?? [];
+  if (!jump) return null;
+  const name = relocation?.name ?? (symbol && !offset && (symbol !== current || jump.startsWith("call")) ? symbol : null);
+  return { code: jump + (name ?? `L${target.toLowerCase()}`), label: name ? null : target.toLowerCase() };
+}
+
+/** Returns assembly that is the lines of a disassembly. */
+function formatLines(lines) {
+  const functions = new Set(lines.flatMap(({ name }) => name ?? []));
+  let current = "";
+  const written = lines.map((line) => {
+    current = line.name ?? current;
+    return { ...line, ...(line.name ? {} : (nameTarget(line, current) ?? { code: nameVariable(line.code, line.relocation, functions) })) };
+  });
+  const labels = new Set(written.map((it) => it.label));
+  const format = ({ name, address, code }) => (name ? `.globl ${name}\n${name}:` : `${labels.has(address) ? `L${address}: ` : ""}${code}`);
+  return written.map(format).join("\n");
+}
+
+/**
+ * Returns a text in which a disassembly is assembly, and names of Microsoft's compiler are those of the program; and whether it is a disassembly.
+ * @param {string} text
+ * @returns {{text: string, isDisassembly: boolean}}
+ */
+export function rewriteListing(text) {
+  const isDisassembly = text.split("\n").some((it) => FUNCTION.test(it) || /^\s*(?:0x)?[\da-f]+(?:\s+<\+\d+>)?:\s+[\da-f]{2}\s/i.test(it) || TO_SYMBOL.test(it));
+  const plain = isDisassembly ? formatLines(readLines(text)) : text;
+  const rename = (_, name, classes) => [...classes.split("@").slice(1).reverse(), name].join("::");
+  return { text: plain.includes("?") ? plain.replace(MANGLED, rename) : plain, isDisassembly };
+}
