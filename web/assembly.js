@@ -5,11 +5,13 @@
 
 import { alignCells } from "./aligned.js";
 import { readBlocks, rewriteReturns } from "./assembly_reader.js";
-import { limitTest, lowerText } from "./assembly_test.js";
+import { describeUnset, limitTest, lowerText } from "./assembly_test.js";
 import { rewriteListing } from "./disassembly.js";
 import { rewriteWhole } from "./notation.js";
 import { explainProcessor } from "./other_processors.js";
 import { isRead } from "./other_tools.js";
+import { Refusal } from "./register_state.js";
+import { readTest } from "./tests.js";
 import { isReserved, WORD } from "./token_reader.js";
 import { leaveAllLoops } from "./waiting.js";
 
@@ -71,6 +73,7 @@ const NOT_LINKED = "These are instructions of an object file, which lacks the ad
 const BEGIN = "These are instructions without a test around them";
 const TOO_LARGE = "a test has eight locations at most, and each thread of it 32 instructions";
 const OF_ENDS = "The question only asks for the ends of loops: change it to yours.";
+const OTHER_BEGIN = "write the initial values as `{ x=1; }`";
 const OTHERWISE = "Write it by `MOV`, `ADD`, `CMP`, jumps forward, `MFENCE`, `XCHG` and `LOCK XADD`, or leave it out";
 
 /**
@@ -298,7 +301,7 @@ function makeWritten({ front, threads, tail, locations, variables }) {
   const { list, question, isAsked } = makeQuestion(threads, /%e?[a-z]{2}\b|\$\w/.test(threads.flat().join("\n")));
   const made = formatTest(formatHead(front, formatWords(variables, threads.flat())), threads, tail || `${list}exists (${question})\n`);
   const { text, words } = rewriteWhole(made);
-  return isRead(text) || (threads.length && isRead(leaveAllLoops(text))) ? { text, isAsked, said: [words] } : null;
+  return isRead(text) || (threads.length && isRead(leaveAllLoops(text))) ? { text, isAsked, said: [words, !front && describeUnset(threads)] } : null;
 }
 
 /**
@@ -307,15 +310,17 @@ function makeWritten({ front, threads, tail, locations, variables }) {
  */
 function makeLowered(source) {
   try {
-    const { part, lines, own, block, isShown, tail, ends, said } = lowerText(source);
+    const { part, lines, own, block, isShown, tail, ends, said, isBegin } = lowerText(source);
     if (part) return { why: `: \`${part}\` is in the middle of a word.` };
     const { list, question, isAsked } = makeQuestion(own, false, isShown);
     const { text } = rewriteWhole(formatTest(formatHead(source.front, block), lines, tail || `${list}exists (${question})\n`));
     const { text: made, why } = limitTest(text, ends, QUESTION);
-    return why ? { why } : isRead(made) ? { text: made, isAsked, isLimited: ends.length > 0, said } : { why: `: ${TOO_LARGE}` };
-  } catch ({ message, step }) {
-    if (!step) throw new Error(message);
-    return { why: `, of which the page does not rewrite \`${step.code}\`${message ? `: ${message}` : `. ${OTHERWISE}`}` };
+    if (why ?? !isRead(made)) return { why: why ?? `: ${TOO_LARGE}` };
+    return isBegin(readTest(made)) ? { text: made, isAsked, isLimited: ends.length > 0, said } : { why: `: ${OTHER_BEGIN}` };
+  } catch (fault) {
+    if (!(fault instanceof Refusal)) throw fault;
+    const { message, step } = fault;
+    return { why: step ? `, of which the page does not rewrite \`${step.code}\`${message ? `: ${message}` : `. ${OTHERWISE}`}` : `: ${message}` };
   }
 }
 

@@ -224,3 +224,18 @@ export function lowerThreads(threads, { isAtt, initial, begins, asked }) {
   }
   return { written, registers, widths: shared.widths, words: shared.words, pairs: new Set(writers.flatMap((it) => [...it.pairs])) };
 }
+
+/**
+ * Returns, for each thread, the registers that it reads before it sets them; none of threads that are not read.
+ * @param {string[][]} threads
+ * @param {boolean} isAtt
+ * @returns {string[][]}
+ */
+export function listUnset(threads, isAtt) {
+  try {
+    const flows = threads.map((lines) => readSteps(lines, isAtt)).map(({ steps, indices }) => findFlow(steps, indices));
+    return flows.map((it) => [...new Set([...it.live[it.first]].map((part) => part.slice(0, -1)).filter(Boolean))]);
+  } catch {
+    return threads.map(() => []);
+  }
+}

@@ -1,13 +1,13 @@
 // Makes the parts of a test of functions in assembly: the code of its threads, the words at the begin, and what the question has to know. Not proved.
 
 import { parseRegister } from "./assembly_operations.js";
-import { lowerThreads } from "./assembly_lowering.js";
+import { listUnset, lowerThreads } from "./assembly_lowering.js";
 import { limitQuestion } from "./c_question.js";
 import { Refusal } from "./register_state.js";
 
 const WORD = 2 ** 32;
 const SITE = /\b(\d)(\s*:\s*)(%?[a-z]\w*)/gi;
-const ENTRY = /(?:(\d)\s*:\s*)?%?([A-Za-z_]\w*)\s*=\s*(0x[\da-f]+|\d+)/gi;
+const ENTRY = /(?<!\w)(?:(\d)\s*:\s*)?%?(?<!\w)([A-Za-z_]\w*)\s*=\s*(0x[\da-f]+|\d+)/gi;
 const OF_HALF = "the word at the begin does not fit into the bits that are accessed";
 const OF_QUESTION = ": a question is `exists (..)`, `~exists (..)` or `forall (..)`.";
 
@@ -50,6 +50,19 @@ function findPart(widths, locations) {
   return part && `${part.variable}+${part.offset}`;
 }
 
+/** Returns whether threads are in AT&T's notation. */
+const isInAtt = (threads) => threads.flat().some((it) => /%[a-z]/i.test(it));
+
+/**
+ * Returns a sentence on registers that threads read before they set them, as arguments of functions; or "".
+ * @param {string[][]} threads
+ * @returns {string}
+ */
+export function describeUnset(threads) {
+  const sites = listUnset(threads, isInAtt(threads)).flatMap((registers, thread) => registers.map((it) => `\`${it.replace(/^R(?=[A-Z])/, "E")}\` of P${thread}`));
+  return sites.length ? `${sites[0]} has no value before it is read: it is 0 here.` : "";
+}
+
 /** Returns sentences on what is in place of bytes, of loops and of compare-exchanges. */
 function describeLowering({ written, widths, pairs }) {
   const narrow = [...widths].find(([, width]) => width < 32);
@@ -76,7 +89,7 @@ function renameSites(tail, { written, registers }) {
 /**
  * Returns what a test of threads in assembly has: their `lines`, the `own` ones of the code, the `block` of words at the begin, whether a site of a register
  * `isShown`, the `tail` of the text, which has a question, with lw's registers, the `ends` to which the question is limited, and what is `said`. `front` is the
- * front of a test before them, or "". Throws Refusal.
+ * front of a test before them, or "". `isBegin` says whether a test has the words at the begin that were taken. Throws Refusal.
  * @param {{threads: string[][], locations: Map<string, string>, variables: AssemblyBlock[], front: string, tail: string}} source
  * @returns {object}
  */
@@ -85,8 +98,8 @@ export function lowerText({ threads, locations, variables, front, tail }) {
   const { words, begins } = readFront(front, threads.length);
   const initial = (name, width) => words.get(name) ?? read(name, width);
   const sites = [...tail.matchAll(SITE)].map(([, thread, , name]) => ({ thread: Number(thread), register: parseRegister(name)?.register }));
-  const asked = threads.map((_, thread) => sites.filter((it) => it.thread === thread && it.register).map((it) => it.register));
-  const isAtt = threads.flat().some((it) => /%[a-z]/i.test(it));
+  const asked = begins.map((begin, thread) => [...begin.keys(), ...sites.filter((it) => it.thread === thread && it.register).map((it) => it.register)]);
+  const isAtt = isInAtt(threads);
   const lowered = lowerThreads(threads, { isAtt, initial, begins: begins.map((it) => (front ? it : null)), asked });
   const { written, widths } = lowered;
   const part = findPart(widths, locations);
@@ -101,6 +114,7 @@ export function lowerText({ threads, locations, variables, front, tail }) {
     tail: renameSites(tail, lowered),
     ends: written.flatMap(({ marker }, thread) => (marker ? [{ name: `${thread}:${marker}`, word: 1, isEqual: true }] : [])),
     said: describeLowering(lowered),
+    isBegin: (test) => test.locations.every((name, at) => !widths.has(name) || test.words[at] === initial(name, widths.get(name))),
   };
 }
 

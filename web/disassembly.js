@@ -7,20 +7,24 @@ const FUNCTION = /^(?:[\da-f]{4,16}\s+<([^>]+(?:>[^>]*)*)>:|Dump of assembler co
 const INSTRUCTION = /^\s*(?:=>\s*)?(?:0x)?([\da-f]+)(?:\s+<\+\d+>)?:(?:\s+(?:[\da-f]{2}(?=\s|$)\s?)+(?=\s|$))?\s*(.*)$/i;
 const RELOCATION = /^\s*([\da-f]+):\s+R_X86_64_(?:PC32|PLT32|GOTPCRELX|REX_GOTPCRELX)\s+([.\w$]+)([+-]0x[\da-f]+)?\s*$/i;
 const REST = /^(?:End of assembler dump\.?|Disassembly of section .*|.*:\s+file format \S+|\s*\.\.\.)\s*$/i;
-// An address that a comment names, in AT&T's notation and in Intel's: the groups are the address, the name of what is there, and the number of bytes after it.
-const TO_SYMBOL = /(?:(?<![\w.])-?(?:0x)?[\da-f]+\(%rip\)|\[rip\s*[+-]\s*(?:0x)?[\da-f]+\])(.*?)\s+#\s+(?:0x)?([\da-f]+)(?:\s+<([^>+]+)(?:\+(?:(0x[\da-f]+)|(\d+)))?>)?\s*$/i;
+// An address that the linker computes, in AT&T's notation or in Intel's, and a comment that names it: the groups are the address, the name of what is there,
+// and the number of bytes after it.
+const ADDRESS = /(?<![\w.])-?(?:0x)?[\da-f]+\(%rip\)|\[rip ?[+-] ?(?:0x)?[\da-f]+\]/i;
+const SYMBOL = /^\s*(?:0x)?([\da-f]+)(?:\s+<([^>+]+)(?:\+(?:(0x[\da-f]+)|(\d+)))?>)?\s*$/i;
 const JUMP = /^((?:(?:bnd|notrack)\s+)?(?:j\w+|callq?)\s+)(?:0x)?([\da-f]+)(?:\s+<([^>+]+(?:>[^>+]*)*)(\+\w+)?>)?\s*$/i;
 const MANGLED = /\?([A-Za-z_]\w*)((?:@[A-Za-z_]\w*)*)@@[\w@?$]*/g;
 
 /** Returns an instruction in which a variable has its name, if a comment or a relocation says it. What is no variable is one of the `functions`. */
 function nameVariable(code, relocation, functions) {
-  const [whole, rest, end, name, hexadecimal, decimal = "0"] = TO_SYMBOL.exec(code) ?? [];
+  const comment = code.indexOf("#");
+  const [, end, name, hexadecimal, decimal = "0"] = SYMBOL.exec(comment < 0 ? "" : code.slice(comment + 1)) ?? [];
   const symbol = relocation?.name ?? name;
-  if (whole === undefined || !symbol || functions.has(symbol)) return code;
+  const [address] = ADDRESS.exec(code) ?? [];
+  if (!end || !symbol || !address || functions.has(symbol)) return code;
   // A number of a relocation counts from its place, and the processor's from the end of the instruction.
   const offset = relocation ? relocation.added + parseInt(end, 16) - relocation.at : Number(hexadecimal ?? decimal);
   const place = symbol.replace(/^\./, "") + (offset ? `+${offset}` : "");
-  return code.replace(TO_SYMBOL, `${place}${whole.startsWith("[") ? "[rip]" : "(%rip)"}${rest}`);
+  return code.slice(0, comment).replace(ADDRESS, `${place}${address.startsWith("[") ? "[rip]" : "(%rip)"}`);
 }
 
 /** Returns the lines of a disassembly, each with its `address`, its `code`, the `name` of the function that it begins, and its `relocation`, if it has them. */
@@ -67,7 +71,7 @@ function formatLines(lines) {
  * @returns {{text: string, isDisassembly: boolean}}
  */
 export function rewriteListing(text) {
-  const isDisassembly = text.split("\n").some((it) => FUNCTION.test(it) || /^\s*(?:0x)?[\da-f]+(?:\s+<\+\d+>)?:\s+[\da-f]{2}\s/i.test(it) || TO_SYMBOL.test(it));
+  const isDisassembly = text.split("\n").some((it) => FUNCTION.test(it) || /^\s*(?:0x)?[\da-f]+(?:\s+<\+\d+>)?:\s+[\da-f]{2}\s/i.test(it) || (ADDRESS.test(it) && it.includes("#")));
   const plain = isDisassembly ? formatLines(readLines(text)) : text;
   const rename = (_, name, classes) => [...classes.split("@").slice(1).reverse(), name].join("::");
   return { text: plain.includes("?") ? plain.replace(MANGLED, rename) : plain, isDisassembly };
