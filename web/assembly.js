@@ -61,8 +61,8 @@ const NO_THREAD = new RegExp(
   "^(?!.*_M_run)\"?(?:(?:main|_start|_init|_fini|(?:de)?register_tm_clones|__do_global_dtors_aux|frame_dummy|_dl_relocate_static_pie|_GLOBAL__sub_I_.*|__cxx_global_var_init.*)" +
     "(?:\\(.*\\))?|__clang_call_terminate|_ZN?K?S[at].*|_ZN\\d+__gnu_cxx.*|(?:std|__gnu_cxx)::.*|.*@.*|.*\\.cold(?:\\.\\d+)?)\"?$",
 );
-// Code that only jumps to an address in a register, as that of a thread of C++ that calls a function.
-const ONLY_INDIRECT = /^jmpq?\s+(?:\*|\[|qword\b)/i;
+// A call of a function whose address is in memory, as in the code of a thread of C++ that calls one.
+const INDIRECT = /^(?:jmp|call)q?\s+(?:\*|\[|qword\b)/i;
 // The sentence on code that is not optimized.
 const UNOPTIMIZED = "These are instructions of a compiler without optimization, which keep variables on the stack: compile with `-O2`.";
 // The sentence on code of a library.
@@ -113,7 +113,7 @@ function areNumbered(blocks, first) {
 function readThreads(text) {
   const [front, ...others] = readBlocks(text);
   const all = others.filter((it) => it.lines.some(Boolean));
-  const isThread = ({ name, lines: [...code] }) => !NO_THREAD.test(name) && !ONLY_INDIRECT.test(code.find(Boolean));
+  const isThread = ({ name, lines }) => !NO_THREAD.test(name) && !(name.includes("_M_run") && lines.some((it) => INDIRECT.test(it)));
   const kept = all.filter(isThread);
   const [blocks, leftOut] = kept.length ? [kept, all.filter((it) => !kept.includes(it)).map((it) => it.name)] : [all, []];
   const variables = others.filter((it) => it.words.length);
@@ -205,7 +205,8 @@ function listStoredLocations(threads, isAtt) {
  */
 function makeQuestion(threads, isAtt, isShown = () => true) {
   const loads = threads.map((it) => LOAD.exec(it.at(-1)));
-  const asked = loads.every(Boolean) ? loads.map(([, first, last], thread) => `${thread}:E${(first ?? last).toUpperCase()}`) : [];
+  const sites = loads.every(Boolean) ? loads.map(([, first, last], thread) => `${thread}:E${(first ?? last).toUpperCase()}`) : [];
+  const asked = sites.every(isShown) ? sites : [];
   const operands = threads.flatMap((it, thread) => [...it.join("\n").matchAll(OPERAND)].map(([, register]) => `${thread}:E${register.toUpperCase()}`));
   const registers = operands.filter(isShown);
   const locations = registers.length ? listStoredLocations(threads, isAtt) : [true, false].flatMap((it) => listLocations(threads.flat(), it));

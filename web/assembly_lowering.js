@@ -174,15 +174,21 @@ class ThreadWriter extends StepWriter {
     const isUsed = (label) => this.lines.some((it) => it.code.endsWith(` ${label}`));
     const format = ({ labels, code }) => `${labels.filter(isUsed).map((it) => `${it}: `).join("")}${code}`.trim();
     const lines = [...this.lines, { labels: this.pending, code: "" }].map(format);
-    return { lines: lines.filter(Boolean), own: (marker ? lines.slice(0, ownCount) : lines).filter(Boolean), marker, shown: this.listShown() };
+    return { lines: lines.filter(Boolean), own: (marker ? lines.slice(0, ownCount) : lines).filter(Boolean), marker, shown: this.listKnown() };
   }
 
-  /** Returns the registers of lw whose words are those of the thread's registers at its end. Of RAX, the result, the lowest bits are enough. */
-  listShown() {
+  /** Returns the registers of which the lowest bits are known at the end, with their names in lw and the number of these bits. */
+  listKnown() {
     const contents = [...this.names].filter(([, name]) => name).map(([register, name]) => ({ register, name, ...this.getContent(register) }));
-    return contents.filter((it) => it.known >= 32 || (it.register === "RAX" && it.known)).map(({ register, name, known }) => ({ register, name, known }));
+    return contents.filter((it) => it.known).map(({ register, name, known }) => ({ register, name, known }));
   }
 }
+
+/**
+ * Returns whether a register at the end of a thread is shown: those that a question names, and those that have 32 known bits. Of RAX, the result of a
+ * function, the lowest bits are enough: callers look at no others if it is a `bool`.
+ */
+const isShown = ({ register, known }, asked) => known >= 32 || register === "RAX" || asked.includes(register);
 
 /** Returns the parts of registers that are shown at the end. */
 function listShownParts(shown) {
@@ -217,7 +223,8 @@ export function lowerThreads(threads, { isAtt, initial, begins, asked }) {
   const words = [...names].map((it) => initial(it, 32)).concat(begins.flatMap((it) => [...(it?.values() ?? [])]));
   const shared = new SharedWords(initial, boundSums(all.flat(), words));
   const writers = writeAll(flows, shared, registers, begins);
-  const written = writers.map((it) => it.finish());
+  const ends = writers.map((it) => it.finish());
+  const written = ends.map((it, thread) => ({ ...it, shown: it.shown.filter((end) => isShown(end, asked[thread] ?? [])) }));
   for (const [thread, { shown }] of written.entries()) {
     const carried = findCarried(flows[thread], listShownParts(shown));
     if (carried !== undefined) throw new Refusal(OF_LOOP, all[thread][carried]);

@@ -246,26 +246,32 @@ export class StepWriter extends RegisterState {
     this.flags = { ...compareWords(one.words, other.words, width), register: to.register, constant: getOnly(other.words) };
   }
 
-  /** A test of bits compares with the only word that lacks all of them. */
+  /** A test of bits compares with the only word that lacks all of them, or, with the flag turned round, with the only other one. */
   writeTest({ width, operands: [to, from] }) {
-    if (to.number !== undefined) return this.writeTest({ width, operands: [from, to] });
     const one = this.take(to, width);
     const isSelf = to.register && to.register === from?.register;
-    const mask = isSelf ? 2 ** Math.min(width, 32) - 1 : from?.number === undefined ? undefined : this.toWord(from.number, width);
-    if (mask === undefined) throw new Refusal("");
+    if (!isSelf && from?.number === undefined) throw new Refusal("");
+    const mask = isSelf ? 2 ** Math.min(width, 32) - 1 : this.toWord(from.number, width);
     const isCovered = one.words.max <= mask && Number.isInteger(Math.log2(mask + 1));
-    const lacking = isCovered ? [0] : one.words.list?.filter((it) => !((it & mask) >>> 0));
-    if (!lacking || lacking.length > 1) throw new Refusal("");
-    const [word = 0] = lacking;
+    const isLacking = (word) => (word & mask) === 0;
+    const lists = isCovered ? [[0]] : [one.words.list?.filter(isLacking), one.words.list?.filter((it) => !isLacking(it))];
+    const isTurned = lists[0]?.length !== 1;
+    const [word] = lists.find((it) => it?.length === 1) ?? [];
+    if (word === undefined) throw new Refusal("");
     this.emit(`CMP ${one.text},$${word}`);
-    const isSame = isCovered && word === 0;
-    this.flags = { ...compareWords(one.words, makeWords([word]), width), isZero: !isSame, register: to.register, constant: word };
-    return undefined;
+    this.flags = { ...compareWords(one.words, makeWords([word]), width), isZero: !isCovered, isTurned, register: to.register, constant: word };
   }
 
   /** Sets a register to 0. */
   clear({ width, operands: [to] }) {
     this.set(to, width, "$0", makeWords([0]));
+    this.setFlags(to, width);
+  }
+
+  /** Sets all bits of a register. */
+  fill({ width, operands: [to] }) {
+    const word = this.toWord(-1, width);
+    this.set(to, width, `$${word}`, makeWords([word]));
     this.setFlags(to, width);
   }
 
@@ -285,6 +291,7 @@ export class StepWriter extends RegisterState {
     const { name, width, isLocked, operands: [to, from] } = operation;
     if (isClearing(operation)) return this.clear(operation);
     const isSelf = to.register && to.register === from?.register;
+    if (name === "or" && to.register && from?.number === -1) return this.fill(operation);
     const by = isSelf ? 0 : this.toWord(from?.number ?? NaN, width);
     if (Number.isNaN(by)) throw new Refusal("");
     const isNeutral = isSelf || by === (name === "and" ? 2 ** Math.min(width, 32) - 1 : 0);
@@ -358,7 +365,7 @@ export class StepWriter extends RegisterState {
   /** Returns which condition of lw is that of a branch. */
   findCondition(condition) {
     if (condition === "mp") return "always";
-    if (this.flags && /^n?e$/.test(condition)) return condition;
+    if (this.flags && /^n?e$/.test(condition)) return this.flags.isTurned ? OPPOSITE[condition] : condition;
     const found = this.flags && findCondition(this.flags, condition);
     if (!found) throw new Refusal(this.flags ? "lw's jumps are `JE` and `JNE`" : OF_FLAGS);
     return found;

@@ -9,6 +9,7 @@ const WORD = 2 ** 32;
 const SITE = /\b(\d)(\s*:\s*)(%?[a-z]\w*)/gi;
 const ENTRY = /(?<!\w)(?:(\d)\s*:\s*)?%?(?<!\w)([A-Za-z_]\w*)\s*=\s*(0x[\da-f]+|\d+)/gi;
 const OF_HALF = "the word at the begin does not fit into the bits that are accessed";
+const OF_PART = "not all of its bits are known at the end of the thread";
 const OF_QUESTION = ": a question is `exists (..)`, `~exists (..)` or `forall (..)`.";
 
 /** Returns the place of a location: the name of its variable, and its first byte in this. */
@@ -65,11 +66,11 @@ export function describeUnset(threads) {
 
 /** Returns sentences on what is in place of bytes, of loops and of compare-exchanges. */
 function describeLowering({ written, widths, pairs }) {
-  const narrow = [...widths].find(([, width]) => width < 32);
+  const other = [...widths].find(([, width]) => width !== 32);
   const ends = written.flatMap(({ marker }, thread) => (marker ? [`\`${thread}:${marker}=1\` says that P${thread} has come to its end`] : []));
   const [pair] = pairs;
   return [
-    narrow && `\`${narrow[0]}\` has ${narrow[1]} bits: all its values fit, so a word of lw does the same.`,
+    other && `\`${other[0]}\` has ${other[1]} bits: all its values fit, so a word of lw does the same.`,
     pair && `\`lock cmpxchg\` is an \`XCHG\` here, since \`${pair}\` only has the two words that it expects and writes.`,
     ends.length && `A loop that waits is one pass here: ${ends.join(", ")}. Other states are in the list, too, and the question leaves them out.`,
   ];
@@ -78,11 +79,11 @@ function describeLowering({ written, widths, pairs }) {
 /** Returns the end of a test in which the registers that it asks for have lw's names. Throws Refusal for one that has no word at the end. */
 function renameSites(tail, { written, registers }) {
   return tail.replace(SITE, (whole, thread, colon, name) => {
-    const { register } = parseRegister(name) ?? {};
-    const own = registers[thread]?.names.get(register);
+    const { register, width } = parseRegister(name) ?? {};
     if (!register || !written[thread]) return whole;
-    if (!written[thread].shown.some((it) => it.register === register)) throw new Refusal("", { code: whole });
-    return `${thread}${colon}${own}`;
+    const isKnown = (it) => it.register === register && (it.known >= Math.min(width, 32) || register === "RAX");
+    if (!written[thread].shown.some(isKnown)) throw new Refusal(OF_PART, { code: whole });
+    return `${thread}${colon}${registers[thread].names.get(register)}`;
   });
 }
 

@@ -5,7 +5,8 @@
 const FUNCTION = /^(?:[\da-f]{4,16}\s+<([^>]+(?:>[^>]*)*)>:|Dump of assembler code for function ([^:]+(?:::[^:]+)*):)\s*$/i;
 // An instruction with its address, and perhaps its bytes; and what the linker puts into the instruction before it: a place, a name and a number.
 const INSTRUCTION = /^\s*(?:=>\s*)?(?:0x)?([\da-f]+)(?:\s+<\+\d+>)?:(?:\s+(?:[\da-f]{2}(?=\s|$)\s?)+(?=\s|$))?\s*(.*)$/i;
-const RELOCATION = /^\s*([\da-f]+):\s+R_X86_64_(?:PC32|PLT32|GOTPCRELX|REX_GOTPCRELX)\s+([.\w$]+)([+-]0x[\da-f]+)?\s*$/i;
+const RELOCATION = /^\s*([\da-f]+):\s+R_X86_64_\w+\s+(\S.*)$/i;
+const ADDED = /[+-]0x[\da-f]+$/i;
 const REST = /^(?:End of assembler dump\.?|Disassembly of section .*|.*:\s+file format \S+|\s*\.\.\.)\s*$/i;
 // An address that the linker computes, in AT&T's notation or in Intel's, and a comment that names it: the groups are the address, the name of what is there,
 // and the number of bytes after it.
@@ -31,12 +32,12 @@ function nameVariable(code, relocation, functions) {
 function readLines(text) {
   const lines = [];
   for (const line of text.split("\n")) {
-    const [, at, symbol, added = "0"] = RELOCATION.exec(line) ?? [];
+    const [, at, symbol = ""] = RELOCATION.exec(line) ?? [];
     const [, name, other] = FUNCTION.exec(line) ?? [];
     const [, address, code] = INSTRUCTION.exec(line) ?? [];
     if (symbol && lines.length) {
-      const number = added.startsWith("-") ? -Number(added.slice(1)) : Number(added.replace("+", ""));
-      lines.at(-1).relocation = { at: parseInt(at, 16), name: symbol, added: number };
+      const [added = "+0"] = ADDED.exec(symbol.trim()) ?? [];
+      lines.at(-1).relocation = { at: parseInt(at, 16), name: symbol.trim().replace(ADDED, ""), added: Number(added.slice(1)) * (added[0] === "-" ? -1 : 1) };
     } else if (name ?? other) lines.push({ name: name ?? other });
     else if (address && code) lines.push({ address: address.replace(/^0+(?=.)/, "").toLowerCase(), code });
     else if (!address && line.trim() && !REST.test(line)) lines.push({ code: line });

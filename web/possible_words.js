@@ -1,7 +1,8 @@
 // The words that a register or a location may have in runs of a test: a list of them, or, if they are many, only the greatest. Not proved.
 //
 // `Words` have a `list`, or null, and a `max`. `Flags` have the `pairs` of words that were compared, or null, their `width`, and `isZero`, if they only say
-// whether a result is 0; and the `register` that was compared with a `constant`, while it has not changed.
+// whether a result is 0; `isTurned`, if that is so where lw's flag says that words differ; and the `register` that was compared with a `constant`, while it
+// has not changed.
 
 const MAX_LISTED = 16;
 const WORD = 2 ** 32;

@@ -183,6 +183,7 @@ export function joinStates(one, other, begin) {
     contents.set(register, { known: Math.min(first.known, second.known), ...joinWords(first, second) });
   }
   const isSame = JSON.stringify(one.flags) === JSON.stringify(other.flags);
-  const flags = isSame ? one.flags : one.flags && other.flags ? { pairs: null, width: 32 } : null;
+  const isKnown = [one, other].every(({ flags }) => flags && !flags.isTurned);
+  const flags = isSame ? one.flags : isKnown ? { pairs: null, width: 32 } : null;
   return { contents, flags, changes: [...new Set([...one.changes, ...other.changes])], isImpossible: false };
 }
