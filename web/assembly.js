@@ -20,6 +20,8 @@ const MAX_THREADS = 4;
 const MAX_NAMED = 3;
 // More instructions of a thread than this are not rewritten.
 const MAX_LINES = 64;
+// No line is longer, and no question.
+const LONGEST = 2000;
 // The front of a test, with which a text of instructions may begin; and how a question begins, or the list of locations before it.
 const FRONT = /^\s*X86[^{|;]*\{[^}|]*\}/;
 const QUESTION = /^[ \t]*(?:locations\b|filter\b|forall\b|(?:(?:[~!]|not\b)[ \t]*)?exists\b)/m;
@@ -67,6 +69,8 @@ const INDIRECT = /^(?:jmp|call)q?\s+(?:\*|\[|qword\b)/i;
 const UNOPTIMIZED = "These are instructions of a compiler without optimization, which keep variables on the stack: compile with `-O2`.";
 // The sentence on code of a library.
 const POSITION_INDEPENDENT = "These are instructions of a library, which loads the address of each variable from a table: compile without `-fPIC`.";
+// A second name of a variable.
+const ALIAS = /^[ \t]*\.(?:set|equ)[ \t]+([\w.$]+)[ \t]*,/gm;
 // An address that the linker has not put in yet, and the sentence on it.
 const UNLINKED = /(?<!\w)0x0\(%rip\)|\[rip\s*\+\s*0x0\]/i;
 const NOT_LINKED = "These are instructions of an object file, which lacks the addresses of its variables: use `objdump -dr`, or that of the linked program.";
@@ -231,6 +235,12 @@ function refuseVariables(lines, locations, variables) {
   return large ? `${BEGIN}: the initial value of \`${large}\` does not fit into the 32 bits of a word of lw.` : null;
 }
 
+/** Returns a sentence that refuses a text in which a location has two names, or null. */
+function refuseAliases(text, locations) {
+  const [, name] = [...text.matchAll(ALIAS)].find(([, it]) => locations.has(it)) ?? [];
+  return name ? `${BEGIN}, in which \`${name}\` is another name of a variable: write one name.` : null;
+}
+
 /** Returns a sentence that refuses the lines of a text of instructions, or null: "" says that they are no instructions. */
 function refuseLines(threads, names) {
   const lines = threads.flat();
@@ -269,6 +279,13 @@ function describeThreads({ threads, names, first, leftOut, front, isDisassembly 
     isDisassembly && !front && "A disassembly has no initial values: they are 0 here.",
     ...renamed.slice(0, 2).map(([from, to]) => `The location of \`${from}\` is \`${to}\`.`),
   ].filter(Boolean);
+}
+
+/** Returns whether a text has a line, other than a directive, or an end that is longer than those of instructions. */
+function isTooLong(text) {
+  const end = text.search(QUESTION);
+  const isLong = (line) => line.length > LONGEST && !/^\s*\./.test(line);
+  return (end >= 0 && text.length - end > LONGEST) || text.split("\n").some(isLong);
 }
 
 /** Returns a text of instructions in its parts: the front of a test before it, and its end, if it has them, its threads, and the locations in them. */
@@ -332,12 +349,12 @@ function makeLowered(source) {
  */
 export function explainAssembly(place) {
   const { text } = place;
-  if (NAMES_ROW.test(text)) return "";
+  if (NAMES_ROW.test(text) || isTooLong(text)) return "";
   const processor = explainProcessor(text);
   if (processor) return processor;
   const source = readSource(text);
   const { threads, tail, locations } = source;
-  const refused = refuseLines(threads, source.names) ?? refuseVariables(threads.flat(), locations, source.variables);
+  const refused = refuseLines(threads, source.names) ?? refuseVariables(threads.flat(), locations, source.variables) ?? refuseAliases(text, locations);
   if (refused !== null) return refused;
   const { text: made, isAsked, isLimited, said, why } = makeWritten(source) ?? makeLowered(source);
   if (why) return `${BEGIN}${why.replace(/[^.]$/, "$&.")}`;

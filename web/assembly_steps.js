@@ -8,7 +8,7 @@ import { Refusal, RegisterState } from "./register_state.js";
 
 const WORD = 2 ** 32;
 const OPPOSITE = { e: "ne", ne: "e" };
-const OF_SUM = "the sum may not fit into the bits that it is written to";
+const OF_SUM = "the sum may not fit into the bits that it is written to: use 32";
 const OF_FLAGS = "a branch reads flags after it that lw does not have";
 const OF_CAS = "lw's machine has no compare-exchange. One that expects a constant and writes another one is read, as `XCHG`, if its variable has only these two words";
 /** Why a call is refused. */
@@ -367,7 +367,7 @@ export class StepWriter extends RegisterState {
     if (condition === "mp") return "always";
     if (this.flags && /^n?e$/.test(condition)) return this.flags.isTurned ? OPPOSITE[condition] : condition;
     const found = this.flags && findCondition(this.flags, condition);
-    if (!found) throw new Refusal(this.flags ? "lw's jumps are `JE` and `JNE`" : OF_FLAGS);
+    if (!found) throw new Refusal(this.flags ? "lw's jumps are `JE` and `JNE`: compare with one word" : OF_FLAGS);
     return found;
   }
 

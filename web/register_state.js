@@ -8,10 +8,9 @@ import { ANY, getOnly, joinWords, makeWords } from "./possible_words.js";
 
 const WORD = 2 ** 32;
 const UNKNOWN = { known: 0, ...ANY };
-const OF_WIDTHS = "its location has accesses of several sizes here, and a location of lw is one word";
+const OF_WIDTHS = "a location of lw is one word, so all accesses of a variable are to have one size";
 const OF_LARGE = "the value may not fit into the bits that it reads or writes";
-const OF_ARGUMENT = "the register has no value before it: set it, as by `mov eax, 1`";
-const OF_PART = "it reads more bits of a register than are set before it";
+const OF_PART = "it reads more bits of a register than are set before it: extend them, as by `movzx`";
 const OF_SPARE = "no register is free: lw has six";
 
 /** Why an instruction is not rewritten: the rest of the sentence. */
@@ -99,7 +98,7 @@ export class RegisterState {
   /** Returns the possible words of the lowest bits of a register. */
   read(register, width) {
     const { known, list, max } = this.getContent(register);
-    if (known < width) throw new Refusal(known ? OF_PART : OF_ARGUMENT);
+    if (known < width) throw new Refusal(known ? OF_PART : `\`${register.toLowerCase()}\` has no value before it: set it, as by \`mov\``);
     if (max >= 2 ** width) throw new Refusal(OF_LARGE);
     return { list, max };
   }
