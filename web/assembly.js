@@ -4,6 +4,7 @@
 // The record `AssemblyBlock` is that of assembly_reader.js.
 
 import { alignCells } from "./aligned.js";
+import { findLocations, makeQuestion, REGISTER } from "./assembly_question.js";
 import { readBlocks, rewriteReturns } from "./assembly_reader.js";
 import { describeUnset, limitTest, lowerText } from "./assembly_test.js";
 import { rewriteListing } from "./disassembly.js";
@@ -42,9 +43,6 @@ const ASSEMBLY = new RegExp(`^(?:\\w+:\\s*)+$|^(?:\\w+:\\s*)*(?:(?:lock|rep)\\s+
 const OTHER_INSTRUCTION = new RegExp(`^(?:\\w+:\\s*)*(?:lock\\s+)?(?:${OTHER_NAMES})\\w*(?:\\s[^;|{}=]*)?$`, "i");
 // What may be another instruction: a name, with operands or without.
 const UNKNOWN_INSTRUCTION = /^(?:\w+:\s*)*(?:lock\s+)?[a-z]\w{1,9}(?:\s[^\s,;|{}=]+(?:\s?,[^;|{}=]*)?)?$/i;
-// A load, with its register, which is first, or last in AT&T's order; and a register that is an operand.
-const LOAD = /^(?:\w+:\s*)*mov[lq]?\s+(?:[re]([abcd]x|[sd]i)\s*,.*\[.*|[^$%,][^,]*,\s*%[re]([abcd]x|[sd]i))$/i;
-const OPERAND = /(?<!\[|\(%|\w)%?[er]([abcd]x|[sd]i)\b/gi;
 // A variable in an instruction, perhaps in a class and with a number of bytes after it: relative to the next instruction, in brackets, or after its size. The
 // groups are what is before it, its name, and the number.
 const NAME = "([A-Za-z_][\\w.$]*(?:::[A-Za-z_][\\w.$]*)*)";
@@ -53,15 +51,12 @@ const VARIABLES = [
   new RegExp(`(\\[(?:rip\\s*\\+\\s*|rel\\s+)?)${NAME}(?:\\s*\\+\\s*(\\d+))?(?=\\s*\\])`, "gi"),
   new RegExp(`(\\b(?:byte|[dq]?word)\\s+ptr\\s+)${NAME}(?:\\+(\\d+))?(?=\\s*(?:,|$))`, "gi"),
 ];
-const REGISTER = /^(?:[re]?(?:[abcd]x|[sd]i|[bs]p|ip)|r(?:[89]|1[0-5])[dwb]?)$/i;
 // An instruction of 64 bits.
 const WIDE = /\bqword\b|\b(?:mov|x?add|sub|xchg|cmp|inc|dec|x?or|and)q\b|\br(?:[abcd]x|[sd]i|\d\d?)\b/i;
-// A location in an instruction, in brackets or relative to the next instruction.
-const LOCATION = /\[\s*(?:rip\s*\+\s*|rel\s+)?(\w+)\s*\]|(?<![\w.$])([A-Za-z_]\w*)(?:\(%rip\)|\[rip\])/gi;
 // Functions that are no threads: they start these, or set variables before them, or are parts of libraries. That of a thread of C++ is `_M_run`.
 const NO_THREAD = new RegExp(
-  "^(?!.*_M_run)\"?(?:(?:main|_start|_init|_fini|(?:de)?register_tm_clones|__do_global_dtors_aux|frame_dummy|_dl_relocate_static_pie|_GLOBAL__sub_I_.*|__cxx_global_var_init.*)" +
-    "(?:\\(.*\\))?|__clang_call_terminate|_ZN?K?S[at].*|_ZN\\d+__gnu_cxx.*|(?:std|__gnu_cxx)::.*|.*@.*|.*\\.cold(?:\\.\\d+)?)\"?$",
+  "^(?!.*_M_run)\"?(?:(?:main|_start|_init|_fini|(?:de)?register_tm_clones|__do_global_dtors_aux|frame_dummy|_dl_relocate_static_pie|" +
+    "_GLOBAL__sub_I_.*|__cxx_global_var_init.*)(?:\\(.*\\))?|__clang_call_terminate|_ZN?K?S[at].*|_ZN\\d+__gnu_cxx.*|(?:std|__gnu_cxx)::.*|.*@.*|.*\\.cold(?:\\.\\d+)?)\"?$",
 );
 // A call of a function whose address is in memory, as in the code of a thread of C++ that calls one.
 const INDIRECT = /^(?:jmp|call)q?\s+(?:\*|\[|qword\b)/i;
@@ -76,6 +71,8 @@ const UNLINKED = /(?<!\w)0x0\(%rip\)|\[rip\s*\+\s*0x0\]/i;
 const NOT_LINKED = "These are instructions of an object file, which lacks the addresses of its variables: use `objdump -dr`, or that of the linked program.";
 const BEGIN = "These are instructions without a test around them";
 const TOO_LARGE = "a test has eight locations at most, and each thread of it 32 instructions";
+const OF_GUESS = "The question is a guess: change it to yours.";
+const OF_TRUE = "The question `true` holds always: look at the list of states.";
 const OF_ENDS = "The question only asks for the ends of loops: change it to yours.";
 const OTHER_BEGIN = "write the initial values as `{ x=1; }`";
 const OTHERWISE = "Write it by `MOV`, `ADD`, `CMP`, jumps forward, `MFENCE`, `XCHG` and `LOCK XADD`, or leave it out";
@@ -178,45 +175,6 @@ function findLargeWord(variables, lines) {
 /** Returns the initial values other than 0 that variables have, if code names them, as entries of a block. */
 function formatWords(variables, lines) {
   return listWords(variables, lines).filter((it) => it.word).map(({ name, word }) => `${name}=${((word % WORD) + WORD) % WORD};`).join(" ");
-}
-
-/** Returns the locations in a line, each with whether it is before a comma (`isFirst`). */
-function findLocations(line) {
-  const found = [...line.matchAll(LOCATION)].map(({ 1: bare, 2: relative, index }) => ({ name: bare ?? relative, isFirst: line.indexOf(",") > index }));
-  return found.filter((it) => !REGISTER.test(it.name));
-}
-
-/** Returns the locations in lines that are before a comma (`isFirst`), or those that are not. */
-function listLocations(lines, isFirst) {
-  return lines.flatMap(findLocations).filter((it) => it.isFirst === isFirst).map((it) => it.name);
-}
-
-/** Returns the locations that threads store, and whose last word no register shows: no thread loads them, or several store them. */
-function listStoredLocations(threads, isAtt) {
-  const stored = threads.map((it) => listLocations(it.filter((line) => /\b(?:mov|xchg|xadd|add|inc|dec|sub)/i.test(line)), !isAtt));
-  const loaded = new Set(threads.flatMap((it) => listLocations(it, isAtt)));
-  return [...new Set(stored.flat())].filter((name) => !loaded.has(name) || stored.filter((it) => it.includes(name)).length > 1);
-}
-
-/**
- * Returns the end of a test of some threads of instructions: it asks for 0 in the registers that the last loads write, if each thread ends with a load, and
- * lists the other registers, and the locations whose last word no register shows; all locations, if there are no registers. `isShown` says whether a register
- * of a thread is listed.
- * @param {string[][]} threads
- * @param {boolean} isAtt
- * @param {function(string): boolean} [isShown]
- * @returns {{list: string, question: string, isAsked: boolean}}
- */
-function makeQuestion(threads, isAtt, isShown = () => true) {
-  const loads = threads.map((it) => LOAD.exec(it.at(-1)));
-  const sites = loads.every(Boolean) ? loads.map(([, first, last], thread) => `${thread}:E${(first ?? last).toUpperCase()}`) : [];
-  const asked = sites.every(isShown) ? sites : [];
-  const operands = threads.flatMap((it, thread) => [...it.join("\n").matchAll(OPERAND)].map(([, register]) => `${thread}:E${register.toUpperCase()}`));
-  const registers = operands.filter(isShown);
-  const locations = registers.length ? listStoredLocations(threads, isAtt) : [true, false].flatMap((it) => listLocations(threads.flat(), it));
-  const listed = [...new Set([...registers, ...locations])].filter((it) => !asked.includes(it));
-  const question = asked.length ? asked.map((it) => `${it}=0`).join(" /\\ ") : "true";
-  return { list: listed.length ? `locations [${listed.map((it) => `${it};`).join(" ")}]\n` : "", question, isAsked: asked.length > 0 };
 }
 
 /** Returns whether lines are instructions, also if the page does not know all of them. */
@@ -338,7 +296,9 @@ function makeLowered(source) {
   } catch (fault) {
     if (!(fault instanceof Refusal)) throw fault;
     const { message, step } = fault;
-    return { why: step ? `, of which the page does not rewrite \`${step.code}\`${message ? `: ${message}` : `. ${OTHERWISE}`}` : `: ${message}` };
+    // The label of a jump may be another one than that in the text.
+    const code = step?.code.replace(/^(j(?!mp)\w+) .*/, "$1");
+    return { why: step ? `, of which the page does not rewrite \`${code}\`${message ? `: ${message}` : `. ${OTHERWISE}`}` : `: ${message}` };
   }
 }
 
@@ -362,6 +322,6 @@ export function explainAssembly(place) {
   place.change.title = threads.length > 1 ? `Make ${formatNames(threads.map((_, thread) => `P${thread}`))} of them` : "Make it P0 of a test";
   place.change.done = "Rewritten.";
   place.isOffer = true;
-  const guess = isAsked ? "The question is a guess: change it to yours." : isLimited ? OF_ENDS : "The question `true` holds always: look at the list of states.";
+  const guess = isAsked ? OF_GUESS : isLimited ? OF_ENDS : OF_TRUE;
   return [`${BEGIN}.`, ...describeThreads(source, locations), !tail && guess, ...said].filter(Boolean).join(" ").trim();
 }

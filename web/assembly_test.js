@@ -39,7 +39,8 @@ function makeInitial(variables, locations) {
 /** Returns the words at the begin that the front of a test has: of locations, and of the registers of threads. */
 function readFront(front, count) {
   const entries = [...front.matchAll(ENTRY)].map(([, thread, name, word]) => ({ thread, name, word: Number(word) }));
-  const registers = Array.from({ length: count }, (_, at) => entries.filter((it) => it.thread === String(at)).map((it) => [parseRegister(it.name)?.register, it.word]));
+  const listOf = (thread) => entries.filter((it) => it.thread === String(thread));
+  const registers = Array.from({ length: count }, (_, at) => listOf(at).map((it) => [parseRegister(it.name)?.register, it.word]));
   return { words: new Map(entries.filter((it) => !it.thread).map((it) => [it.name, it.word])), begins: registers.map((it) => new Map(it)) };
 }
 
@@ -60,7 +61,8 @@ const isInAtt = (threads) => threads.flat().some((it) => /%[a-z]/i.test(it));
  * @returns {string}
  */
 export function describeUnset(threads) {
-  const sites = listUnset(threads, isInAtt(threads)).flatMap((registers, thread) => registers.map((it) => `\`${it.replace(/^R(?=[A-Z])/, "E")}\` of P${thread}`));
+  const formatSite = (thread) => (register) => `\`${register.replace(/^R(?=[A-Z])/, "E")}\` of P${thread}`;
+  const sites = listUnset(threads, isInAtt(threads)).flatMap((registers, thread) => registers.map(formatSite(thread)));
   return sites.length ? `${sites[0]} has no value before it is read: it is 0 here.` : "";
 }
 

@@ -3,14 +3,16 @@
 
 // A line that begins a function: objdump's, or gdb's.
 const FUNCTION = /^(?:[\da-f]{4,16}\s+<([^>]+(?:>[^>]*)*)>:|Dump of assembler code for function ([^:]+(?:::[^:]+)*):)\s*$/i;
-// An instruction with its address, and perhaps its bytes; and what the linker puts into the instruction before it: a place, a name and a number.
-const INSTRUCTION = /^\s*(?:=>\s*)?(?:0x)?([\da-f]+)(?:\s+<\+\d+>)?:(?:\s+(?:[\da-f]{2}(?=\s|$)\s?)+(?=\s|$))?\s*(.*)$/i;
+// An instruction with its address, and perhaps its bytes: the groups are these, and the instruction; and the begin of such a line that is nothing else.
+const INSTRUCTION = /^\s*(?:=>\s*)?(?:0x)?([\da-f]+)(?:\s+<\+\d+>)?:(\s+(?:[\da-f]{2}(?=\s|$)\s?)+(?=\s|$))?\s*(.*)$/i;
+const LINE = /^\s*(?:=>\s*)?(?:0x)?\d[\da-f]*(?:\s+<\+\d+>:|:\s+(?:[\da-f]{2}\s){2})/i;
+// What the linker puts into the instruction before it: a place, a name and a number.
 const RELOCATION = /^\s*([\da-f]+):\s+R_X86_64_\w+\s+(\S.*)$/i;
 const ADDED = /[+-]0x[\da-f]+$/i;
 const REST = /^(?:End of assembler dump\.?|Disassembly of section .*|.*:\s+file format \S+|\s*\.\.\.)\s*$/i;
 // An address that the linker computes, in AT&T's notation or in Intel's, and a comment that names it: the groups are the address, the name of what is there,
 // and the number of bytes after it.
-const ADDRESS = /(?<![\w.])-?(?:0x)?[\da-f]+\(%rip\)|\[rip ?[+-] ?(?:0x)?[\da-f]+\]/i;
+const ADDRESS = /(?<![\w.])-?0x[\da-f]+\(%rip\)|\[rip ?[+-] ?0x[\da-f]+\]/i;
 const SYMBOL = /^\s*(?:0x)?([\da-f]+)(?:\s+<([^>+]+)(?:\+(?:(0x[\da-f]+)|(\d+)))?>)?\s*$/i;
 const JUMP = /^((?:(?:bnd|notrack)\s+)?(?:j\w+|callq?)\s+)(?:0x)?([\da-f]+)(?:\s+<([^>+]+(?:>[^>+]*)*)(\+\w+)?>)?\s*$/i;
 const MANGLED = /\?([A-Za-z_]\w*)((?:@[A-Za-z_]\w*)*)@@[\w@?$]*/g;
@@ -28,19 +30,19 @@ function nameVariable(code, relocation, functions) {
   return code.slice(0, comment).replace(ADDRESS, `${place}${address.startsWith("[") ? "[rip]" : "(%rip)"}`);
 }
 
-/** Returns the lines of a disassembly, each with its `address`, its `code`, the `name` of the function that it begins, and its `relocation`, if it has them. */
+/** Returns the lines of a disassembly, each with what it has: its `address`, its `code`, the `name` of the function that it begins, and its `relocation`. */
 function readLines(text) {
   const lines = [];
   for (const line of text.split("\n")) {
     const [, at, symbol = ""] = RELOCATION.exec(line) ?? [];
     const [, name, other] = FUNCTION.exec(line) ?? [];
-    const [, address, code] = INSTRUCTION.exec(line) ?? [];
+    const [, address, bytes, code] = INSTRUCTION.exec(line) ?? [];
     if (symbol && lines.length) {
       const [added = "+0"] = ADDED.exec(symbol.trim()) ?? [];
       lines.at(-1).relocation = { at: parseInt(at, 16), name: symbol.trim().replace(ADDED, ""), added: Number(added.slice(1)) * (added[0] === "-" ? -1 : 1) };
     } else if (name ?? other) lines.push({ name: name ?? other });
     else if (address && code) lines.push({ address: address.replace(/^0+(?=.)/, "").toLowerCase(), code });
-    else if (!address && line.trim() && !REST.test(line)) lines.push({ code: line });
+    else if (!bytes && line.trim() && !REST.test(line)) lines.push({ code: line });
   }
   return lines;
 }
@@ -72,7 +74,7 @@ function formatLines(lines) {
  * @returns {{text: string, isDisassembly: boolean}}
  */
 export function rewriteListing(text) {
-  const isDisassembly = text.split("\n").some((it) => FUNCTION.test(it) || /^\s*(?:0x)?[\da-f]+(?:\s+<\+\d+>)?:\s+[\da-f]{2}\s/i.test(it) || (ADDRESS.test(it) && it.includes("#")));
+  const isDisassembly = text.split("\n").some((it) => FUNCTION.test(it) || LINE.test(it) || (it.includes("#") && ADDRESS.test(it)));
   const plain = isDisassembly ? formatLines(readLines(text)) : text;
   const rename = (_, name, classes) => [...classes.split("@").slice(1).reverse(), name].join("::");
   return { text: plain.includes("?") ? plain.replace(MANGLED, rename) : plain, isDisassembly };

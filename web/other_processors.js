@@ -2,9 +2,9 @@
 
 // What instructions of each processor begin with; a text has at least two of them, and no register of x86.
 const PROCESSORS = [
-  ["ARM", /^\s*(?:(?:ldr|str|ldp|stp|ldar|stlr|ldapr|ldaxr|stlxr|ldxr|stxr|ldrex|strex|swp|cas|ldadd)[a-z]*\s+\w+\s*,|(?:dmb|dsb|isb|adrp|movw|movt|cbn?z|bx)\s|b\.\w+\s)/i],
-  ["RISC-V", /^\s*(?:(?:l[wdbh]u?|s[wdbh]|lui|li|la|auipc|addi|beqz|bnez)\s+(?:[ast]\d+|zero|sp|ra)\s*,|fence\b|(?:lr|sc|amo\w+)\.[wd]|amo\w+\.)/i],
-  ["POWER", /^\s*(?:(?:stw|stwx|std|stb|lwz|lwzx|lbz|ld|li|addis)\s+r?\d+\s*,|(?:lwsync|isync|sync|blr)\b|lwarx\s|stwcx\.\s)/i],
+  ["ARM", /^\s*(?:(?:ldr|str|ldp|stp|ldar|stlr|ldapr|ld[ar]?xr|st[lr]?xr|swp|cas|ldadd)[a-z]*\s+\w+\s*,|(?:dmb|dsb|isb|adrp|movw|movt|cbn?z|bx)\s|b\.\w+\s)/i],
+  ["RISC-V", /^\s*(?:(?:l[wdbh]u?|s[wdbh]|lui|li|la|auipc|addi|beqz|bnez)\s+(?:[ast]\d+|zero|sp|ra)\s*,|fence\s+[rwio]+\s*,|(?:lr|sc|amo\w+)\.[wd]|amo\w+\.)/i],
+  ["POWER", /^\s*(?:(?:stw|stwx|std|stb|lwz|lwzx|lbz|ld|li|addis)\s+r?\d+\s*,|(?:lwsync|isync|blr)\b|lwarx\s|stwcx\.\s)/i],
 ];
 const OF_X86 = /%[er]?[a-ds][xip]l?\b|\b[er](?:[abcd]x|[sd]i|[sb]p|ip)\b/i;
 

@@ -4,13 +4,17 @@
 // bits above these are not known, as those that a write of 8 bits leaves. (A function that returns a `bool` leaves them so, too: by the calling convention its
 // caller looks at the lowest 8 bits only.) Its words are those of possible_words.js.
 
-import { ANY, getOnly, joinWords, makeWords } from "./possible_words.js";
+import { ANY, compareWords, findCondition, getOnly, joinWords, makeWords } from "./possible_words.js";
 
 const WORD = 2 ** 32;
 const UNKNOWN = { known: 0, ...ANY };
 const OF_WIDTHS = "a location of lw is one word, so all accesses of a variable are to have one size";
 const OF_LARGE = "the value may not fit into the bits that it reads or writes";
 const OF_PART = "it reads more bits of a register than are set before it: extend them, as by `movzx`";
+/** Why flags are refused. */
+export const OF_FLAGS = "a branch reads flags after it that lw does not have";
+/** The conditions that are the opposite of lw's. */
+export const OPPOSITE = { e: "ne", ne: "e" };
 const OF_SPARE = "no register is free: lw has six";
 
 /** Why an instruction is not rewritten: the rest of the sentence. */
@@ -110,7 +114,8 @@ export class RegisterState {
     const isLeft = width < 32 && !(known > width && max < 2 ** width);
     const isSame = (it) => list?.length === 1 && list[0] === it.word;
     // An exchange that found the word that it wrote has changed nothing.
-    this.changes = this.changes.filter((it) => it.register !== register || !isSame(it)).map((it) => (it.register === register ? { ...it, register: null } : it));
+    const others = this.changes.filter((it) => it.register !== register || !isSame(it));
+    this.changes = others.map((it) => (it.register === register ? { ...it, register: null } : it));
     if (this.flags?.register === register) this.flags = { ...this.flags, register: undefined };
     this.contents.set(register, { known: isLeft ? width : width < 32 ? known : 64, list: words.list, max: words.max });
   }
@@ -164,6 +169,64 @@ export class RegisterState {
     this.write(register, width, old);
     const word = getOnly(words);
     this.changes = [...this.changes, { step: this.step, register: word === undefined ? null : register, word }];
+  }
+
+  /** Sets a register, which may be that of a part, to what another one has, or a constant. */
+  set(to, width, text, words) {
+    const name = this.names.get(to.register);
+    if (text !== name) this.emit(`MOV ${name},${text}`);
+    this.write(to.register, width, words);
+  }
+
+  /** Sets the flags by a word that is in a register. */
+  setFlags(to, width) {
+    this.flags = null;
+    if (!this.areFlagsRead) return;
+    this.emit(`CMP ${this.names.get(to.register)},$0`);
+    this.flags = { ...compareWords(this.read(to.register, width), makeWords([0]), width), register: to.register, constant: 0 };
+  }
+
+  /** Records that the flag of lw says whether a result is 0. */
+  keepFlag(words, width, register = undefined) {
+    this.flags = { ...compareWords(words, makeWords([0]), width), isZero: true, register, constant: 0 };
+  }
+
+  /** Sets a register to 0. */
+  clear({ width, operands: [to] }) {
+    this.set(to, width, "$0", makeWords([0]));
+    this.setFlags(to, width);
+  }
+
+  /** Writes a fence in place of what is locked on the stack and changes nothing there. */
+  fence() {
+    if (this.areFlagsRead) throw new Refusal(OF_FLAGS);
+    this.emit("MFENCE");
+  }
+
+  /** Records that no branch may read the flags. */
+  forgetFlags() {
+    if (this.areFlagsRead) throw new Refusal(OF_FLAGS);
+    this.flags = null;
+  }
+
+  /** Returns which condition of lw is that of a branch. */
+  findCondition(condition) {
+    if (condition === "mp") return "always";
+    if (this.flags && /^n?e$/.test(condition)) return this.flags.isTurned ? OPPOSITE[condition] : condition;
+    const found = this.flags && findCondition(this.flags, condition);
+    if (!found) throw new Refusal(this.flags ? "lw's jumps are `JE` and `JNE`: compare with one word" : OF_FLAGS);
+    return found;
+  }
+
+  /** Sets a register of lw to one of two constants, by a condition. */
+  choose(name, condition, [yes, no]) {
+    this.emit(`MOV ${name},$${condition === "never" ? no : yes}`);
+    if (!OPPOSITE[condition]) return makeWords([condition === "never" ? no : yes]);
+    const label = this.makeLabel();
+    this.emit(`J${condition.toUpperCase()} ${label}`);
+    this.emit(`MOV ${name},$${no}`);
+    this.pending = [...this.pending, label];
+    return makeWords([yes, no]);
   }
 }
 

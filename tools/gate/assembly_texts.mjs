@@ -238,7 +238,7 @@ const COMPILED = [
     "These are instructions of an object file, which lacks the addresses of its variables: use `objdump -dr`, or that of the linked program.",
     null],
   ["branches on the order of words", "f:\n movl x(%rip), %eax\n cmpl $3, %eax\n jg .L1\n movl $1, y(%rip)\n.L1:\n ret\ng:\n movl $2, x(%rip)\n movl $7, x(%rip)\n movl $9, x(%rip)\n ret\n",
-    ", of which the page does not rewrite `jg END`: lw's jumps are `JE` and `JNE`: compare with one word.",
+    ", of which the page does not rewrite `jg`: lw's jumps are `JE` and `JNE`: compare with one word.",
     null],
   ["a question on more bits than are known", "P0:\n movb x(%rip), %bl\nexists (0:ebx=1)\n",
     ", of which the page does not rewrite `0:ebx`: not all of its bits are known at the end of the thread.",
