@@ -25,7 +25,7 @@ const VARIABLE = /^([A-Za-z_]\w*)\s+(?=d[bwdq]\s)/i;
 // The size of each word of a directive; other directives have a number of bytes.
 const BYTES = { long: 4, int: 4, "4byte": 4, quad: 8, "8byte": 8, value: 2, short: 2, "2byte": 2, byte: 1, db: 1, dw: 2, dd: 4, dq: 8 };
 // What is left out: directives, lines around segments and procedures, and instructions without effect.
-const DIRECTIVE = "\\.|(?:section|segment|global|extern|bits|default|align|public|extrn|include\\w*|comm|end|title|npad|assume)\\b";
+const DIRECTIVE = "\\.|(?:section|segment|global|extern|bits|default|align|public|extrn|include\\w*|comm|end|title|npad|assume|res[bwdq])\\b";
 const IGNORED = new RegExp(`^(?:${DIRECTIVE}|\\S+\\s+(?:segment|ends|endp)\\b|endbr(?:32|64)$|(?:data16\\s+|cs\\s+)*nop\\w*(?:\\s|$)|xchg\\s+%?ax,\\s*%?ax$)`, "i");
 // The line that begins a procedure of Microsoft's assembler.
 const PROCEDURE = /^(\S+)\s+proc\b/i;
@@ -33,7 +33,7 @@ const PROCEDURE = /^(\S+)\s+proc\b/i;
 const DECLARED = /^\.?(?:globl|global|type)\s+([^\s,]+)/;
 const RETURN = /^(?:(?:rep|bnd)\s+)?ret[lqnf]?\b/i;
 // An instruction after which a label begins a function.
-const LEAVES = /^(?:(?:rep|bnd)\s+)?(?:ret|jmp|ud2|hlt)/i;
+const LEAVES = /^(?:(?:rep|bnd)\s+)?(?:ret|jmp|ud2|hlt|int\s?3)/i;
 
 /** Returns the statements of a line, with `;` between them, without its comment. */
 function splitStatements(line) {
@@ -122,6 +122,7 @@ class AssemblyReader {
     const [, procedure] = PROCEDURE.exec(statement) ?? [];
     const label = procedure ?? parseLabelLine(statement) ?? LABEL_BEFORE.exec(statement)?.[1] ?? VARIABLE.exec(statement)?.[1];
     const rest = procedure ? "" : statement.slice(label ? statement.indexOf(label) + label.length : 0).replace(/^\s*:/, "").trim();
+    if (procedure) this.declared.add(procedure);
     if (label) this.readLabel(label, rest, at);
     const [, directive, other, list] = DATA.exec(rest) ?? [];
     if (directive ?? other) this.addWords(parseWords(directive ?? other, list));

@@ -15,7 +15,7 @@ const REST = /^(?:End of assembler dump\.?|Disassembly of section .*|.*:\s+file 
 const ADDRESS = /(?<![\w.])-?0x[\da-f]+\(%rip\)|\[rip ?[+-] ?0x[\da-f]+\]/i;
 const SYMBOL = /^\s*(?:0x)?([\da-f]+)(?:\s+<([^>+]+)(?:\+(?:(0x[\da-f]+)|(\d+)))?>)?\s*$/i;
 const JUMP = /^((?:(?:bnd|notrack)\s+)?(?:j\w+|callq?)\s+)(?:0x)?([\da-f]+)(?:\s+<([^>+]+(?:>[^>+]*)*)(\+\w+)?>)?\s*$/i;
-const MANGLED = /\?([A-Za-z_]\w*)((?:@[A-Za-z_]\w*)*)@@[\w@?$]*/g;
+const MANGLED = /"?\?([A-Za-z_]\w*)((?:@[A-Za-z_]\w*)*)@@[\w@?$]*"?/g;
 
 /** Returns an instruction in which a variable has its name, if a comment or a relocation says it. What is no variable is one of the `functions`. */
 function nameVariable(code, relocation, functions) {
