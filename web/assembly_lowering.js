@@ -28,7 +28,9 @@ function readSteps(lines, isAtt) {
   const steps = all.at(-1)?.code === "" ? all.slice(0, -1) : all;
   const isUnread = ({ code, operation: { name, label } }) => (!name && !OF_MEANING.test(code)) || (label && !indices.has(label));
   const unread = steps.find(isUnread);
-  if (unread) throw new Refusal(unread.operation.label ? OF_CALL : "", unread);
+  // What is before a call prepares it.
+  const call = unread && steps.find((it) => /^call/i.test(it.code) || (it.operation.label && isUnread(it)));
+  if (unread) throw new Refusal(call ? OF_CALL : "", call ?? unread);
   return { steps, indices };
 }
 
@@ -50,7 +52,7 @@ function nameRegisters(steps, asked) {
 function boundSums(steps, words) {
   const operations = steps.map((it) => it.operation);
   const numbers = [...words, ...operations.flatMap((it) => it.operands.flatMap((part) => part.number ?? 0))];
-  const isOpen = operations.some((it) => /^(?:sub|dec|or|xor|lea|movs)$/.test(it.name)) || numbers.some((it) => it < 0);
+  const isOpen = operations.some((it) => /^(?:sub|dec|adc|sbb|neg|not|or|xor|lea|movs)$/.test(it.name)) || numbers.some((it) => it < 0);
   return isOpen ? Infinity : Math.max(1, ...numbers) * 2 ** operations.filter((it) => /^(?:add|inc|xadd)$/.test(it.name)).length;
 }
 

@@ -24,6 +24,8 @@ const DATA = /^(?:\.(long|int|4byte|quad|8byte|value|short|2byte|byte|zero|space
 const VARIABLE = /^([A-Za-z_]\w*)\s+(?=d[bwdq]\s)/i;
 // The size of each word of a directive; other directives have a number of bytes.
 const BYTES = { long: 4, int: 4, "4byte": 4, quad: 8, "8byte": 8, value: 2, short: 2, "2byte": 2, byte: 1, db: 1, dw: 2, dd: 4, dq: 8 };
+// A text, whose bytes are not read.
+const TEXT = /^\.(?:ascii|asciz|string)\b/i;
 // What is left out: directives, lines around segments and procedures, and instructions without effect.
 const DIRECTIVE = "\\.|(?:section|segment|global|extern|bits|default|align|public|extrn|include\\w*|comm|end|title|npad|assume|res[bwdq])\\b";
 const IGNORED = new RegExp(`^(?:${DIRECTIVE}|\\S+\\s+(?:segment|ends|endp)\\b|endbr(?:32|64)$|(?:data16\\s+|cs\\s+)*nop\\w*(?:\\s|$)|xchg\\s+%?ax,\\s*%?ax$)`, "i");
@@ -126,6 +128,7 @@ class AssemblyReader {
     if (label) this.readLabel(label, rest, at);
     const [, directive, other, list] = DATA.exec(rest) ?? [];
     if (directive ?? other) this.addWords(parseWords(directive ?? other, list));
+    else if (TEXT.test(rest) && !this.block.lines.some(Boolean)) this.addWords([{ word: NaN, bytes: 8 }]);
     else if (rest && !IGNORED.test(rest)) this.block.lines.push(rest.replace(/\s+/g, " "));
   }
 
