@@ -43,9 +43,11 @@ function nameRegisters(steps, asked) {
   const free = REGISTERS.X86.filter((name) => !used.some((it) => own(it) === name));
   const others = used.filter((it) => !own(it));
   if (others.length > free.length) throw new Refusal(OF_REGISTERS, steps[0]);
-  const names = new Map(used.map((it) => [it, own(it) ?? free[others.indexOf(it)]]));
+  // EAX has the result of a function: another register is renamed to it last.
+  const renamed = [...free.filter((it) => it !== "EAX"), "EAX"].slice(0, others.length);
+  const names = new Map(used.map((it) => [it, own(it) ?? renamed[others.indexOf(it)]]));
   for (const { operation: { name, operands: [to] } } of steps) if (name === "pop" && to?.register) names.set(to.register, names.get(to.register) ?? "");
-  return { names, spare: free.slice(others.length) };
+  return { names, spare: free.filter((it) => !renamed.includes(it)) };
 }
 
 /** Returns a bound of all sums in runs of threads, given the words at the begin: no instruction is executed twice. */
