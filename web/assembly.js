@@ -17,6 +17,8 @@ import { isReserved, WORD } from "./token_reader.js";
 import { leaveAllLoops } from "./waiting.js";
 
 const MAX_THREADS = 4;
+// The letters of the longest name of lw.
+const MAX_NAME = 32;
 // More functions than these are not named one by one.
 const MAX_NAMED = 3;
 // More instructions of a thread than this are not rewritten.
@@ -130,7 +132,8 @@ function readThreads(text) {
 /** Returns the name of the location of a variable, or of the part of it that begins so many bytes after its begin. */
 function formatLocation(variable, offset) {
   const name = variable.replace(/\W/g, "_") + (Number(offset) ? `_${Number(offset)}` : "");
-  return isReserved(name) ? `${name}_` : name;
+  // The end of a long name says more than its begin.
+  return isReserved(name) ? `${name}_` : name.length > MAX_NAME ? `_${name.slice(1 - MAX_NAME)}` : name;
 }
 
 /** Returns an instruction in which variables have names of locations, and adds these to a map of names. */

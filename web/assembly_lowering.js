@@ -10,10 +10,13 @@ import { joinStates, Refusal, SharedWords } from "./register_state.js";
 import { areFlagsRead, findCarried, findFlow } from "./thread_flow.js";
 import { REGISTERS } from "./token_reader.js";
 
+const OF_LABEL = "two labels before it have one name";
 const OF_LOOP = "lw has no loops: write the passes out";
 const OF_PAIRS = "a loop that exchanges is read if its variable is only set to the constant that it writes, and to the one at which it ends";
 const OF_ENDLESS = "its loop never ends";
 const OF_REGISTERS = "the thread uses more registers than the six of lw";
+// The letters of the longest label of lw.
+const MAX_LABEL = 32;
 // Code that has no operation, and a sentence of its own.
 const OF_MEANING = /^(?:call\w*|ud2|hlt|int3?|(?:lock )?cmpxchg(?:8|16)b)\b/i;
 const LINE = /^((?:\w+:\s*)*)(.*)$/;
@@ -25,6 +28,8 @@ function readSteps(lines, isAtt) {
     return { labels: labels.match(/\w+/g) ?? [], code, operation: parseOperation(code, isAtt) ?? { operands: [] } };
   });
   const indices = new Map(all.flatMap(({ labels }, at) => labels.map((it) => [it, at])));
+  const twice = all.find(({ labels }, at) => labels.some((it) => indices.get(it) !== at));
+  if (twice) throw new Refusal(OF_LABEL, twice);
   const steps = all.at(-1)?.code === "" ? all.slice(0, -1) : all;
   const isUnread = ({ code, operation: { name, label } }) => (!name && !OF_MEANING.test(code)) || (label && !indices.has(label));
   const unread = steps.find(isUnread);
@@ -65,7 +70,8 @@ class ThreadWriter extends StepWriter {
     Object.assign(this, { flow, states: new Map([[flow.first, this.save()]]), pairs: new Set(), labels: new Map() });
     const taken = new Set(flow.steps.flatMap((it) => it.labels));
     const choose = (name) => (taken.has(name) ? choose(`${name}_`) : name);
-    Object.assign(this, { left: choose("END"), finished: choose("DONE"), prefix: choose("S") });
+    const choosePrefix = (name) => ([...taken].some((it) => it.startsWith(name)) ? choosePrefix(`_${name}`) : name);
+    Object.assign(this, { left: choose("END"), finished: choose("DONE"), prefix: choosePrefix("S") });
     this.isLooping = flow.loops.length > 0;
   }
 
@@ -76,7 +82,8 @@ class ThreadWriter extends StepWriter {
   /** Returns the label of a step, or of the end. */
   getLabel(at) {
     if (at === this.flow.steps.length) return this.isLooping ? this.finished : this.left;
-    return this.flow.names.get(at) ?? `${this.prefix}_${at}`;
+    const label = this.flow.names.get(at);
+    return label?.length <= MAX_LABEL ? label : `${this.prefix}_${at}`;
   }
 
   /** Returns the label to which a run jumps from a step to another one: after a jump back the thread is left. */
