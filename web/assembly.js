@@ -58,7 +58,8 @@ const WIDE = /\bqword\b|\b(?:mov|x?add|sub|xchg|cmp|inc|dec|x?or|and)q\b|\br(?:[
 // Functions that are no threads: they start these, or set variables before them, or are parts of libraries. That of a thread of C++ is `_M_run`.
 const NO_THREAD = new RegExp(
   "^(?!.*_M_run)\"?_?(?:(?:main|_start|_init|_fini|(?:de)?register_tm_clones|__do_global_dtors_aux|frame_dummy|_dl_relocate_static_pie|" +
-    "_GLOBAL__sub_I_.*|__cxx_global_var_init.*)(?:\\(.*\\))?|__clang_call_terminate|_ZN?K?S[at].*|_ZN\\d+__gnu_cxx.*|(?:std|__gnu_cxx)::.*|.*@plt.*|.*\\.cold(?:\\.\\d+)?)\"?$",
+    "_GLOBAL__sub_I_.*|__cxx_global_var_init.*)(?:\\(.*\\))?|__clang_call_terminate|" +
+    "_ZN?K?S[at].*|_ZN\\d+__gnu_cxx.*|(?:std|__gnu_cxx)::.*|.*@plt.*|.*\\.cold(?:\\.\\d+)?)\"?$",
 );
 // A call of a function whose address is in memory, as in the code of a thread of C++ that calls one.
 const INDIRECT = /^(?:jmp|call)q?\s+(?:\*|\[|qword\b)/i;

@@ -14,9 +14,11 @@ const OTHERS = /^(?:AArch64|ARM|PPC|RISCV|MIPS)$/i;
 // The blanks and comments before a program in C, and how it begins.
 const C_COMMENTS = /^(?:\s|\/\/.*|\/\*[^]*?\*\/)*/;
 const C = new RegExp(
-  "^(?:C\\s|(?:\\{[^{}]*\\}\\s*)?P0\\s*\\([^(){};|]*\\*[^(){};|]*\\)\\s*\\{|#[ \\t]*(?:include|define|pragma|if|ifdef|ifndef)\\b|using\\s|(?:inline\\s+)?namespace\\b|extern\\s+\"C|alignas\\b|template\\b|typedef\\s|\\[\\[|" +
+  "^(?:C\\s|(?:\\{[^{}]*\\}\\s*)?P0\\s*\\([^(){};|]*\\*[^(){};|]*\\)\\s*\\{|#[ \\t]*(?:include|define|pragma|if|ifdef|ifndef)\\b|" +
+    "using\\s|(?:inline\\s+)?namespace\\b|extern\\s+\"C|alignas\\b|template\\b|typedef\\s|\\[\\[|" +
     "(?:(?:extern|static|inline|volatile|const|constexpr|thread_local|_Atomic)\\s+)*" +
-    "(?:class\\s+\\w+[\\w\\s]{0,40}\\{|enum\\s*(?:\\w+\\s*)?\\{|(?:atomic_\\w+|int|void|(?:un)?signed|long|short|char|s?size_t|bool|auto|struct|u?int(?:\\d+|ptr)_t|pthread_\\w+_t|mtx_t)\\s|" +
+    "(?:class\\s+\\w+[\\w\\s]{0,40}\\{|enum\\s*(?:\\w+\\s*)?\\{|" +
+    "(?:atomic_\\w+|int|void|(?:un)?signed|long|short|char|s?size_t|bool|auto|struct|u?int(?:\\d+|ptr)_t|pthread_\\w+_t|mtx_t)\\s|" +
     "atomic<|std::|_Atomic\\())",
 );
 const OF_C = "`tools/from_c.py` compiles programs in C, C++ and Rust, and herd's tests in C";
