@@ -30,7 +30,7 @@ const WHAT =
   "store buffer, while loads after it go ahead; so there are final states that no interleaving explains. It is for students of concurrency and " +
   "for programmers of lock-free code.";
 const OWN =
-  "To try code of your own, put it in place of the text: a test, x86 instructions, or a small program in C or C++, of which a button makes a test.";
+  "To try code of your own, put it in place of the text: a test, x86 instructions, or a small program in C, C++ or Rust, of which a button makes a test.";
 const PROVED = "Reports, schedules, compiled texts and each step of a run come from a program that is proved correct";
 const NOT_CLAIMED = "The machine is x86-TSO as it was published. That processors on sale behave like it is not proved.";
 // The words on the page's origin if it has a server.

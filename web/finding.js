@@ -46,7 +46,7 @@ const NOTES = [
   [["herd", "herd7", "litmus7", "x86_64", "aarch64", "arm", "ppc", "riscv"],
     "The page reads `SRC` and `X86` tests. `tools/from_herd.py` converts tests of herd for X86 and X86_64, and none of other processors."],
   [["c11", "rust", "stdatomic"],
-    "Paste a small program in C or C++ in place of the text: a button makes a test of it. `tools/from_c.py` converts programs in C, C++ and Rust."],
+    "Paste a small program in C, C++ or Rust in place of the text: a button makes a test of it. `tools/from_c.py` asks a compiler."],
   [["at&t", "att", "movl", "intel"], "An instruction has its destination first, as in `MOV EAX,[x]`. The page turns a text in AT&T's order by a button."],
   [["sfence", "lfence"], "The only fence is `MFENCE`; a locked instruction does the same."],
 ];

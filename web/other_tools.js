@@ -4,6 +4,7 @@
 import { rewriteProgram } from "./c_program.js";
 import { findBareEntries } from "./initial_values.js";
 import { isAllIn } from "./other_language.js";
+import { rewriteRust } from "./rust_program.js";
 import { readTest } from "./tests.js";
 import { blankComments } from "./tokens.js";
 
@@ -40,11 +41,11 @@ const OF_REPEATED = " The loop in `main` is one run here, which is enough, since
 const OPEN = " The question only leaves out states in which a thread still waits: look at the list of states.";
 const NOT_ASKED = " The question `true` holds always: look at the list of states.";
 // How programs in Rust, Java and Go begin, what only C++ has, and how a thread in C begins.
-const RUST = /^\s*(?:use\b|fn\b|pub\b|static\s+\w+\s*:|#!?\[)/;
+const RUST = /^\s*(?:use\b|(?:unsafe\s+)?fn\b|pub\b|(?:static|const)\s+(?:mut\s+)?\w+\s*:|extern\s+crate\b|mod\s+\w+\s*\{|#!?\[)/;
 const JAVA = /^(?:import\s+(?:static\s+)?java|package\s+[\w.]+;|(?:(?:public|final|abstract)\s+)*class\s+\w+[^;{]{0,80}\{)/;
 const GO = /^(?:package\s+\w+[ \t]*\r?(?:\n|$)|func\s+\w*\()/;
 const CPP = /\bstd::|<atomic>|\batomic<|\busing\s|\bnamespace\b/;
-const IS_READ = "The page reads C, C++ and x86 assembly.";
+const IS_READ = "The page reads C, C++, Rust and x86 assembly.";
 const THREAD_IN_C = /^(?:X86|SRC)\s(?:[^{]*\{[^}]*\})?\s*P0\s*[({]/;
 /** The sentence on the types of initial values. */
 export const NO_TYPES = "The initial values have no types.";
@@ -63,7 +64,7 @@ const TYPED = new RegExp(`(?:[{;]|^)\\s*${TYPES}(?:\\d\\s*:\\s*)?\\w`);
  */
 function explainProgram(words, text, place) {
   const name = /^\s*(?:C|X86|SRC)\s+([\w+.-]+)/.exec(text)?.[1] ?? "mine";
-  const file = `${name}.${RUST.test(text) ? "rs" : CPP.test(text) ? "cc" : "c"}`;
+  const file = `${name}.${RUST.test(text.replace(C_COMMENTS, "")) ? "rs" : CPP.test(text) ? "cc" : "c"}`;
   const command = `python3 tools/from_c.py --show ${file}`;
   const once = /_ONCE\b/.test(text) ? " (In place of `READ_ONCE(*x)` it takes `atomic_load_explicit(x, memory_order_relaxed)`.)" : "";
   const [, first] = /^\s*(C|X86|SRC)\s/.exec(text) ?? [];
@@ -72,12 +73,14 @@ function explainProgram(words, text, place) {
   const form = first === "C" ? "" : first ? OF_FIRST_WORD : whole;
   const how = `${OF_C}: save this as \`${file}\`, then \`${command}\` prints a test for this page.${form}${once}`;
   const hint = { more: how, document: "from-c.html", command };
-  if (RUST.test(text)) return { words: `${words} ${IS_READ}`, ...hint };
-  const test = rewriteProgram(text);
+  const isRust = RUST.test(text.replace(C_COMMENTS, ""));
+  const test = isRust ? rewriteRust(text) : rewriteProgram(text);
+  if (!test) return { words: `${words} ${IS_READ}`, ...hint };
   if (!test.made) return { words: explainRefusedProgram(text, test.why, test.index), ...hint, at: findPart(place.text, text, test.index) };
   place.proposeChange(test.made, 0, place.text.length);
   Object.assign(place.change, { title: "Rewrite it as an x86 test", done: "Rewritten." });
-  return { words: `${words} ${OF_BUTTON}${explainMade(test)}`, ...hint };
+  const compiled = isRust ? OF_BUTTON.replace("gcc and clang compile", "rustc compiles") : OF_BUTTON;
+  return { words: `${words} ${compiled}${explainMade(test)}`, ...hint };
 }
 
 /**
@@ -101,7 +104,7 @@ function explainRaces(names) {
 
 /** Returns a sentence that says why a program is not rewritten: for its part at an index, or, without an index, for what lw refuses in its test. */
 function explainRefusedProgram(text, why, index) {
-  const program = `this program in ${CPP.test(text) ? "C++" : "C"}`;
+  const program = `this program in ${RUST.test(text.replace(C_COMMENTS, "")) ? "Rust" : CPP.test(text) ? "C++" : "C"}`;
   return `The page would rewrite ${program} as an x86 test, ${index === undefined ? "which lw refuses:" : "but not"} ${why}.`;
 }
 
@@ -137,7 +140,7 @@ export function findOtherLanguage(place) {
   const [other] = [["Java", JAVA], ["Go", GO]].find(([, pattern]) => pattern.test(code) && !CPP.test(code)) ?? [];
   if (other) return { words: `This begins as a program in ${other} does. ${IS_READ}`, document: "from-c.html" };
   if (C.test(code)) return explainProgram("This begins as a program or a test in C does.", rest, place);
-  if (RUST.test(rest)) return explainProgram("This begins as a program in Rust does.", rest, place);
+  if (RUST.test(code)) return explainProgram("This begins as a program in Rust does.", rest, place);
   if (OTHERS.test(token)) return { words: `\`${token}\` is the language of another processor in herd's tests. ${OF_OTHERS}`, document: "from-herd.html" };
   if (/^X86_64$/i.test(token) && !isRead(rest.replace(/^\w+/, "X86"))) {
     return { words: `\`X86_64\` is a language of herd's tests. ${OF_HERD}`, document: "from-herd.html" };

@@ -2526,7 +2526,7 @@ const GUESS = " The question is a guess: change it to yours.";
 const FIRST = "The threads are functions in C: the first word is `C` then.";
 const WOULD = "The page would rewrite this program in C as an x86 test,";
 const WOULD_IN_CPP = WOULD.replace("in C", "in C++");
-const IS_READ = "The page reads C, C++ and x86 assembly.";
+const IS_READ = "The page reads C, C++, Rust and x86 assembly.";
 const IN_RUST = `This begins as a program in Rust does. ${IS_READ}`;
 // Programs in other languages, with the names of these; and how programs in C++ may begin.
 const OTHERS = [

@@ -19,6 +19,7 @@ import { MessageChannel, Worker, receiveMessageOnPort } from "node:worker_thread
 import { compareAssemblyTexts } from "./assembly_texts.mjs";
 import { compareCPrograms } from "./c_programs.mjs";
 import { comparePseudoTexts } from "./pseudo_texts.mjs";
+import { compareRustPrograms } from "./rust_programs.mjs";
 
 const HOME = path.dirname(path.dirname(path.dirname(fileURLToPath(import.meta.url))));
 const PROGRAM = `${HOME}/crates/lw/out/lw`;
@@ -1174,6 +1175,7 @@ async function main() {
   await compareCPrograms((...compared) => tally.compare(...compared));
   await compareAssemblyTexts((...compared) => tally.compare(...compared));
   await comparePseudoTexts((...compared) => tally.compare(...compared));
+  await compareRustPrograms((...compared) => tally.compare(...compared));
   await compareFurtherFaults(page, program, tally, texts);
   if (!chosen.length) compareFinding(page, tally, familiesOfPage());
   if (!chosen.length) compareTyped(page, program, tally);

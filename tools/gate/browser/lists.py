@@ -135,7 +135,7 @@ class FirstView(PageCase):
         user.open_listed()
         user.click("#open-about")
         self.assertIn("a program that is proved correct, ", user.text("#about-dialog"))
-        self.assertIn("or a small program in C or C++, of which a button makes a test.", user.text("#about-dialog"))
+        self.assertIn("or a small program in C, C++ or Rust, of which a button makes a test.", user.text("#about-dialog"))
         self.assertIn("The program, its sources and its proof are in the repository that ", user.text("#about-dialog .origin"))
         terms = user.texts("#about-dialog dt")
         self.assertTrue("store buffer" in terms and "global happens-before" in terms)

@@ -1,0 +1,112 @@
+// Compares what the page makes of programs in Rust with what is typed in here: its words, and the test that its button puts into the text.
+//
+//     node tools/gate/rust_programs.mjs      compares; the last line is 'N passed, M failed'
+//
+// tools/gate/check_site.mjs compares this too. It needs neither a browser nor the module.
+
+import { fileURLToPath } from "node:url";
+import { isDeepStrictEqual } from "node:util";
+import { loadModules } from "./c_programs.mjs";
+
+const PARTS = ["faults", "other_tools"];
+const BEGIN =
+  "This begins as a program in Rust does. The button makes an x86 test of it: each access as rustc compiles it, in the order of the program. That is not " +
+  "proved, and a compiler may also reorder or merge relaxed and plain accesses.";
+const REFUSED = "The page would rewrite this program in Rust as an x86 test, but not ";
+
+// A program, the words on it, and the test that is made of it, or null.
+const PROGRAMS = [
+  ["statics, and results of threads", "use std::sync::atomic::{AtomicUsize, Ordering};\nuse std::thread;\n\nstatic X: AtomicUsize = AtomicUsize::new(0);\nstatic Y: AtomicUsize = AtomicUsize::new(0);\n\nfn main() {\n    let t1 = thread::spawn(|| {\n        X.store(1, Ordering::Relaxed);\n        Y.load(Ordering::Relaxed)\n    });\n    let t2 = thread::spawn(|| {\n        Y.store(1, Ordering::Relaxed);\n        let r2 = X.load(Ordering::Relaxed);\n        r2\n    });\n    let r1 = t1.join().unwrap();\n    let r2 = t2.join().unwrap();\n    assert!(r1 == 1 || r2 == 1, \"both are 0\");\n}\n",
+    `${BEGIN} Words of 64 bits are words of 32 bits here, which no sum of this program exceeds.`,
+    "X86 Mine\n(* 0:EAX is r1, 1:EAX is r2 *)\n{ X=0; Y=0; }\n P0          | P1          ;\n MOV [X],$1  | MOV [Y],$1  ;\n MOV EAX,[Y] | MOV EAX,[X] ;\nforall (0:EAX=1 \\/ 1:EAX=1)\n"],
+  ["atomics that threads share, with other names, a wait and an assertion", "use std::sync::{Arc, atomic::{AtomicBool, AtomicU32, Ordering::*}};\nuse std::thread;\nfn main() {\n    let data = Arc::new(AtomicU32::new(0));\n    let ready = Arc::new(AtomicBool::new(false));\n    let (d, r) = (data.clone(), Arc::clone(&ready));\n    let producer = thread::spawn(move || {\n        d.store(42, Relaxed);\n        r.store(true, Release);\n    });\n    let consumer = {\n        let data = data.clone();\n        let ready = ready.clone();\n        thread::spawn(move || {\n            while !ready.load(Acquire) { std::hint::spin_loop(); }\n            assert_eq!(data.load(Relaxed), 42);\n        })\n    };\n    producer.join().unwrap();\n    consumer.join().unwrap();\n}\n",
+    `${BEGIN} A loop that waits is one pass here: states in which it has not ended are in the list, too, and the question leaves them out.`,
+    "X86 Mine\n(* 1:EAX is ready after its loop, 1:EBX is data as asserted *)\n{ data=0; ready=0; }\n P0             | P1              ;\n MOV [data],$42 | MOV EAX,[ready] ;\n MOV [ready],$1 | MOV EBX,[data]  ;\nforall (~1:EAX=1 \\/ 1:EBX=42)\n"],
+  ["a lock by a compare-exchange, and handles in a list", "use std::sync::atomic::{AtomicBool, Ordering};\nstatic LOCKED: AtomicBool = AtomicBool::new(false);\nstatic mut COUNTER: u32 = 0;\nfn lock() { while LOCKED.compare_exchange_weak(false, true, Ordering::Acquire, Ordering::Relaxed).is_err() { std::hint::spin_loop(); } }\nfn unlock() { LOCKED.store(false, Ordering::Release); }\nfn work() { lock(); unsafe { COUNTER += 1; } unlock(); }\nfn main() {\n    let mut handles = vec![];\n    handles.push(std::thread::spawn(work));\n    handles.push(std::thread::spawn(|| work()));\n    for h in handles { h.join().unwrap(); }\n    unsafe { assert_eq!(COUNTER, 2); }\n}\n",
+    `${BEGIN} \`COUNTER\` is plain: each access is one \`MOV\` here, which a compiler need not keep if threads race on it. A loop that waits is one pass here: states in which it has not ended are in the list, too, and the question leaves them out.`,
+    "X86 Mine\n(* 0:EAX is LOCKED at its lock, 1:EAX is LOCKED at its lock *)\n{ LOCKED=0; COUNTER=0; }\n P0                | P1                ;\n MOV EAX,$1        | MOV EAX,$1        ;\n XCHG [LOCKED],EAX | XCHG [LOCKED],EAX ;\n MOV EBX,[COUNTER] | MOV EBX,[COUNTER] ;\n ADD EBX,$1        | ADD EBX,$1        ;\n MOV [COUNTER],EBX | MOV [COUNTER],EBX ;\n MOV [LOCKED],$0   | MOV [LOCKED],$0   ;\nlocations [LOCKED]\nforall (~0:EAX=0 \\/ ~1:EAX=0 \\/ COUNTER=2)\n"],
+  ["a scope that sets numbers", "use std::sync::atomic::*;\nfn main() {\n    let x = AtomicI32::new(0);\n    let y = AtomicI32::new(0);\n    let mut r1 = 0; let mut r2 = 0;\n    std::thread::scope(|s| {\n        s.spawn(|| { x.store(1, Ordering::SeqCst); fence(Ordering::SeqCst); r1 = y.load(Ordering::SeqCst); });\n        s.spawn(|| { y.store(1, Ordering::SeqCst); r2 = x.load(Ordering::SeqCst); });\n    });\n    assert!(!(r1 == 0 && r2 == 0));\n}\n",
+    BEGIN,
+    "X86 Mine\n(* 0:EAX is r1, 1:EAX is r2 *)\n{ x=0; y=0; }\n P0           | P1           ;\n MOV EBX,$1   | MOV EBX,$1   ;\n XCHG [x],EBX | XCHG [y],EBX ;\n MFENCE       | MOV EAX,[x]  ;\n MOV EAX,[y]  |              ;\n~exists (0:EAX=0 /\\ 1:EAX=0)\n"],
+  ["functions without main", "use std::sync::atomic::{AtomicBool, Ordering, fence};\nstatic A: AtomicBool = AtomicBool::new(false);\nstatic B: AtomicBool = AtomicBool::new(false);\nstatic mut S: i32 = 0;\nfn first() {\n    A.store(true, Ordering::Release);\n    fence(Ordering::SeqCst);\n    if !B.load(Ordering::Acquire) { unsafe { S += 1 } }\n}\nfn second() {\n    B.store(true, Ordering::Release);\n    fence(Ordering::SeqCst);\n    if !A.load(Ordering::Acquire) { unsafe { S += 1; } }\n}\n",
+    `${BEGIN} \`S\` is plain: each access is one \`MOV\` here, which a compiler need not keep if threads race on it. The question is a guess: change it to yours.`,
+    "X86 Mine\n(* 0:EAX is B in its condition, 1:EAX is A in its condition *)\n{ A=0; B=0; S=0; }\n P0          | P1          ;\n MOV [A],$1  | MOV [B],$1  ;\n MFENCE      | MFENCE      ;\n MOV EAX,[B] | MOV EAX,[A] ;\n CMP EAX,$0  | CMP EAX,$0  ;\n JNE END     | JNE END     ;\n MOV EBX,[S] | MOV EBX,[S] ;\n ADD EBX,$1  | ADD EBX,$1  ;\n MOV [S],EBX | MOV [S],EBX ;\n END:        | END:        ;\nlocations [S]\nexists (0:EAX=0 /\\ 1:EAX=0)\n"],
+  ["a scope with results, and a comparison of pairs", "use std::{thread, sync::atomic::{AtomicU32, Ordering}};\nstatic X: AtomicU32 = AtomicU32::new(0);\nstatic Y: AtomicU32 = AtomicU32::new(0);\n#[test]\nfn store_buffering() {\n    let (r1, r2) = thread::scope(|s| {\n        let a = s.spawn(|| { X.store(1, Ordering::Release); Y.load(Ordering::Acquire) });\n        let b = s.spawn(|| { Y.store(1, Ordering::Release); X.load(Ordering::Acquire) });\n        (a.join().unwrap(), b.join().unwrap())\n    });\n    assert_ne!((r1, r2), (0, 0));\n}\n",
+    BEGIN,
+    "X86 Mine\n(* 0:EAX is r1, 1:EAX is r2 *)\n{ X=0; Y=0; }\n P0          | P1          ;\n MOV [X],$1  | MOV [Y],$1  ;\n MOV EAX,[Y] | MOV EAX,[X] ;\n~exists (0:EAX=0 /\\ 1:EAX=0)\n"],
+  ["arrays and numbers of threads", "use std::sync::atomic::{AtomicBool, AtomicUsize, Ordering};\nuse std::hint::spin_loop;\nstatic FLAG: [AtomicBool; 2] = [AtomicBool::new(false), AtomicBool::new(false)];\nstatic TURN: AtomicUsize = AtomicUsize::new(0);\nstatic mut COUNT: u32 = 0;\nfn lock(me: usize) {\n    let other = 1 - me;\n    FLAG[me].store(true, Ordering::SeqCst);\n    TURN.store(other, Ordering::SeqCst);\n    while FLAG[other].load(Ordering::SeqCst) && TURN.load(Ordering::SeqCst) == other {\n        spin_loop();\n    }\n}\nfn unlock(me: usize) { FLAG[me].store(false, Ordering::Release); }\nfn main() {\n    let a = std::thread::spawn(|| { lock(0); unsafe { COUNT += 1; } unlock(0); });\n    let b = std::thread::spawn(|| { lock(1); unsafe { COUNT += 1; } unlock(1); });\n    a.join().unwrap();\n    b.join().unwrap();\n    assert_eq!(unsafe { COUNT }, 2);\n}\n",
+    `${BEGIN} \`COUNT\` is plain: each access is one \`MOV\` here, which a compiler need not keep if threads race on it. A loop that waits is one pass here: states in which it has not ended are in the list, too, and the question leaves them out. Words of 64 bits are words of 32 bits here, which no sum of this program exceeds.`,
+    "X86 Mine\n(* 0:EAX is FLAG_1 after its loop, 0:EBX is TURN after its loop, 1:EAX is FLAG_0 after its loop, 1:EBX is TURN after its loop *)\n{ FLAG_0=0; FLAG_1=0; TURN=0; COUNT=0; }\n P0                  | P1                  ;\n MOV ECX,$1          | MOV ECX,$1          ;\n XCHG [FLAG_0],ECX   | XCHG [FLAG_1],ECX   ;\n MOV ECX,$1          | MOV ECX,$0          ;\n XCHG [TURN],ECX     | XCHG [TURN],ECX     ;\n MOV EAX,[FLAG_1]    | MOV EAX,[FLAG_0]    ;\n CMP EAX,$0          | CMP EAX,$0          ;\n JE L2               | JE L2               ;\n MOV EBX,[TURN]      | MOV EBX,[TURN]      ;\n L2: MOV ECX,[COUNT] | L2: MOV ECX,[COUNT] ;\n ADD ECX,$1          | ADD ECX,$1          ;\n MOV [COUNT],ECX     | MOV [COUNT],ECX     ;\n MOV [FLAG_0],$0     | MOV [FLAG_1],$0     ;\nlocations [TURN]\nforall (~0:EAX=0 /\\ 0:EBX=1 \\/ ~1:EAX=0 /\\ 1:EBX=0 \\/ COUNT=2)\n"],
+  ["a loop that counts, and output", "use std::sync::atomic::{AtomicUsize, Ordering};\nstatic N: AtomicUsize = AtomicUsize::new(0);\nfn add() { for _ in 0..2 { let v = N.load(Ordering::Relaxed); N.store(v + 1, Ordering::Relaxed); } }\nfn main() {\n    let a = std::thread::spawn(add);\n    let b = std::thread::spawn(add);\n    a.join().unwrap(); b.join().unwrap();\n    println!(\"{}\", N.load(Ordering::Relaxed));\n}\n",
+    `${BEGIN} Words of 64 bits are words of 32 bits here, which no sum of this program exceeds. The question \`true\` holds always: look at the list of states.`,
+    "X86 Mine\n(* 0:EAX is v, 1:EAX is v *)\n{ N=0; }\n P0          | P1          ;\n MOV EAX,[N] | MOV EAX,[N] ;\n MOV EBX,EAX | MOV EBX,EAX ;\n ADD EBX,$1  | ADD EBX,$1  ;\n MOV [N],EBX | MOV [N],EBX ;\n MOV EAX,[N] | MOV EAX,[N] ;\n MOV EBX,EAX | MOV EBX,EAX ;\n ADD EBX,$1  | ADD EBX,$1  ;\n MOV [N],EBX | MOV [N],EBX ;\nlocations [0:EAX; 1:EAX; N]\nexists (true)\n"],
+  ["a value of an `if`", "use std::sync::atomic::{AtomicU32, Ordering::*};\nstatic X: AtomicU32 = AtomicU32::new(0);\nfn a() { let v = if X.load(Relaxed) == 1 { 2 } else { 3 }; X.store(v, Relaxed); }\nfn b() { X.store(1, Relaxed); }\n",
+    `${REFUSED}\`if X.load(Relaxed) == 1\`: a \`match\`, an \`if let\` and the value of an \`if\` are not rewritten.`,
+    null],
+  ["a `match`", "use std::sync::atomic::{AtomicU32, Ordering::*};\nstatic X: AtomicU32 = AtomicU32::new(0);\nfn a() { match X.load(Relaxed) { 0 => X.store(1, Relaxed), _ => {} } }\nfn b() { if let Ok(v) = X.compare_exchange(0, 1, AcqRel, Acquire) { X.store(v, Relaxed); } }\n",
+    `${REFUSED}\`match X.load(Relaxed)\`: a \`match\`, an \`if let\` and the value of an \`if\` are not rewritten.`,
+    null],
+  ["operators on bits", "use std::sync::atomic::{AtomicU32, Ordering::*};\nstatic X: AtomicU32 = AtomicU32::new(0);\nfn a() { let v = X.load(Relaxed); while X.load(Acquire) & 1 == 1 {} }\nfn b() { X.store(1, Relaxed); }\n",
+    `${REFUSED}\`& 1\`: operators on bits are not rewritten.`,
+    null],
+  ["a negation of an integer", "use std::sync::atomic::{AtomicU32, Ordering::*};\nstatic X: AtomicU32 = AtomicU32::new(0);\nfn a() { let r = X.load(Relaxed); let v = !r; X.store(v, Relaxed); }\nfn b() { X.store(1, Relaxed); }\n",
+    `${REFUSED}\`!r\`: a \`!\` of what may be no \`bool\`.`,
+    null],
+  ["an assertion while threads run", "use loom::sync::atomic::{AtomicUsize, Ordering::{Acquire, Release, Relaxed}};\nuse loom::sync::Arc;\nuse loom::thread;\n#[test]\nfn test() {\n    loom::model(|| {\n        let v1 = Arc::new(AtomicUsize::new(0));\n        let v2 = v1.clone();\n        let t = thread::spawn(move || {\n            v1.store(1, Relaxed);\n            v1.fetch_add(1, Relaxed)\n        });\n        assert_eq!(0, v2.load(Relaxed));\n    });\n}\n",
+    `${REFUSED}\`assert_eq!(0, v2.load(Relaxed))\`: \`main\` only makes variables, starts threads, joins them, and asserts.`,
+    null],
+  ["code without `use`, and a value of a block", "static X: AtomicUsize = AtomicUsize::new(0);\nstatic mut D: [u32; 2] = [1, 2];\nfn main() {\n    let a = thread::spawn(move || unsafe { D[0] = 3; X.store(1, SeqCst) });\n    let b = thread::spawn(|| { loop { if X.load(SeqCst) == 1 { break; } hint::spin_loop(); } unsafe { D[0] } });\n    a.join().unwrap();\n    let d = b.join().expect(\"b\");\n    assert_eq!(d, 3);\n}\n",
+    `${BEGIN} \`D_0\` is plain: each access is one \`MOV\` here, which a compiler need not keep if threads race on it. A loop that waits is one pass here: states in which it has not ended are in the list, too, and the question leaves them out. Words of 64 bits are words of 32 bits here, which no sum of this program exceeds.`,
+    "X86 Mine\n(* 1:EAX is X after its loop, 1:EBX is d *)\n{ X=0; D_0=1; }\n P0           | P1            ;\n MOV [D_0],$3 | MOV EAX,[X]   ;\n MOV EAX,$1   | MOV EBX,[D_0] ;\n XCHG [X],EAX |               ;\nforall (~1:EAX=1 \\/ 1:EBX=3)\n"],
+  ["a number that a closure copies", "use std::thread;\nfn main() {\n    let mut n = 0;\n    thread::scope(|s| { s.spawn(move || { n = 1; }); s.spawn(|| {}); });\n}\n",
+    `${REFUSED}\`n\`: a closure that begins with \`move\` has numbers of its own, so leave out \`move\`.`,
+    null],
+  ["a mutex", "use std::sync::Mutex;\nstatic M: Mutex<u32> = Mutex::new(0);\nfn f() { *M.lock().unwrap() += 1; }\n",
+    `${REFUSED}\`static M: Mutex<u32>\`: outside of functions are only \`use\`, constants and static variables of integers and atomics.`,
+    null],
+  ["a negation, exchanges and their results", "use std::sync::atomic::*;\nstatic X: AtomicBool = AtomicBool::new(false);\nfn f() { let r = !X.load(Ordering::Relaxed); }\nfn g() { let old = X.swap(true, Ordering::AcqRel); compiler_fence(Ordering::SeqCst); let c = X.compare_exchange(true, false, Ordering::AcqRel, Ordering::Acquire).is_ok(); }\n",
+    `${BEGIN} A compare-exchange is an \`XCHG\` here, which does the same, since its variable has no third word. The question \`true\` holds always: look at the list of states.`,
+    "X86 Mine\n(* 0:EAX is r, 1:EAX is old, 1:EBX is X_before, 1:ECX is c *)\n{ X=0; }\n P0             | P1             ;\n MOV EBX,[X]    | MOV EAX,$1     ;\n CMP EBX,$0     | XCHG [X],EAX   ;\n JNE L1         | MOV EBX,$0     ;\n MOV EAX,$1     | XCHG [X],EBX   ;\n JMP L2         | CMP EBX,$1     ;\n L1: MOV EAX,$0 | JNE L1         ;\n L2:            | MOV ECX,$1     ;\n                | JMP L2         ;\n                | L1: MOV ECX,$0 ;\n                | L2:            ;\nlocations [0:EAX; 1:EAX; 1:EBX; 1:ECX]\nexists (true)\n"],
+];
+const LONG = 60000;
+const LONG_TEXTS = [
+  ["blanks", `fn f() {${" ".repeat(LONG)}}\n`], ["letters", `fn f() { ${"x".repeat(LONG)} }\n`], ["braces", `fn f() ${"{ ".repeat(LONG / 2)}\n`],
+  ["statements", `fn f() { ${"X.store(1, Relaxed); ".repeat(LONG / 21)} }\n`], ["attributes", `fn f() {}\n${"#[a]".repeat(LONG / 4)}\n`],
+];
+const SLOWEST = 1500;
+
+/** Returns the fault that lw reports of a text that does not begin as a test. */
+function makeFault(text) {
+  return { kind: "text", number: 4, name: "Unexpected", row: 1, column: 1, index: text.search(/\S/) };
+}
+
+/**
+ * Compares what the page makes of programs in Rust, by its own modules.
+ * @param {function(string, any, any)} compare
+ */
+export async function compareRustPrograms(compare) {
+  const { faults, other_tools } = await loadModules(PARTS);
+  for (const [name, text, words, made] of PROGRAMS) {
+    const { words: found, change } = faults.explainFault(makeFault(text), text);
+    compare(`the words on ${name}`, words, found);
+    compare(`the test of ${name}`, [made, made !== null], [change?.text ?? null, change !== null && other_tools.isRead(change.text)]);
+  }
+  for (const [name, text] of LONG_TEXTS) {
+    const begin = performance.now();
+    faults.explainFault(makeFault(text), text);
+    const took = performance.now() - begin;
+    compare(`the time for a long text of ${name}`, true, took < SLOWEST || took);
+  }
+}
+
+if (process.argv[1] === fileURLToPath(import.meta.url)) {
+  const counts = [0, 0];
+  const compare = (what, expected, found) => {
+    const isSame = isDeepStrictEqual(expected, found);
+    counts[Number(!isSame)] += 1;
+    if (!isSame) console.log(`${what}\n  wanted: ${JSON.stringify(expected)}\n  found:  ${JSON.stringify(found)}`);
+  };
+  await compareRustPrograms(compare);
+  console.log(`${counts[0]} passed, ${counts[1]} failed`);
+  process.exitCode = counts[1] ? 1 : 0;
+}

@@ -1,0 +1,196 @@
+// Writes the statements of a program in Rust as those of C++. Not proved.
+
+import { findClosing } from "./c_code.js";
+
+/** Thrown if a program is not rewritten: the message begins with the part that is not. */
+export class Unread extends Error {
+  constructor(part, why) {
+    super(`\`${part.trim().replace(/\s+/g, " ").replace(/^(.{40}).+$/, "$1..")}\`${why}`);
+  }
+}
+
+/** The types of C++ for those of Rust. */
+export const TYPES = new Map([
+  ["bool", "bool"], ["i8", "int8_t"], ["u8", "uint8_t"], ["i16", "int16_t"], ["u16", "uint16_t"], ["i32", "int"], ["u32", "unsigned"], ["i64", "int64_t"],
+  ["u64", "uint64_t"], ["isize", "long"], ["usize", "size_t"],
+].flatMap(([rust, cpp]) => [[rust, cpp], [`Atomic${rust[0].toUpperCase()}${rust.slice(1)}`, `std::atomic<${cpp}>`]]));
+const ORDERS = { Relaxed: "relaxed", Acquire: "acquire", Release: "release", AcqRel: "acq_rel", SeqCst: "seq_cst" };
+const ORDER = new RegExp(`(?:\\b(?:[\\w:]+::)?Ordering::|(?<=[(,]\\s{0,9}))(${Object.keys(ORDERS).join("|")})\\b`, "g");
+const WORDS = [
+  [ORDER, (_, order) => `std::memory_order_${ORDERS[order]}`],
+  [/(?:\b[a-z_]+::)*\bcompiler_fence\s*\(/g, "std::atomic_signal_fence("],
+  [/(?:\b[a-z_]+::)*\b(?<!atomic_thread_|atomic_signal_)fence\s*\(/g, "std::atomic_thread_fence("],
+  [/(?:\b[a-z_]+::)*\b(?:spin_loop(?:_hint)?|yield_now)\s*\(\)/g, "cpu_relax()"], [/\.swap\(/g, ".exchange("], [/\s+as\s+[iu](?:32|64|size)\b/g, ""],
+  [/\b(\d[\d_]*?)_?[iu](?:8|16|32|64|size)\b/g, "$1"], [/(?<=\d)_(?=\d)/g, ""], [/(?<=[(,]\s{0,9})&(?:mut\s+)?(?=[A-Za-z_])/g, ""],
+  [/\be?print(?:ln)?!\s*\(/g, "printf("], [/\bdebug_assert/g, "assert"],
+];
+// An operator on bits, whose rank in C is another one. And what refuses it.
+const ON_BITS = /[\w)\]]\s*(?:(?<!&)&(?!&)|(?<!\|)\|(?!\|)|\^)\s*[\w(!]/;
+// Branches that are not those of C.
+const OTHER = /(?<!\w)(?:match\s[^{;]{0,200}|(?:if|while)\s+let\s[^{;]{0,200}|(?<=[=(]\s{0,9})if\s[^{;]{0,200})/;
+const OF_OTHERS = ": a `match`, an `if let` and the value of an `if` are not rewritten";
+const OF_BITS = ": operators on bits are not rewritten";
+const SWAP = /(?<!\w)([A-Za-z_]\w*(?:\[\w+\])?)\.compare_exchange(?:_weak)?\(/;
+const HEAD = /\b(if|while|loop|for\s+(\w+)\s+in\s+(\w+)\s*\.\.(=?)\s*(\w+))(?!\w)/g;
+
+/**
+ * Returns the parts of code between commas outside of parentheses, brackets and braces.
+ * @param {string} code
+ * @returns {string[]}
+ */
+export function splitArguments(code) {
+  return splitOutside(code, ",").map((it) => it.trim()).filter(Boolean);
+}
+
+/**
+ * Returns the parts of code between a mark outside of parentheses, brackets and braces.
+ * @param {string} code
+ * @param {string} mark
+ * @returns {string[]}
+ */
+export function splitOutside(code, mark) {
+  const parts = [""];
+  let depth = 0;
+  for (const letter of code) {
+    depth += "([{".includes(letter) - ")]}".includes(letter);
+    if (letter === mark && depth === 0) parts.push("");
+    else parts[parts.length - 1] += letter;
+  }
+  return parts;
+}
+
+/**
+ * Returns the statements of code, without the semicolons after them. A branch or a loop ends with its block.
+ * @param {string} code
+ * @returns {string[]}
+ */
+export function splitStatements(code) {
+  return splitOutside(code, ";").flatMap(splitBlocks).map((it) => it.trim()).filter(Boolean);
+}
+
+/** Returns the branches, loops and blocks at the begin of code, and the rest. */
+function splitBlocks(code) {
+  const parts = [];
+  let rest = code.trim();
+  while (/^(?:if|while|loop|for|unsafe\s*\{|\{)/.test(rest)) {
+    let end = findClosing(rest, rest.indexOf("{")) + 1;
+    const findElse = () => (end ? /^\s*else\b[^{]*/.exec(rest.slice(end))?.[0].length : undefined);
+    for (let length = findElse(); length !== undefined; length = findElse()) end = findClosing(rest, end + length) + 1;
+    // A block that is the front of an expression is no statement.
+    if (!end || /^\s*[.=!&|+<>-]/.test(rest.slice(end))) break;
+    parts.push(rest.slice(0, end));
+    rest = rest.slice(end).trim();
+  }
+  return [...parts, rest];
+}
+
+/**
+ * Returns code of statements, each with what ends it.
+ * @param {string[]} statements
+ * @returns {string}
+ */
+export function joinStatements(statements) {
+  return statements.map((it) => (/^(?:if|while|loop|for|unsafe\s*\{|\{)[^]*\}$/.test(it) ? it : `${it};`)).join(" ");
+}
+
+/** Returns code in which each compare-exchange is a call that returns whether it succeeds. */
+function rewriteSwaps(code) {
+  const found = SWAP.exec(code);
+  if (!found) return code;
+  const open = found.index + found[0].length - 1;
+  const close = findClosing(code, open);
+  const [expected, desired] = splitArguments(code.slice(open + 1, close));
+  const [asked = "", negated] = /^\s*\.is_(?:ok|(err))\(\)/.exec(code.slice(close + 1)) ?? [];
+  if (!asked) return code;
+  const call = `${negated ? "!" : ""}__sync_bool_compare_and_swap(&${found[1]}, ${expected}, ${desired})`;
+  return code.slice(0, found.index) + call + rewriteSwaps(code.slice(close + 1 + asked.length));
+}
+
+/** Returns code in which assertions are those of C. */
+function rewriteAssertions(code) {
+  const [head, kind = ""] = /\bassert(_eq|_ne)?!\s*\(/.exec(code) ?? [];
+  if (!head) return code;
+  const open = code.indexOf(head) + head.length - 1;
+  const close = findClosing(code, open);
+  const [first = "", second = ""] = splitArguments(code.slice(open + 1, close));
+  const [all, others] = [first, second].map((it) => (/^\(/.test(it) ? splitArguments(it.slice(1, -1)) : [it]));
+  if (kind && all.length !== others.length) throw new Unread(code.slice(code.indexOf(head), close + 1), ": it compares what has other parts");
+  const equal = all.map((it, at) => `${it} == ${others[at]}`).join(" && ");
+  const condition = !kind ? first : kind === "_eq" ? equal : all.length > 1 ? `!(${equal})` : `${first} != ${second}`;
+  return `${code.slice(0, code.indexOf(head))}assert(${condition})${rewriteAssertions(code.slice(close + 1))}`;
+}
+
+/** Returns code without `unsafe`: a block that is a value is in parentheses. */
+function rewriteUnsafe(code) {
+  const found = /\bunsafe\s*(?=\{)/.exec(code);
+  if (!found) return code;
+  const open = found.index + found[0].length;
+  const close = findClosing(code, open);
+  const inner = code.slice(open + 1, close).trim();
+  const isValue = /[=(!&|,+<>-]\s*$|\breturn\s*$|\b(?:if|while)\s*$/.test(code.slice(0, found.index)) || /^\s*[=!<>+&|-]/.test(code.slice(close + 1));
+  const isLast = !code.slice(close + 1).trim() && !/;$/.test(inner) && !/[^=!<>]=(?!=)/.test(inner);
+  const written = isValue || isLast ? inner : `${inner}${/[;}]$/.test(inner) || !inner ? "" : ";"}`;
+  return code.slice(0, found.index) + (isValue && /\s/.test(written) ? `(${written})` : written) + rewriteUnsafe(code.slice(close + 1));
+}
+
+/** Returns code in which the conditions of branches and loops are in parentheses. */
+function rewriteHeads(code) {
+  let written = "";
+  let at = 0;
+  for (const found of code.matchAll(HEAD)) {
+    const [whole, head, name, first, isWhole, last] = found;
+    if (found.index < at) continue;
+    const open = findBlock(code, found.index + whole.length);
+    const condition = code.slice(found.index + whole.length, open).trim();
+    const pass = name === "_" ? "pass" : name;
+    const loop = `for (int ${pass} = ${first}; ${pass} ${isWhole ? "<=" : "<"} ${last}; ${pass}++)`;
+    const made = head === "loop" ? "while (true)" : name ? loop : `${head} (${condition})`;
+    written += `${code.slice(at, found.index)}${made} `;
+    at = open;
+  }
+  return written + code.slice(at);
+}
+
+/** Returns the index of the brace that begins the block of a branch or loop, after an index. */
+function findBlock(code, index) {
+  let depth = 0;
+  for (let at = index; at < code.length; at += 1) {
+    if (code[at] === "{" && depth === 0) return at;
+    depth += "([".includes(code[at]) - ")]".includes(code[at]);
+  }
+  return code.length;
+}
+
+/** Returns the declarations of variables as those of C++. */
+function rewriteDeclarations(code) {
+  const declare = (_, name, type) => (name === "_" ? "" : `${TYPES.get(type) ?? "auto"} ${name} =`);
+  return code.replace(/\blet\s+(?:mut\s+)?(\w+)(?:\s*:\s*([\w:]+))?\s*=(?!=)/g, declare);
+}
+
+/**
+ * Returns an expression or statements in C++, with the variables that have other names.
+ * @param {string} code
+ * @param {Map<string, string>} names
+ * @returns {string}
+ */
+export function writeExpression(code, names) {
+  const renamed = names.size ? code.replace(/(?<![\w.])[A-Za-z_]\w*/g, (it) => names.get(it) ?? it) : code;
+  const words = WORDS.reduce((all, [pattern, word]) => all.replace(pattern, word), rewriteAssertions(rewriteUnsafe(renamed)));
+  if (ON_BITS.test(words)) throw new Unread(ON_BITS.exec(words)[0].slice(1), OF_BITS);
+  if (OTHER.test(code)) throw new Unread(OTHER.exec(code)[0], OF_OTHERS);
+  return rewriteSwaps(rewriteDeclarations(rewriteHeads(words)));
+}
+
+/**
+ * Returns the body of a function in C++, which returns its last expression if `isReturning`.
+ * @param {string} body
+ * @param {Map<string, string>} names
+ * @param {boolean} isReturning
+ * @returns {string}
+ */
+export function writeBody(body, names, isReturning) {
+  const statements = splitStatements(body);
+  const last = statements.at(-1) ?? "";
+  const isValue = isReturning && last && !/;\s*$/.test(body) && !/^(?:let|if|while|loop|for|return)\b/.test(last);
+  return writeExpression(joinStatements(isValue ? [...statements.slice(0, -1), `return ${last}`] : statements), names);
+}
