@@ -16,13 +16,15 @@ const TABLE = /^[ \t]*P0[ \t]*\|(?!\|)[^;\n]*;/m;
 const FRONT = /^\s*(X86|SRC)\s+\S+\s*\{[^}|;]*\}/;
 const QUESTION = /^(?:locations\b|forall\b|(?:(?:[~!]|not\b)\s*)?exists\b)/i;
 // A line that asks in words, and one with initial values: the group is what is after its first word.
-const ASKS = /^(?:can|could|is|may|might|what|question|outcome|result|final|finally|forbidden|allowed)\b/i;
+const ASKS = /^(?:can|could|is|may|might|what|question|outcome|result|final|finally|forbidden|allowed)\b(?!\s*(?::?=|<-|\u2190|\+|-))/i;
+// A comment that may have initial values, or be a fence.
+const NO_COMMENT = /\/\/(?:.*(?:\binit|=)|\W*(?:m?fence|(?:full |memory )*(?:barrier|fence))\s*$)/im;
 const INITIAL = /^(?:initial(?:ly)?|init|shared|globals?)\b(?:\s+(?:state|values?))?\s*:?(.*)$/i;
 // The name of a thread: the group is its number. And one before its code.
 const NAME = "(?:P|T|CPU|core|proc|process|processor|thread)[ \\t_]*(\\d)";
 const ONLY_NAME = new RegExp(`^${NAME}:?$`, "i");
 const BEGIN = new RegExp(`^${NAME}\\s*:(?!=)(.*)$`, "i");
-const FENCE = /^(?:mfence|fence|smp_mb|atomic_thread_fence|__sync_synchronize)\b\s*(?:\([\w:,\s]*\))?$/i;
+const FENCE = /^(?:mfence|fence|smp_mb|atomic_thread_fence|__sync_synchronize)\b\s*(?:\((?:[\w:]*seq_cst|sc)?\))?$/i;
 const ASSIGNMENT = /^([A-Za-z_]\w*)\s*:?=\s*(\w+)$/;
 // A line below the names of threads, as manuals of Linux have it.
 const RULE = /^[=\-\s]{3,}$/;
@@ -57,6 +59,7 @@ function readBeside(lines) {
   const count = rows[0]?.length ?? 0;
   const cells = code.map((row) => row.map(parseStatements));
   if (count < 2 || first > 1 || !code.length || cells.some((row) => row.length !== count || row.includes(null))) return null;
+  if (code !== rows && numbers.some((it, at) => Number(it) !== first + at)) return null;
   return { codes: Array.from({ length: count }, (_, thread) => cells.flatMap((row) => row[thread])), first };
 }
 
@@ -93,8 +96,8 @@ function readPseudoCode(text) {
   const [, initial] = INITIAL.exec(rows[0] ?? "") ?? [];
   const read = readBelow(initial === undefined ? rows : rows.slice(1)) ?? readBeside(initial === undefined ? rows : rows.slice(1));
   const block = front ? "" : initial?.trim() ? makeBlock(initial.replace(/\.$/, "")) : "{}";
-  if (!read || block === null || read.codes.length > MAX_THREADS || hasSharedRegister(read.codes)) return null;
-  if (end >= 0 && !question && lines.slice(end + 1).some(parseStatements)) return null;
+  if (!read || block === null || read.codes.length < 2 || read.codes.length > MAX_THREADS || hasSharedRegister(read.codes)) return null;
+  if (end >= 0 && !question && lines.slice(end + 1).some((it) => parseStatements(it) || BEGIN.test(it) || ONLY_NAME.test(it))) return null;
   const own = findOwnNames(read.codes, front || block);
   const rename = (code, thread) => code.replace(/[A-Za-z_]\w*/g, (it) => own[thread].get(it) ?? it);
   const codes = read.codes.map((code, thread) => code.map((it) => rename(it, thread)));
@@ -126,7 +129,7 @@ function parseLoad(code, thread) {
  * @returns {Hint | null}
  */
 export function explainPseudoCode(text) {
-  const read = text.length > LONGEST || TABLE.test(text) ? null : readPseudoCode(text);
+  const read = text.length > LONGEST || TABLE.test(text) || NO_COMMENT.test(text) ? null : readPseudoCode(text);
   if (!read) return null;
   const { head, language, codes, own, asked } = read;
   const rows = Array.from({ length: Math.max(...codes.map((it) => it.length)) }, (_, row) => codes.map((it) => it[row] ?? ""));

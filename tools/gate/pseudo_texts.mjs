@@ -109,13 +109,18 @@ const TEXTS = [
   ["a loop that stores", "P0:\n  while x == 0:\n    y = 1\nP1:\n  x = 1\n",
     `This is pseudo code, which the page would rewrite as an x86 test, but not \`while (x == 0)\`: write out each pass of a loop.`,
     null],
+  ["a variable that is called as a line that asks begins", "P0           P1\nfinal = 1    b = y\ny = 1        a = final\n",
+    "This is pseudo code: each assignment is one load or one store. `b` is `r0` (`EAX`) of P1. `a` is `r1` (`EBX`) of P1. The question is a guess: change it to yours. A source test runs by interleaving; the tab Compile adds its fences.",
+    "X86 Mine\n{}\n P0             | P1              ;\n MOV [final],$1 | MOV EAX,[y]     ;\n MOV [y],$1     | MOV EBX,[final] ;\nexists (~1:EAX=0 /\\ 1:EBX=0)\n"],
+  ["a last line that begins as one that asks", "P0:\n  x = 1\n  y = 1\nP1:\n  a = y\n  result = x\n",
+    "This is pseudo code: each assignment is one load or one store. `a` is `r0` (`EAX`) of P1. `result` is `r1` (`EBX`) of P1. The question is a guess: change it to yours. A source test runs by interleaving; the tab Compile adds its fences.",
+    "X86 Mine\n{}\n P0         | P1          ;\n MOV [x],$1 | MOV EAX,[y] ;\n MOV [y],$1 | MOV EBX,[x] ;\nexists (~1:EAX=0 /\\ 1:EBX=0)\n"],
 ];
 // Texts that have no meaning for sure, and of which the page makes no test.
 const UNREAD_TEXTS = [
   ["an endless loop", "P0:\n  loop forever\n    x = 1\nP1:\n  r1 = x\n"],
   ["a branch without indentation", "P0:\n  if (x == 0)\n  y = 1\nP1:\n  x = 1\n"],
   ["a constant by its name", "P0          P1\nx = READY   r1 = x\n"],
-  ["a variable that is called as a line that asks begins", "P0           P1\nfinal = 1    b = y\ny = 1        a = final\n"],
   ["initial words in words", "x and y are initially 1\nP0           P1\nx = 2        b = y\ny = 2        a = x\n"],
   ["code after a question", "P0:\nx = 1\nP1:\nr1 = x\nIs that all?\ny = 1\n"],
   ["a register with an initial word", "initially x = 0, r1 = 5\nP0:\n x = 1\nP1:\n r1 = x\n"],
@@ -123,6 +128,7 @@ const UNREAD_TEXTS = [
   ["threads in another order", "P1:\n x = 1\nP0:\n r1 = x\n"],
   ["a test with another first word", "X68 A\n{}\n P0 | P1 ;\n MOV [x],$1 | MOV EAX,[x] ;\nexists (1:EAX=0)\n"],
   ["a cell between two columns", "P0        P1\nx = 1     r1 = x   r2 = y\n"],
+  ["columns in another order", "P1      P0\nx = 1   y = 1\na = y   b = x\n"],
 ];
 const LONG = 3900;
 const LONG_TEXTS = [
