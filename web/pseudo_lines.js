@@ -13,33 +13,46 @@ const TEST = /^\s*(?:X86|SRC)\b|^[ \t]*P0[ \t]*\|(?!\|)[^;\n]*;/m;
 const NAME = "(?:\\/\\/|\\/\\*|#|--)?\\s*(?:P|T|CPU|core|proc|process|processor|thread)[ _#]*(?:[CPT][ _]?)?(?:(\\d)|([A-Za-z]))(?:\\s+(?:core|cpu)\\s*#?\\d)?";
 const ONLY_NAME = new RegExp(`^${NAME}\\s*:?\\s*(?:\\*\\/)?$`, "i");
 const BEGIN = new RegExp(`^\\s*${NAME}\\s*:(?!=)`, "i");
+const HEAD_WITH_BRACE = new RegExp(`^[ \\t]*${NAME}[ \\t]*(?:\\([ \\t]*\\))?\\s*\\{`, "im");
 const LETTER = /^[pqr]$/;
 const COMMENTS = /^comments?$/i;
-const UNDERLINE = /^[\s=+|-]*$/;
-const COMMENT = /(?:\/\/|#(?!\d)|--(?=\s)).*$/;
+const UNDERLINE = /^[\s=+|:-]*$/;
+const COMMENT = /(?:\/\/|#(?!\d|(?:Store|Load)(?:Store|Load)\b)|--(?=\s)).*$/;
+// A comment that may be a fence, and one that has initial words: the group is what it says.
+const FENCE = /^\W*(?:m?fence|(?:full |memory |store-?load )*(?:barrier|fence))\W*$/i;
+const INITIAL_COMMENT = /(?:\/\*|\(\*|\/\/|#|--)\s*([^*\n]*\binit(?:ial(?:ly)?)?\b[^*\n]*)/gi;
 // A comment that is in place of a critical section.
 const CRITICAL = /^\W*(?:in\s+)?(?:the\s+)?critical[\s_]section\W*$/i;
 // Pieces of a line with gaps between them.
 const PIECE = /\S+(?: \S+)*/g;
 // How a line begins that stores, and a line that is or begins with a whole assignment.
-const STORE = /^\w[\w[\]]*\s*(?::=|=|<-)|^mov\b/i;
-const STATEMENT = /^\s*[A-Za-z_][\w[\]]*\s*(?::=|<-|=)(?!=)\s*\w+\s*(?:[;|]|$|\s{2})/;
+const STORE = /^\w[\w[\]]*\s*(?::=|=|<-|\u2190)|^mov\b/i;
+const STATEMENT = /^\s*[A-Za-z_][\w[\]]*\s*(?::=|<-|\u2190|=)(?!=)\s*\w+(?:\s*[+-]\s*\w+)?\s*(?:[;|]|$|\s{2})/;
 const INITIAL = /^\s*init(?:ial(?:ly)?)?\b/i;
-// A label before a statement.
-const LABEL = /^(?!(?:else|do|then|repeat|loop|begin)\b)[A-Za-z]\w*\s*:(?![=:])\s*/i;
+// A label, a number or a bullet before a statement: the group has the digits after the first one.
+const LABEL = /^(?:(?!(?:else|do|then|repeat|loop|begin)\b)[A-Za-z][A-Za-z_]*\d?(\d*)\w*\s*:(?![=:])|\(?\d(\d?)[.):](?!\d)|\(?[a-z]\)|[-*\u2022](?=\s))\s*/i;
 // How a line begins or ends that asks, or says what is allowed.
 const ASKING = "can|could|is|may|might|what|question|outcomes?|result|finally|final|forbidden|allowed|exists|forall|assert|on|does|post-?condition|at the end";
-const ASKS = new RegExp(`^\\(?\\s*(?:~\\s*)?(?:${ASKING})\\b|\\?\\s*\\)?$|\\b(?:allowed|possible|forbidden|impossible)\\b`, "i");
+const ASKS = new RegExp(
+  `^\\(?\\s*(?:~\\s*)?(?:${ASKING})\\b(?!\\s*(?::?=(?!=)|<-|\u2190|[+[.-]))|\\?\\s*\\)?$|\\b(?:allowed|possible|forbidden|impossible)\\b`, "i",
+);
 
 /** Returns a line of code that begins at an index, without the label before it. */
 function makeLine(code, index) {
-  const [label] = LABEL.exec(code) ?? [""];
-  return { code: code.slice(label.length).trim(), indent: index + label.length };
+  const [label, digits, others] = LABEL.exec(code) ?? [""];
+  return { code: code.slice(label.length).trim(), indent: index + label.length - (digits ?? others ?? "").length };
 }
 
-/** Returns a line with blanks in place of its tabs. */
+/** Returns a line with blanks before its tabs, which end at the next stop then. */
 function expandTabs(line) {
-  return line.split("\t").reduce((all, part) => all + " ".repeat(TAB - (all.length % TAB)) + part);
+  return line.split("\t").reduce((all, part) => all + "\t".padStart(TAB - (all.length % TAB)) + part);
+}
+
+/** Returns the lines of a text; those of a table of Markdown without its frame. */
+function splitLines(text) {
+  const lines = text.split("\n").filter((it) => it.trim() && !/^\s*```/.test(it));
+  const isFramed = lines.every((it) => !it.includes("|") || /^\s*\|(?!\|)/.test(it));
+  return lines.map((it) => expandTabs(isFramed ? it.replace(/^\s*\||\|\s*$|`/g, "") : it));
 }
 
 /** Returns a text with blanks in place of comments between signs; a comment that is in place of a critical section becomes its name. */
@@ -49,9 +62,9 @@ function blankSpans(text) {
   return blanked.replace(/\{[ \t]*\}/g, (it) => "{}".padEnd(it.length));
 }
 
-/** Returns a line without its comment, unless that is in place of a critical section. */
+/** Returns a line without its comment, unless that is in place of a critical section, or may be a fence. */
 function dropComment(line) {
-  return line.replace(COMMENT, (comment) => (CRITICAL.test(comment) ? "critical section" : ""));
+  return line.replace(COMMENT, (comment) => (CRITICAL.test(comment) ? "critical section" : FENCE.test(comment) ? comment : ""));
 }
 
 /** Returns the first one of the numbers of threads, 0 if they have none; NaN if they are not in order. */
@@ -75,28 +88,53 @@ function findNumber(code) {
   return /\d/.exec(ONLY_NAME.exec(code.trim())?.[1] ?? BEGIN.exec(code)?.[1] ?? "")?.[0];
 }
 
-/** Returns the pieces of a line between bars; those that are apart, if there is no bar. */
-function listCells(line) {
-  const bars = /\s*\|{1,3}\s*/g;
-  if (!line.includes("|")) return listPieces(line);
-  let index = 0;
-  return line.split(/(\|{1,3})/).flatMap((part, at) => {
-    const begin = index;
-    index += part.length;
-    return at % 2 ? [] : [{ code: part.trim(), index: begin + Math.max(part.search(/\S/), 0) }];
-  }).filter((it) => !bars.test(it.code));
+/** Returns the cells of a line between bars or tabs, each with the index at which its code begins in it. */
+function splitCells(line, sign) {
+  return line.split(sign).map((it) => ({ code: it.trim(), index: Math.max(it.search(/\S/), 0) }));
 }
 
-/** Returns the lines of threads in columns, given the columns' first letters, or null if the cells of a row are between `bars`. */
-function readColumns(lines, columns, hasBars) {
+/** Returns the cells of a line between bars; its pieces that are apart, if there is no bar. */
+function listCells(line) {
+  return line.includes("|") ? splitCells(line, /\|{1,3}/) : listPieces(line);
+}
+
+/** Returns the cells of a line between tabs. */
+function listTabbed(line) {
+  return splitCells(line, "\t");
+}
+
+/**
+ * Returns how to list the cells of lines below the row of names, given the columns' first letters: listPieces; or listTabbed, if cells between tabs are
+ * not below their names, and none of these rows has an empty cell, as in a copied table; or null, if it is not sure which.
+ */
+function chooseCells(names, lines, columns) {
+  const rows = lines.map(listTabbed);
+  if (!names.includes("\t") || listTabbed(names.trimEnd()).length !== columns.length || rows.some((it) => it.length > columns.length)) return listPieces;
+  const find = (index) => columns.findLastIndex((it) => index >= it - 2);
+  const isBelow = (line, row) => row.length < 2 || listPieces(line).every(({ code, index }) => row[find(index)]?.code === code);
+  const others = rows.filter((row, at) => !isBelow(lines[at], row));
+  if (!others.length) return listPieces;
+  return others.every((row) => row.length === columns.length && row.every((it) => it.code)) ? listTabbed : null;
+}
+
+/** Returns the lines of threads in columns, given the columns' first letters and how to list cells; null if a cell is in no column for sure. */
+function readColumns(lines, columns, list) {
   const threads = columns.map(() => []);
-  for (const line of lines) {
-    const cells = hasBars ? listCells(line) : listPieces(line);
+  for (const [row, line] of lines.entries()) {
+    const cells = list(line);
+    let commented = -1;
     for (const [at, { code, index }] of cells.entries()) {
-      const thread = hasBars ? at : columns.findLastIndex((it) => index >= it - 2);
+      const thread = list !== listPieces ? at : columns.findLastIndex((it) => index >= it - 2);
       if (thread < 0 || thread >= columns.length) return null;
-      if (!hasBars && threads[thread].at(-1)?.line === line) return null;
-      if (code) threads[thread].push({ ...makeLine(code, Math.max(index - columns[thread], 0)), line });
+      // A comment ends where the next column begins. One that crosses this place may have code after it.
+      if (thread === commented) continue;
+      const bare = dropComment(code);
+      const isComment = bare !== code && !CRITICAL.test(bare);
+      if (isComment) commented = thread;
+      if (isComment && list === listPieces && (cells.length > 1 || bare.trim()) && index + code.length > columns[thread + 1]) return null;
+      const made = makeLine(bare.trim(), Math.max(index - (list === listPieces ? columns[thread] : 0), 0));
+      if (made.code && threads[thread].at(-1)?.row === row) return null;
+      if (made.code) threads[thread].push({ ...made, row });
     }
   }
   return threads;
@@ -111,6 +149,19 @@ function toLines(code) {
 function findEnd(lines) {
   const end = lines.findIndex((it) => ASKS.test(it.trim()));
   return end < 0 ? lines.length : end;
+}
+
+/** Returns a text with a colon in place of braces around the code of each thread, after its name. */
+function openBraces(text) {
+  const [head] = HEAD_WITH_BRACE.exec(text) ?? [];
+  if (head === undefined) return text;
+  const begin = text.search(HEAD_WITH_BRACE) + head.length;
+  let depth = 1;
+  const length = text.slice(begin).split("").findIndex((it) => (depth += (it === "{") - (it === "}")) === 0);
+  const rest = text.slice(begin + length + 1);
+  if (length < 0 || !/^;?[ \t]*(?:\n|$)/.test(rest)) return text;
+  const name = head.replace(/(?:\([^()]*\))?\s*\{/, ":");
+  return `${text.slice(0, begin - head.length)}${name}${text.slice(begin, begin + length)}\n${openBraces(rest.replace(/^;/, ""))}`;
 }
 
 /** Returns a text of threads between `{{{`, `|||` and `}}}`; null if it has none. */
@@ -129,10 +180,12 @@ function readBeside(lines, at, isNamed) {
   const before = [...lines.slice(0, at), ...below.filter((it) => INITIAL.test(it))];
   const rows = below.filter((it) => !INITIAL.test(it));
   const end = findEnd(rows);
-  const code = rows.slice(0, end).map(dropComment);
+  const code = rows.slice(0, end);
   // Initial values may be below the names.
   while (/^\s*\{[^{}]*\}\s*$/.test(code[0] ?? "")) before.push(code.shift().replace(/[{}]/g, ""));
-  const threads = readColumns(code, names.map((it) => it.index), lines[at].includes("|"));
+  const columns = names.map((it) => it.index);
+  const list = lines[at].includes("|") ? listCells : chooseCells(lines[at], code, columns);
+  const threads = list && readColumns(code, columns, list);
   const first = isNamed ? findFirst(names.map((it) => findNumber(it.code))) : 0;
   return threads && { before, threads, after: rows.slice(end), first };
 }
@@ -163,8 +216,8 @@ function readBelow(lines) {
  */
 export function readPseudoText(text) {
   if (text.length > MAX_LETTERS || TEST.test(text)) return null;
-  const blanked = blankSpans(text);
-  const lines = blanked.split("\n").map(expandTabs).filter((it) => it.trim());
+  const blanked = blankSpans(text.replace(/\r/g, "").replaceAll("\u00a0", " "));
+  const lines = splitLines(openBraces(blanked));
   const isRow = (it, isCell) => listCells(it).length > 1 && listCells(it).every(isCell);
   const named = lines.findIndex((it) => isRow(it, (cell) => isName(cell) || COMMENTS.test(cell.code)));
   const hasNames = lines.some((it) => BEGIN.test(it) || ONLY_NAME.test(it.trim()));
@@ -172,9 +225,11 @@ export function readPseudoText(text) {
   const readLines = () => {
     if (named >= 0) return readBeside(lines, named, true);
     if (hasNames) return readBelow(lines);
-    return columns >= 0 ? readBeside(lines, columns, false) : null;
+    return columns >= 0 && lines.slice(0, columns).every((it) => listCells(it).length < 2) ? readBeside(lines, columns, false) : null;
   };
   const read = readBraced(blanked) ?? readLines();
+  const commented = [...text.matchAll(INITIAL_COMMENT)].map(([, words]) => words);
+  if (read) read.before = [...read.before.filter((it) => !commented.some((words) => it.includes(words))), ...commented];
   const isWhole = read && read.threads.length > 1 && read.threads.length <= MAX_THREADS && read.threads.every((it) => it.length) && read.first <= 1;
   return isWhole && !read.after.some((it) => STATEMENT.test(it)) ? read : null;
 }

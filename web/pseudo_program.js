@@ -15,13 +15,19 @@ const ATOMIC_TYPE = /\b(?:std::)?atomic(?:<\w+>|_\w+)/g;
 const TYPE = /\b(?:int|bool|boolean|integer|var|volatile|shared|unsigned)\b/gi;
 const INITIALIZER = /(\w)\s*\{\s*(\w+)\s*\}/g;
 // Words with which a line before the threads asks, and a question of a test.
-const ASKS = /\?|\b(?:can|could|allowed|forbidden|outcomes?|possible)\b/i;
+const ASKS = /\?|\b(?:can|could|allowed|forbidden|outcomes?|possible)\b(?!\s*(?:[,;:=]|<-|←|$))/i;
+// A line that says in words what values names have at the start, and a value other than 0.
+const SAYS_INITIAL = /\b(?:initial\w*|init|starts?|begins?|beginning|let|assum\w+|suppose|all|both)\b/i;
+const OTHER_VALUE = /(?<![\w.-])(?:[1-9]\d*|true|one|set|null)(?![\w.-]*\w)/i;
 const QUESTION = /^\s*(?:~\s*exists|exists|forall)\b/m;
 // Sites with one word, as `r1 = r2 = 0`; and what joins others than by `and`.
 const ATOM = /(?<![\w:])((?:(?:P|T|Proc |Thread )?\d\s*:\s*)?%?[A-Za-z_]\w*(?:\[\d\])?(?:\s*==?\s*[A-Za-z_]\w*)*)\s*==?\s*(\d+|true|false)\b/gi;
-const OTHER_CONNECTIVE = /\b(?:or|not)\b|[!~∨]|\|\||\\\//i;
+const OTHER_CONNECTIVE = /\b(?:or|not|nor|n?either|never|always|must|guaranteed?|unless|without)\b|n't\b|[!~∨<>≠≤≥+*]|\|\||\\\//i;
+// Tuples of sites and of words, sites that all have a word, and one that has.
+const TUPLES = /\(\s*(\w+(?:\s*,\s*\w+)+)\s*\)\s*==?\s*\(\s*(\d+(?:\s*,\s*\d+)+)\s*\)/g;
+const BOTH = /(?<!\w)([A-Za-z_]\w*)(?:\s+and\s+([A-Za-z_]\w*))?\s+(?:both\s+)?(?:be|equal)\s+(?=\d+\b)/gi;
 // Names of registers and of what a thread has for itself.
-const OWN = /^(?:r\d+|reg\d*|t\d|tmp\d*|e[abcd]x|local\w*)$/i;
+const OWN = /^(?:r\d*|reg\d*|t\d|te?mp\d*|e[abcd]x|local\w*)$/i;
 const MADE = /^(?:inside|printed)\d/;
 const KEYWORDS = new Set("if else while int void volatile assert smp_mb smp_rmb std".split(" "));
 // What is said of pseudo code.
@@ -31,17 +37,18 @@ const OF_SECTION = " A critical section is an addition to `critical` here";
 const OF_LOST = ": the question is whether one is lost, since two threads are in theirs at once.";
 const OF_STAYING = " The question is whether all are in the critical section at once.";
 
-/** Returns the initial words that lines declare, by names, with the words of an array in a list. Throws Unread if a line has something else. */
-function readInitial(lines) {
+/** Returns the initial words that lines declare, by names, with the words of an array in a list. Throws Unread if a line says something else of `names`. */
+function readInitial(lines, names) {
   const words = new Map();
   for (const line of lines) {
-    const bare = line.replace(ATOMIC_TYPE, "int").replace(INITIALIZER, "$1 = $2").replace(INITIALLY, "").replace(/[.;]\s*$/, "");
+    const typed = line.replace(/^\s*(?:\/\/|#|--)/, "").replace(ATOMIC_TYPE, "int").replace(INITIALIZER, "$1 = $2");
+    const bare = typed.replace(INITIALLY, "").replace(/[.;]\s*$/, "");
     // A line without values is a title, or declares names that begin with 0.
     if (!/=|:=|<-|←/.test(bare)) {
-      if (/initial/i.test(line) && /[1-9]|true/i.test(line)) throw new Unread();
+      if (OTHER_VALUE.test(line) && (SAYS_INITIAL.test(line) || names.some((it) => new RegExp(`(?<!\\w)${it}(?!\\w)`).test(line)))) throw new Unread();
       continue;
     }
-    const code = toC(bare).replace(/==/g, "=").replace(TYPE, "").replace(/&&|;|(?<=\w)\s+(?=\w)/g, ",");
+    const code = toC(bare).replace(/==/g, "=").replace(TYPE, "").replace(/&&?|;|(?<=\w)\s+(?=\w)/g, ",");
     for (const entry of code.split(/,(?![^{[]*[}\]])/).map((it) => it.trim()).filter(Boolean)) readEntry(entry, words);
   }
   return words;
@@ -62,7 +69,7 @@ function readEntry(entry, words) {
 
 /** Returns the names in code, without those of C. */
 function listNames(code) {
-  return (code.match(/(?<![\w.:>]|->)[A-Za-z_]\w*(?!\s*(?:\(|::))/g) ?? []).filter((it) => !KEYWORDS.has(it));
+  return (code.match(/(?<![\w.:>]|->)[A-Za-z_]\w*\b(?!\s*(?:\(|::))/g) ?? []).filter((it) => !KEYWORDS.has(it));
 }
 
 /** Throws Unread if names may be those of constants: they have capital letters only, no thread sets them, and they have no initial value. */
@@ -74,7 +81,8 @@ function refuseConstants(codes, initial) {
 
 /**
  * Returns the names of each thread that are its own: those that it declares, those of registers, which each thread sets that has them, and names that it sets
- * from another name and no other thread has. Throws Unread if one of them has an initial word other than 0.
+ * from another name and no other thread has. Throws Unread if one of them has an initial word other than 0, and if a name may be that of a location or
+ * of one register in each thread: each thread that has it sets it from a location first.
  */
 function findOwnNames(codes, declared, initial) {
   const has = (code, name) => listNames(code).includes(name);
@@ -86,6 +94,12 @@ function findOwnNames(codes, declared, initial) {
     return isSet(name, code, "[A-Za-z_]") && !isElsewhere(name, thread) && !initial.has(name);
   };
   const own = codes.map((code, thread) => [...new Set(listNames(code))].filter((name) => isOwn(name, code, thread)));
+  const isLoaded = (name, code) => {
+    const first = code.search(new RegExp(`(?<!\\w)${name}\\b`));
+    return first < 0 || new RegExp(`^${name} = (?!${name}\\b|r\\d)[A-Za-z_]`).test(code.slice(first));
+  };
+  const names = [...new Set(codes.flatMap((code, thread) => listNames(code).filter((it) => !own[thread].includes(it))))];
+  if (names.some((it) => !initial.has(it) && codes.every((code) => isLoaded(it, code)))) throw new Unread();
   if (own.flat().some((it) => initial.has(it) && initial.get(it) !== "0")) throw new Unread();
   return own;
 }
@@ -115,18 +129,37 @@ function nameThreads(question, own) {
   return question.replace(/(?<![\w:])[A-Za-z_]\w*/g, (it) => (counts(it) ? `${own.findIndex((names) => names.includes(it))}:${it}` : it));
 }
 
-/** Returns the question of lines that ask, as the test's question; "" if none asks in a way that is known. */
-function readQuestion(lines, own, first) {
+/** Returns the question of lines that ask of some of the names, as the test's question; "" if none asks in a way that is known. */
+function readQuestion(lines, names, own, first) {
   const raw = lines.findIndex((it) => QUESTION.test(it));
   if (raw >= 0) return nameThreads(numberThreads(lines.slice(raw).join(" "), first), own);
   const asserted = lines.map((it) => /^\s*assert\b\s*([^;]*?)\s*;?\s*$/.exec(it)?.[1]).find(Boolean);
-  if (asserted) return nameThreads(`forall (${toCondition(asserted)})`, own);
-  const line = lines.find((it) => it.search(ATOM) >= 0);
-  if (!line || OTHER_CONNECTIVE.test(line.replace(/\((?:or|and)[^)]*\)/gi, ""))) return "";
-  const atoms = [...line.matchAll(ATOM)].flatMap(([, sites, word]) => {
+  if (asserted) return nameThreads(`forall (${toProposition(asserted)})`, own);
+  const sentences = lines.flatMap((it) => it.split(/(?<=[?.])\s+/)).map(writeAtoms).filter((it) => it.search(ATOM) >= 0);
+  const sentence = sentences.find((it) => it.includes("?")) ?? sentences[0];
+  if (!sentence || OTHER_CONNECTIVE.test(sentence.replace(/\((?:or|and)[^)]*\)/gi, ""))) return "";
+  const atoms = [...sentence.matchAll(ATOM)].flatMap(([, sites, word]) => {
     return sites.split(/\s*==?\s*/).map((it) => `${it.replace(/^(?:P|T|Proc|Thread)\s*(?=\d)|[\s%]/gi, "")}=${toC(word)}`);
   });
+  if (atoms.some((it) => !names.includes(/(\w+)(?:\[\d\])?=/.exec(it)[1]))) return "";
   return nameThreads(numberThreads(`exists (${atoms.join(" /\\ ")})`, first), own);
+}
+
+/** Returns a sentence in which tuples, and words as `both be 0`, are equations. */
+function writeAtoms(sentence) {
+  const pair = (whole, sites, words) => {
+    const all = words.split(",");
+    const names = sites.split(",");
+    return names.length === all.length ? names.map((it, at) => `${it.trim()} = ${all[at].trim()}`).join(", ") : whole;
+  };
+  return sentence.replace(TUPLES, pair).replace(BOTH, (_, one, other) => (other ? `${one} = ${other} = ` : `${one} = `));
+}
+
+/** Returns what is asserted as a proposition. */
+function toProposition(asserted) {
+  const condition = toCondition(asserted);
+  const negated = condition.replace(/([A-Za-z_]\w*(?:\[\d\])?)\s*!=\s*(\w+)/g, "~$1=$2").replace(/!(?=\s*\()/g, "~");
+  return negated.replace(/&&/g, "/\\").replace(/\|\|/g, "\\/").replace(/==/g, "=");
 }
 
 /** Returns the question whether two threads can be in the critical section at once; "" if no two have one. */
@@ -156,10 +189,11 @@ function writeProgram({ before, threads, after, first }) {
   const section = askOfSections(writers);
   const written = codes.map((it) => dropUnasked(it, section));
   const asking = before.filter((it) => ASKS.test(it));
-  const initial = readInitial(before.filter((it) => !asking.includes(it)));
+  const initial = readInitial(before.filter((it) => !asking.includes(it)), listNames(codes.join(" ")));
+  if ([...asking, ...after].some((it) => /\binit/i.test(it))) throw new Unread();
   refuseConstants(written, initial);
   const own = findOwnNames(written, writers.map((it) => it.declared), initial);
-  const asked = readQuestion([...after, ...asking], own, first);
+  const asked = readQuestion([...after, ...asking], listNames(written.join(" ")), own, first);
   // A name of one thread is declared outside, where it begins with 0.
   const isLocal = (name) => own.filter((names) => names.includes(name)).length > 1;
   const declare = (names) => names.map((it) => `int ${it}; `).join("");

@@ -13,11 +13,20 @@ const NOTHING = /^(?:skip|pass|nop|no-?op|do nothing|do|done|od|fi|begin|end(?:[
 const CRITICAL = /^<?\(?(?:in\s+)?(?:the\s+)?(?:critical(?:[\s_]section)?|CS)\)?>?(?:\(\))?\.*$/i;
 const FENCES = [
   [/^<?(?:(?:general|full)[ _])?(?:memory[ _])?(?:barrier|fence)>?(?:\(\))?$/i, "smp_mb();"],
-  [/^(?:mfence|smp_mb|__sync_synchronize|mb)\s*(?:\(\))?$|^atomic_thread_fence\s*(?:\((?:[\w:]*seq_cst)?\))?$/i, "smp_mb();"],
-  [/^<(?:write|read|compiler)[ _]barrier>$|^smp_[rw]mb\s*\(\)$/i, "smp_rmb();"],
+  [/^(?:mfence|smp_mb|__sync_synchronize|mb)\s*(?:\(\))?$|^(?:(?:std::)?atomic_thread_)?fence\s*(?:\((?:[\w:]*seq_cst|sc)?\))?$/i, "smp_mb();"],
+  [/^(?:membar\s+)?(?:#?StoreLoad(?:[ _](?:barrier|fence))?)(?:\(\))?$/i, "smp_mb();"],
+  [/^<?(?:write|read|compiler|acquire|release)[ _](?:memory[ _])?(?:barrier|fence)>?(?:\(\))?$|^smp_[rw]mb\s*\(\)$|^[ls]fence(?:\(\))?$/i, "smp_rmb();"],
+  [/^(?:(?:std::)?atomic_thread_)?fence\s*\((?:[\w:]*(?:acquire|release|acq_rel))\)$/i, "smp_rmb();"],
+  [/^(?:membar\s+)?#?(?:LoadLoad|LoadStore|StoreStore)(?:[ _](?:barrier|fence))?(?:\(\))?$/i, "smp_rmb();"],
 ];
 // The first word of a branch or loop, and the rest of its line.
-const HEAD = /^(if|while|await|wait\s+(?:until|for)|elif|elsif|else\s*if|else)(?!\w)\s*(.*)$/i;
+const HEAD = new RegExp(
+  "^(if|while|await|(?:(?:busy[ -]?)?wait|spin|loop|repeat)\\s+(?:until|for|while)|wait(?=\\s*\\(.*[=≠<>])|until|elif|elsif|else\\s*if|else)" +
+    "(?!\\w)\\s*(.*)$",
+  "i",
+);
+const BEGIN = /(^|\b(?:then|do|else)\s+)begin\b(?=\s*(?:$|[A-Za-z_]))/i;
+const ELSE = /\s*(?:;\s*)?\belse\b:?\s*/i;
 const ASSIGNMENT = /^([A-Za-z_]\w*(?:\[\d\])?)\s*(\+=|-=|=(?!=))\s*(.+)$/;
 const MOVE = /^mov[lq]?\s+([^\s,<][^,<]*?)\s*(?:,|<-)\s*(.+)$/i;
 const EXPRESSION = /^[\w\s+()[\]-]+$/;
@@ -59,13 +68,23 @@ export function toCondition(code) {
   return nameOrders(condition);
 }
 
+/** Returns the lines of a thread with braces in place of `begin` and `end` around the bodies of branches, and without those around all. */
+function convertBlocks(lines) {
+  const isAround = /^begin$/i.test(lines[0].code) && /^end[;.]?$/i.test(lines.at(-1).code);
+  const inner = isAround ? lines.slice(1, -1) : lines;
+  if (!inner.some((it) => BEGIN.test(it.code))) return inner;
+  return inner.map((it) => ({ ...it, code: it.code.replace(/^end\b\s*;?(?=\s*(?:else\b|$))/i, "}").replace(BEGIN, "$1{") }));
+}
+
 /** Writes the statements of a thread in C. What is not read throws Unread. */
 export class StatementWriter {
-  /** `lines` are those of the thread with this `number`. */
-  constructor(lines, number) {
+  /** `written` are the lines of the thread with this `number`. */
+  constructor(written, number) {
+    const lines = convertBlocks(written);
     // `depth` is the number of branches and braces around the present statement, `isHead` whether the last one was the head of a branch, and `isBranched`
     // whether a critical section is in one. `declared` has the names that the thread declares.
-    Object.assign(this, { lines, number, at: 0, printed: 0, depth: 0, isHead: false, declared: new Set() });
+    // `branch` is the indentation of the `if` before the present statement.
+    Object.assign(this, { lines, number, at: 0, printed: 0, depth: 0, branch: -1, isHead: false, declared: new Set() });
     Object.assign(this, { hasSection: false, isBranched: false, isAfterSection: false });
     this.hasBraces = lines.some((it) => /[{}]/.test(it.code.replace(/\{\s*\}/g, "")));
   }
@@ -86,6 +105,8 @@ export class StatementWriter {
 
   /** Returns a brace. */
   writeBrace(brace) {
+    // A brace that is not that of a branch or loop may be of a set of values.
+    if (brace === "{" && !this.isHead) throw new Unread();
     this.depth += brace === "{" ? 1 : -1;
     this.isHead = false;
     return brace;
@@ -96,7 +117,7 @@ export class StatementWriter {
     const [head, rest] = this.splitHead(code) ?? [];
     if (head === undefined) return this.writeSimples(code);
     this.isHead = true;
-    return `${head} ${/^;?$/.test(rest) ? rest : this.writePart(rest)}`;
+    return `${head} ${rest && this.writePart(rest)}`;
   }
 
   // Code with indentation.
@@ -112,16 +133,35 @@ export class StatementWriter {
   writeStatement() {
     const { code, indent } = this.lines[this.at];
     this.at += 1;
-    const [head, rest] = this.splitHead(code) ?? [];
+    const [head, rest, sign] = this.splitHead(code) ?? [];
     if (head === undefined) return this.writeSimples(code);
+    // An `else` is below its `if`.
+    const isBelow = !head.startsWith("else") || this.branch === indent;
     if (head.endsWith(";")) return `${head} ${rest && this.writePart(rest)}`;
     this.depth += 1;
-    const next = this.lines[this.at]?.indent ?? 0;
-    const body = [rest && rest !== ";" ? this.writePart(rest) : "", ...(next > indent && rest !== ";" ? this.writeBlock(next) : [])].join(" ").trim();
+    const next = this.lines[this.at]?.indent ?? -1;
+    const isDeep = next > indent;
+    const body = rest ? this.writeInline(rest, sign === ":", isDeep) : isDeep ? `{ ${this.writeBlock(next).join(" ")} }` : "";
     this.depth -= 1;
-    if (head.startsWith("while") && !body) return `${head} ;`;
-    if (!rest && next <= indent) throw new Unread();
-    return `${head} { ${body} }`;
+    this.branch = head === "else" ? -1 : indent;
+    if (!isBelow || (isDeep && this.lines[this.at]?.indent > indent)) throw new Unread();
+    if (body) return /^while.*\{\s*\}$/.test(`${head} ${body}`) ? `${head} ;` : `${head} ${body}`;
+    // What is below a loop without a body may be it, unless it does nothing.
+    if (!head.startsWith("while") || (next === indent && !NOTHING.test(this.lines[this.at].code))) throw new Unread();
+    return `${head} ;`;
+  }
+
+  /**
+   * Returns what is after the head of a branch or loop in its line, in braces, and an `else` in the line. Throws Unread if it is not sure what belongs to
+   * the branch: some of several statements, unless they are after a colon, lines below that are indented (`isDeep`), or the `else` of one of two branches.
+   */
+  writeInline(rest, hasColon, isDeep) {
+    const parts = rest.split(ELSE);
+    const isElseBelow = /^(?:else|elif|elsif)\b/i.test(this.lines[this.at]?.code ?? "");
+    const isSeveral = parts.some((it) => it.split(/[;,](?![^(]*\))/).filter((part) => part.trim()).length > 1);
+    if (isDeep || parts.length > 2 || (isSeveral && (!hasColon || parts.length > 1))) throw new Unread();
+    if (HEAD.test(parts[0]) && (isElseBelow || parts.length > 1)) throw new Unread();
+    return parts.map((it) => `{ ${this.writePart(it)} }`).join(" else ");
   }
 
   // Parts of lines.
@@ -134,10 +174,14 @@ export class StatementWriter {
     const [, word, rest] = HEAD.exec(code) ?? [];
     if (!word) return null;
     this.isAfterSection ||= this.hasSection;
-    if (/^else$/i.test(word)) return ["else", rest.replace(/^:/, "").trim()];
-    const [condition, after] = splitCondition(rest);
+    if (/^else$/i.test(word)) return ["else", rest.replace(/^:/, "").trim(), rest[0] ?? ""];
+    const [condition, sign, after] = splitCondition(rest);
     const kind = word.toLowerCase().replace(/^(?:elif|else\s*if|elsif)$/, "else if");
-    return /^(?:await|wait)/.test(kind) ? [`while (!(${toCondition(condition)})) ;`, after] : [`${kind} (${toCondition(condition)})`, after];
+    const isWhole = sign === ";" || kind !== "while";
+    if (/^(?:if|else if)$/.test(kind) && sign !== ";") return [`${kind} (${toCondition(condition)})`, after, sign];
+    if (/if$/.test(kind)) throw new Unread();
+    const isOn = /\bwhile$/.test(kind);
+    return [`while (${isOn ? toCondition(condition) : `!(${toCondition(condition)})`})${isWhole ? " ;" : ""}`, after, sign];
   }
 
   /** Returns the statements of code without branches. */
@@ -187,14 +231,14 @@ function writeAssignment(code) {
   return `${name} ${sign} ${value};`;
 }
 
-/** Returns the condition after the first word of a branch or loop, and what follows it in its line. */
+/** Returns the condition after the first word of a branch or loop, the sign or word that ends it, and what follows it in its line. */
 function splitCondition(code) {
   if (code.startsWith("(")) {
     let depth = 0;
     const end = code.split("").findIndex((it) => (depth += (it === "(") - (it === ")")) === 0);
-    const rest = code.slice(end + 1).replace(/^\s*:/, "").trim();
-    if (end > 0 && !/^(?:and|or|&&|\|\||[=!<>∧∨])/i.test(rest)) return [code.slice(1, end), rest];
+    const [, sign, rest] = /^\s*(:(?!=)|;|then\b|do\b|)\s*(.*)$/i.exec(code.slice(end + 1));
+    if (end > 0 && !/^(?:and|or|&&|\|\||[=!<>≠∧∨])/i.test(rest)) return [code.slice(1, end), sign, rest.trim()];
   }
-  const [, condition, rest] = /^(.*?)\s*(?:\b(?:then|do)\b|:(?!=)|(?<!\d)\{|;)\s*(.*)$/i.exec(code) ?? [code, code, ""];
-  return [condition, rest.trim()];
+  const [, condition, sign, rest] = /^(.*?)\s*(\bthen\b|\bdo\b|:(?!=)|(?<!\d)\{|;)\s*(.*)$/i.exec(code) ?? [code, code, "", ""];
+  return [condition, sign, rest.trim()];
 }
