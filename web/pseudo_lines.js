@@ -13,13 +13,16 @@ const TEST = /^\s*(?:X86|SRC)\b|^[ \t]*P0[ \t]*\|(?!\|)[^;\n]*;/m;
 const NAME = "(?:\\/\\/|\\/\\*|#|--)?\\s*(?:P|T|CPU|core|proc|process|processor|thread)[ _#]*(?:[CPT][ _]?)?(?:(\\d)|([A-Za-z]))(?:\\s+(?:core|cpu)\\s*#?\\d)?";
 const ONLY_NAME = new RegExp(`^${NAME}\\s*:?\\s*(?:\\*\\/)?$`, "i");
 const BEGIN = new RegExp(`^\\s*${NAME}\\s*:(?!=)`, "i");
-const HEAD_WITH_BRACE = new RegExp(`^[ \\t]*${NAME}[ \\t]*(?:\\([ \\t]*\\))?\\s*\\{`, "im");
+// The code of a thread in braces after its name.
+const IN_BRACES = new RegExp(
+  `^(?<indent>[ \\t]*)(?<name>${NAME})\\s*(?:\\(\\s*\\)\\s*)?\\{(?:(?<line>[^{}\\n]*)\\}[ \\t]*$|(?<lines>[^]*?)\\n\\k<indent>\\})`, "gim",
+);
 const LETTER = /^[pqr]$/;
 const COMMENTS = /^comments?$/i;
 const UNDERLINE = /^[\s=+|:-]*$/;
 const COMMENT = /(?:\/\/|#(?!\d|(?:Store|Load)(?:Store|Load)\b)|--(?=\s)).*$/;
 // A comment that may be a fence, and one that has initial words: the group is what it says.
-const FENCE = /^\W*(?:m?fence|(?:full |memory |store-?load )*(?:barrier|fence))\W*$/i;
+const FENCE = /^\W*(?:(?:full|memory|store-?load) )*(?:barrier|m?fence)\W*$/i;
 const INITIAL_COMMENT = /(?:\/\*|\(\*|\/\/|#|--)\s*([^*\n]*\binit(?:ial(?:ly)?)?\b[^*\n]*)/gi;
 // A comment that is in place of a critical section.
 const CRITICAL = /^\W*(?:in\s+)?(?:the\s+)?critical[\s_]section\W*$/i;
@@ -29,7 +32,7 @@ const PIECE = /\S+(?: \S+)*/g;
 const STORE = /^\w[\w[\]]*\s*(?::=|=|<-|\u2190)|^mov\b/i;
 const STATEMENT = /^\s*[A-Za-z_][\w[\]]*\s*(?::=|<-|\u2190|=)(?!=)\s*\w+(?:\s*[+-]\s*\w+)?\s*(?:[;|]|$|\s{2})/;
 const INITIAL = /^\s*init(?:ial(?:ly)?)?\b/i;
-// A label, a number or a bullet before a statement: the group has the digits after the first one.
+// A label, a number or a bullet before a statement: the groups have the digits after the first one.
 const LABEL = /^(?:(?!(?:else|do|then|repeat|loop|begin)\b)[A-Za-z][A-Za-z_]*\d?(\d*)\w*\s*:(?![=:])|\(?\d(\d?)[.):](?!\d)|\(?[a-z]\)|[-*\u2022](?=\s))\s*/i;
 // How a line begins or ends that asks, or says what is allowed.
 const ASKING = "can|could|is|may|might|what|question|outcomes?|result|finally|final|forbidden|allowed|exists|forall|assert|on|does|post-?condition|at the end";
@@ -88,7 +91,7 @@ function findNumber(code) {
   return /\d/.exec(ONLY_NAME.exec(code.trim())?.[1] ?? BEGIN.exec(code)?.[1] ?? "")?.[0];
 }
 
-/** Returns the cells of a line between bars or tabs, each with the index at which its code begins in it. */
+/** Returns the cells of a line between signs, each with the index at which its code begins in it. */
 function splitCells(line, sign) {
   return line.split(sign).map((it) => ({ code: it.trim(), index: Math.max(it.search(/\S/), 0) }));
 }
@@ -98,41 +101,30 @@ function listCells(line) {
   return line.includes("|") ? splitCells(line, /\|{1,3}/) : listPieces(line);
 }
 
-/** Returns the cells of a line between tabs. */
-function listTabbed(line) {
-  return splitCells(line, "\t");
-}
-
-/**
- * Returns how to list the cells of lines below the row of names, given the columns' first letters: listPieces; or listTabbed, if cells between tabs are
- * not below their names, and none of these rows has an empty cell, as in a copied table; or null, if it is not sure which.
- */
-function chooseCells(names, lines, columns) {
-  const rows = lines.map(listTabbed);
-  if (!names.includes("\t") || listTabbed(names.trimEnd()).length !== columns.length || rows.some((it) => it.length > columns.length)) return listPieces;
+/** Returns whether tabs below names may mean other columns than the stops of a terminal, as in a copied table. */
+function hasOtherTabs(names, lines, columns) {
+  const rows = lines.map((it) => splitCells(it, "\t"));
+  if (splitCells(names.trimEnd(), "\t").length !== columns.length || rows.some((it) => it.length > columns.length)) return false;
   const find = (index) => columns.findLastIndex((it) => index >= it - 2);
-  const isBelow = (line, row) => row.length < 2 || listPieces(line).every(({ code, index }) => row[find(index)]?.code === code);
-  const others = rows.filter((row, at) => !isBelow(lines[at], row));
-  if (!others.length) return listPieces;
-  return others.every((row) => row.length === columns.length && row.every((it) => it.code)) ? listTabbed : null;
+  return rows.some((row, at) => row.length > 1 && listPieces(lines[at]).some(({ code, index }) => row[find(index)]?.code !== code));
 }
 
-/** Returns the lines of threads in columns, given the columns' first letters and how to list cells; null if a cell is in no column for sure. */
-function readColumns(lines, columns, list) {
+/** Returns the lines of threads in columns, given the columns' first letters and whether they have bars; null if a cell is in no column for sure. */
+function readColumns(lines, columns, hasBars) {
   const threads = columns.map(() => []);
   for (const [row, line] of lines.entries()) {
-    const cells = list(line);
+    const cells = hasBars ? listCells(line) : listPieces(line);
     let commented = -1;
     for (const [at, { code, index }] of cells.entries()) {
-      const thread = list !== listPieces ? at : columns.findLastIndex((it) => index >= it - 2);
+      const thread = hasBars ? at : columns.findLastIndex((it) => index >= it - 2);
       if (thread < 0 || thread >= columns.length) return null;
       // A comment ends where the next column begins. One that crosses this place may have code after it.
       if (thread === commented) continue;
       const bare = dropComment(code);
       const isComment = bare !== code && !CRITICAL.test(bare);
       if (isComment) commented = thread;
-      if (isComment && list === listPieces && (cells.length > 1 || bare.trim()) && index + code.length > columns[thread + 1]) return null;
-      const made = makeLine(bare.trim(), Math.max(index - (list === listPieces ? columns[thread] : 0), 0));
+      if (isComment && !hasBars && (cells.length > 1 || bare.trim()) && index + code.length > columns[thread + 1]) return null;
+      const made = makeLine(bare.trim(), Math.max(index - (hasBars ? 0 : columns[thread]), 0));
       if (made.code && threads[thread].at(-1)?.row === row) return null;
       if (made.code) threads[thread].push({ ...made, row });
     }
@@ -149,19 +141,6 @@ function toLines(code) {
 function findEnd(lines) {
   const end = lines.findIndex((it) => ASKS.test(it.trim()));
   return end < 0 ? lines.length : end;
-}
-
-/** Returns a text with a colon in place of braces around the code of each thread, after its name. */
-function openBraces(text) {
-  const [head] = HEAD_WITH_BRACE.exec(text) ?? [];
-  if (head === undefined) return text;
-  const begin = text.search(HEAD_WITH_BRACE) + head.length;
-  let depth = 1;
-  const length = text.slice(begin).split("").findIndex((it) => (depth += (it === "{") - (it === "}")) === 0);
-  const rest = text.slice(begin + length + 1);
-  if (length < 0 || !/^;?[ \t]*(?:\n|$)/.test(rest)) return text;
-  const name = head.replace(/(?:\([^()]*\))?\s*\{/, ":");
-  return `${text.slice(0, begin - head.length)}${name}${text.slice(begin, begin + length)}\n${openBraces(rest.replace(/^;/, ""))}`;
 }
 
 /** Returns a text of threads between `{{{`, `|||` and `}}}`; null if it has none. */
@@ -184,8 +163,8 @@ function readBeside(lines, at, isNamed) {
   // Initial values may be below the names.
   while (/^\s*\{[^{}]*\}\s*$/.test(code[0] ?? "")) before.push(code.shift().replace(/[{}]/g, ""));
   const columns = names.map((it) => it.index);
-  const list = lines[at].includes("|") ? listCells : chooseCells(lines[at], code, columns);
-  const threads = list && readColumns(code, columns, list);
+  const hasBars = lines[at].includes("|");
+  const threads = !hasBars && hasOtherTabs(lines[at], code, columns) ? null : readColumns(code, columns, hasBars);
   const first = isNamed ? findFirst(names.map((it) => findNumber(it.code))) : 0;
   return threads && { before, threads, after: rows.slice(end), first };
 }
@@ -217,7 +196,7 @@ function readBelow(lines) {
 export function readPseudoText(text) {
   if (text.length > MAX_LETTERS || TEST.test(text)) return null;
   const blanked = blankSpans(text.replace(/\r/g, "").replaceAll("\u00a0", " "));
-  const lines = splitLines(openBraces(blanked));
+  const lines = splitLines(blanked.replace(IN_BRACES, "$<indent>$<name>:$<line>$<lines>\n"));
   const isRow = (it, isCell) => listCells(it).length > 1 && listCells(it).every(isCell);
   const named = lines.findIndex((it) => isRow(it, (cell) => isName(cell) || COMMENTS.test(cell.code)));
   const hasNames = lines.some((it) => BEGIN.test(it) || ONLY_NAME.test(it.trim()));
@@ -229,7 +208,7 @@ export function readPseudoText(text) {
   };
   const read = readBraced(blanked) ?? readLines();
   const commented = [...text.matchAll(INITIAL_COMMENT)].map(([, words]) => words);
-  if (read) read.before = [...read.before.filter((it) => !commented.some((words) => it.includes(words))), ...commented];
+  read?.before.push(...commented);
   const isWhole = read && read.threads.length > 1 && read.threads.length <= MAX_THREADS && read.threads.every((it) => it.length) && read.first <= 1;
   return isWhole && !read.after.some((it) => STATEMENT.test(it)) ? read : null;
 }

@@ -17,14 +17,14 @@ const INITIALIZER = /(\w)\s*\{\s*(\w+)\s*\}/g;
 // Words with which a line before the threads asks, and a question of a test.
 const ASKS = /\?|\b(?:can|could|allowed|forbidden|outcomes?|possible)\b(?!\s*(?:[,;:=]|<-|←|$))/i;
 // A line that says in words what values names have at the start, and a value other than 0.
-const SAYS_INITIAL = /\b(?:initial\w*|init|starts?|begins?|beginning|let|assum\w+|suppose|all|both)\b/i;
+const SAYS_INITIAL = /\b(?:init\w*|starts?|begin\w*|let|assum\w+|suppose|all|both)\b/i;
 const OTHER_VALUE = /(?<![\w.-])(?:[1-9]\d*|true|one|set|null)(?![\w.-]*\w)/i;
 const QUESTION = /^\s*(?:~\s*exists|exists|forall)\b/m;
 // Sites with one word, as `r1 = r2 = 0`; and what joins others than by `and`.
 const ATOM = /(?<![\w:])((?:(?:P|T|Proc |Thread )?\d\s*:\s*)?%?[A-Za-z_]\w*(?:\[\d\])?(?:\s*==?\s*[A-Za-z_]\w*)*)\s*==?\s*(\d+|true|false)\b/gi;
 const OTHER_CONNECTIVE = /\b(?:or|not|nor|n?either|never|always|must|guaranteed?|unless|without)\b|n't\b|[!~∨<>≠≤≥+*]|\|\||\\\//i;
-// Tuples of sites and of words, sites that all have a word, and one that has.
-const TUPLES = /\(\s*(\w+(?:\s*,\s*\w+)+)\s*\)\s*==?\s*\(\s*(\d+(?:\s*,\s*\d+)+)\s*\)/g;
+// Pairs of sites and of words, sites that both have a word, and one that has.
+const PAIRS = /\(\s*(\w+)\s*,\s*(\w+)\s*\)\s*==?\s*\(\s*(\d+)\s*,\s*(\d+)\s*\)/g;
 const BOTH = /(?<!\w)([A-Za-z_]\w*)(?:\s+and\s+([A-Za-z_]\w*))?\s+(?:both\s+)?(?:be|equal)\s+(?=\d+\b)/gi;
 // Names of registers and of what a thread has for itself.
 const OWN = /^(?:r\d*|reg\d*|t\d|te?mp\d*|e[abcd]x|local\w*)$/i;
@@ -37,7 +37,7 @@ const OF_SECTION = " A critical section is an addition to `critical` here";
 const OF_LOST = ": the question is whether one is lost, since two threads are in theirs at once.";
 const OF_STAYING = " The question is whether all are in the critical section at once.";
 
-/** Returns the initial words that lines declare, by names, with the words of an array in a list. Throws Unread if a line says something else of `names`. */
+/** Returns the initial words that lines declare, by names, with the words of an array in a list. Throws Unread if a line says something else. */
 function readInitial(lines, names) {
   const words = new Map();
   for (const line of lines) {
@@ -81,8 +81,8 @@ function refuseConstants(codes, initial) {
 
 /**
  * Returns the names of each thread that are its own: those that it declares, those of registers, which each thread sets that has them, and names that it sets
- * from another name and no other thread has. Throws Unread if one of them has an initial word other than 0, and if a name may be that of a location or
- * of one register in each thread: each thread that has it sets it from a location first.
+ * from another name and no other thread has. Throws Unread if one of them has an initial word other than 0, or if each thread loads a name first that may be
+ * that of a location.
  */
 function findOwnNames(codes, declared, initial) {
   const has = (code, name) => listNames(code).includes(name);
@@ -134,32 +134,26 @@ function readQuestion(lines, names, own, first) {
   const raw = lines.findIndex((it) => QUESTION.test(it));
   if (raw >= 0) return nameThreads(numberThreads(lines.slice(raw).join(" "), first), own);
   const asserted = lines.map((it) => /^\s*assert\b\s*([^;]*?)\s*;?\s*$/.exec(it)?.[1]).find(Boolean);
-  if (asserted) return nameThreads(`forall (${toProposition(asserted)})`, own);
-  const sentences = lines.flatMap((it) => it.split(/(?<=[?.])\s+/)).map(writeAtoms).filter((it) => it.search(ATOM) >= 0);
+  if (asserted) return nameThreads(`forall (${negateSites(toCondition(asserted))})`, own);
+  const sentences = lines.flatMap((it) => it.split(/(?<=[?.])\s+/)).map(writeEquations).filter((it) => it.search(ATOM) >= 0);
   const sentence = sentences.find((it) => it.includes("?")) ?? sentences[0];
   if (!sentence || OTHER_CONNECTIVE.test(sentence.replace(/\((?:or|and)[^)]*\)/gi, ""))) return "";
   const atoms = [...sentence.matchAll(ATOM)].flatMap(([, sites, word]) => {
     return sites.split(/\s*==?\s*/).map((it) => `${it.replace(/^(?:P|T|Proc|Thread)\s*(?=\d)|[\s%]/gi, "")}=${toC(word)}`);
   });
-  if (atoms.some((it) => !names.includes(/(\w+)(?:\[\d\])?=/.exec(it)[1]))) return "";
+  const sites = atoms.map((it) => it.split("=")[0]);
+  if (new Set(sites).size < sites.length || sites.some((it) => !names.includes(/(\w+)(?:\[\d\])?$/.exec(it)[1]))) return "";
   return nameThreads(numberThreads(`exists (${atoms.join(" /\\ ")})`, first), own);
 }
 
-/** Returns a sentence in which tuples, and words as `both be 0`, are equations. */
-function writeAtoms(sentence) {
-  const pair = (whole, sites, words) => {
-    const all = words.split(",");
-    const names = sites.split(",");
-    return names.length === all.length ? names.map((it, at) => `${it.trim()} = ${all[at].trim()}`).join(", ") : whole;
-  };
-  return sentence.replace(TUPLES, pair).replace(BOTH, (_, one, other) => (other ? `${one} = ${other} = ` : `${one} = `));
+/** Returns a sentence in which pairs, and words as `both be 0`, are equations. */
+function writeEquations(sentence) {
+  return sentence.replace(PAIRS, "$1 = $3, $2 = $4").replace(BOTH, (_, one, other) => (other ? `${one} = ${other} = ` : `${one} = `));
 }
 
-/** Returns what is asserted as a proposition. */
-function toProposition(asserted) {
-  const condition = toCondition(asserted);
-  const negated = condition.replace(/([A-Za-z_]\w*(?:\[\d\])?)\s*!=\s*(\w+)/g, "~$1=$2").replace(/!(?=\s*\()/g, "~");
-  return negated.replace(/&&/g, "/\\").replace(/\|\|/g, "\\/").replace(/==/g, "=");
+/** Returns a condition with negations as those of a question. */
+function negateSites(condition) {
+  return condition.replace(/(\w[\w[\]]*)\s*!=\s*(\w+)/g, "~$1=$2").replace(/!(?=\s*\()/g, "~");
 }
 
 /** Returns the question whether two threads can be in the critical section at once; "" if no two have one. */

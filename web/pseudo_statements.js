@@ -9,19 +9,22 @@ const WORDS = [
   [/\btrue\b/gi, "1"], [/\bfalse\b/gi, "0"], [/\b(?:NEW|SET)\b/g, "1"],
 ];
 // Statements that do nothing, a critical section, and fences with those of C.
-const NOTHING = /^(?:skip|pass|nop|no-?op|do nothing|do|done|od|fi|begin|end(?:[ _]?(?:if|while))?|\.{2,}|…|busy[ -]wait|spin|;|\{\s*\})?$/i;
+const NOTHING = new RegExp(
+  "^(?:skip|pass|continue|(?:cpu_relax|[\\w.:]*yield|pause)\\s*\\(\\)|nop|no-?op|do nothing|do|done|od|fi|begin|end(?:[ _]?(?:if|while))?|\\.{2,}|…|" +
+    "busy[ -]wait|spin|;|\\{\\s*\\})?$",
+  "i",
+);
 const CRITICAL = /^<?\(?(?:in\s+)?(?:the\s+)?(?:critical(?:[\s_]section)?|CS)\)?>?(?:\(\))?\.*$/i;
 const FENCES = [
   [/^<?(?:(?:general|full)[ _])?(?:memory[ _])?(?:barrier|fence)>?(?:\(\))?$/i, "smp_mb();"],
-  [/^(?:mfence|smp_mb|__sync_synchronize|mb)\s*(?:\(\))?$|^(?:(?:std::)?atomic_thread_)?fence\s*(?:\((?:[\w:]*seq_cst|sc)?\))?$/i, "smp_mb();"],
-  [/^(?:membar\s+)?(?:#?StoreLoad(?:[ _](?:barrier|fence))?)(?:\(\))?$/i, "smp_mb();"],
-  [/^<?(?:write|read|compiler|acquire|release)[ _](?:memory[ _])?(?:barrier|fence)>?(?:\(\))?$|^smp_[rw]mb\s*\(\)$|^[ls]fence(?:\(\))?$/i, "smp_rmb();"],
-  [/^(?:(?:std::)?atomic_thread_)?fence\s*\((?:[\w:]*(?:acquire|release|acq_rel))\)$/i, "smp_rmb();"],
-  [/^(?:membar\s+)?#?(?:LoadLoad|LoadStore|StoreStore)(?:[ _](?:barrier|fence))?(?:\(\))?$/i, "smp_rmb();"],
+  [/^(?:mfence|smp_mb|__sync_synchronize|mb|(?:membar )?#?StoreLoad(?: (?:barrier|fence))?)\s*(?:\(\))?$/i, "smp_mb();"],
+  [/^(?:(?:std::)?atomic_thread_)?fence\s*(?:\((?:[\w:]*seq_cst|sc)?\))?$/i, "smp_mb();"],
+  [/^<?(?:write|read|compiler|acquire|release)[ _](?:barrier|fence)>?(?:\(\))?$|^(?:smp_[rw]mb|[ls]fence)\s*(?:\(\))?$/i, "smp_rmb();"],
+  [/^(?:(?:std::)?atomic_thread_)?fence\s*\([\w:]*(?:acquire|release|acq_rel)\)$|^(?:membar )?#?(?:Load|Store){2}(?: (?:barrier|fence))?$/i, "smp_rmb();"],
 ];
 // The first word of a branch or loop, and the rest of its line.
 const HEAD = new RegExp(
-  "^(if|while|await|(?:(?:busy[ -]?)?wait|spin|loop|repeat)\\s+(?:until|for|while)|wait(?=\\s*\\(.*[=≠<>])|until|elif|elsif|else\\s*if|else)" +
+  "^(if|while|await|(?:wait|spin|loop|repeat)\\s+(?:until|for|while)|wait(?=\\s*\\(.*[=≠<>])|until|elif|elsif|else\\s*if|else)" +
     "(?!\\w)\\s*(.*)$",
   "i",
 );
@@ -68,7 +71,7 @@ export function toCondition(code) {
   return nameOrders(condition);
 }
 
-/** Returns the lines of a thread with braces in place of `begin` and `end` around the bodies of branches, and without those around all. */
+/** Returns lines with braces in place of `begin` and `end` around the bodies of branches, and without those around all. */
 function convertBlocks(lines) {
   const isAround = /^begin$/i.test(lines[0].code) && /^end[;.]?$/i.test(lines.at(-1).code);
   const inner = isAround ? lines.slice(1, -1) : lines;
@@ -145,15 +148,15 @@ export class StatementWriter {
     this.depth -= 1;
     this.branch = head === "else" ? -1 : indent;
     if (!isBelow || (isDeep && this.lines[this.at]?.indent > indent)) throw new Unread();
-    if (body) return /^while.*\{\s*\}$/.test(`${head} ${body}`) ? `${head} ;` : `${head} ${body}`;
+    if (body) return `${head} ${body}`;
     // What is below a loop without a body may be it, unless it does nothing.
     if (!head.startsWith("while") || (next === indent && !NOTHING.test(this.lines[this.at].code))) throw new Unread();
     return `${head} ;`;
   }
 
   /**
-   * Returns what is after the head of a branch or loop in its line, in braces, and an `else` in the line. Throws Unread if it is not sure what belongs to
-   * the branch: some of several statements, unless they are after a colon, lines below that are indented (`isDeep`), or the `else` of one of two branches.
+   * Returns what is after the head of a branch or loop in its line, in braces, and an `else` there. Throws Unread if it is not sure what belongs to it: of
+   * several statements without a colon, of lines below that are indented (`isDeep`), or an `else`.
    */
   writeInline(rest, hasColon, isDeep) {
     const parts = rest.split(ELSE);

@@ -199,6 +199,15 @@ const TEXTS = [
   ["an assertion with other signs", "T1: x = 1; r1 = y\nT2: y = 1; r2 = x\nassert not (r1 == 0 and r2 != 1)\n",
     ACCESSES,
     "X86 Mine\n(* 0:EAX is r1, 1:EAX is r2 *)\n{ x=0; y=0; }\n P0          | P1          ;\n MOV [x],$1  | MOV [y],$1  ;\n MOV EAX,[y] | MOV EAX,[x] ;\nforall (~(0:EAX = 0 /\\ ~1:EAX=1))\n"],
+  ["a loop that continues", "CPU 0                CPU 1\na = 1;               while (b == 0) continue;\nsmp_mb();            smp_mb();\nb = 1;               r1 = a;\n",
+    `${ACCESSES}${WAITING}${GUESS}`,
+    "X86 Mine\n(* 1:EAX is b after its loop, 1:EBX is r1 *)\n{ a=0; b=0; }\n P0         | P1          ;\n MOV [a],$1 | MOV EAX,[b] ;\n MFENCE     | MFENCE      ;\n MOV [b],$1 | MOV EBX,[a] ;\nexists (~1:EAX=0 /\\ 1:EBX=0)\n"],
+  ["a list of outcomes", "T1: x = 1; r1 = y; z = 1\nT2: y = 1; r2 = x + 1\nPossible results: r1=0,r2=1; r1=1,r2=1\n",
+    `${ACCESSES}${GUESS}`,
+    "X86 Mine\n(* 0:EAX is r1, 1:EAX is r2 *)\n{ x=0; y=0; z=0; }\n P0          | P1          ;\n MOV [x],$1  | MOV [y],$1  ;\n MOV EAX,[y] | MOV EAX,[x] ;\n MOV [z],$1  | ADD EAX,$1  ;\nlocations [z]\nexists (0:EAX=0 /\\ 1:EAX=0)\n"],
+  ["a copied table with empty cells and tabs", "P0\tP1\nx = 1\tif y == 1:\n\t  z = 1\n",
+    `${ACCESSES} The question \`true\` holds always: look at the list of states.`,
+    "X86 Mine\n{ x=0; y=0; z=0; }\n P0         | P1          ;\n MOV [x],$1 | MOV EAX,[y] ;\n            | CMP EAX,$1  ;\n            | JNE END     ;\n            | MOV [z],$1  ;\n            | END:        ;\nlocations [x; z]\nexists (true)\n"],
 ];
 // Texts that have no meaning for sure, and of which the page makes no test.
 const UNREAD_TEXTS = [
