@@ -6,6 +6,7 @@ import { guessProposition } from "./guess_question.js";
 import { makeBlock } from "./initial_values.js";
 import { findRewriting } from "./notation.js";
 import { isRead } from "./other_tools.js";
+import { EVENTS } from "./pseudo_lines.js";
 import { REGISTERS } from "./token_reader.js";
 
 // A longer text is not read.
@@ -18,7 +19,7 @@ const QUESTION = /^(?:locations\b|forall\b|(?:(?:[~!]|not\b)\s*)?exists\b)/i;
 // A line that asks in words, and one with initial values: the group is what is after its first word.
 const ASKS = /^(?:can|could|is|may|might|what|question|outcome|result|final|finally|forbidden|allowed)\b(?!\s*(?::?=|<-|\u2190|\+|-))/i;
 // A comment that may have initial values, or be a fence.
-const NO_COMMENT = /\/\/(?:.*(?:\binit|=)|\W*(?:m?fence|(?:full |memory )*(?:barrier|fence))\s*$)/im;
+const NO_COMMENT = /\/\/.*(?:\binit|=|\b(?:barrier|m?fence)\b)/i;
 const INITIAL = /^(?:initial(?:ly)?|init|shared|globals?)\b(?:\s+(?:state|values?))?\s*:?(.*)$/i;
 // The name of a thread: the group is its number. And one before its code.
 const NAME = "(?:P|T|CPU|core|proc|process|processor|thread)[ \\t_]*(\\d)";
@@ -129,7 +130,7 @@ function parseLoad(code, thread) {
  * @returns {Hint | null}
  */
 export function explainPseudoCode(text) {
-  const read = text.length > LONGEST || TABLE.test(text) || NO_COMMENT.test(text) ? null : readPseudoCode(text);
+  const read = text.length > LONGEST || TABLE.test(text) || NO_COMMENT.test(text) || EVENTS.test(text) ? null : readPseudoCode(text);
   if (!read) return null;
   const { head, language, codes, own, asked } = read;
   const rows = Array.from({ length: Math.max(...codes.map((it) => it.length)) }, (_, row) => codes.map((it) => it[row] ?? ""));

@@ -21,11 +21,13 @@ const LETTER = /^[pqr]$/;
 const COMMENTS = /^comments?$/i;
 const UNDERLINE = /^[\s=+|:-]*$/;
 const COMMENT = /(?:\/\/|#(?!\d|(?:Store|Load)(?:Store|Load)\b)|--(?=\s)).*$/;
-// A comment that may be a fence, and one that has initial words: the group is what it says.
+// A comment that may be a fence, and one with initial words, which are the group.
 const FENCE = /^\W*(?:(?:full|memory|store-?load) )*(?:barrier|m?fence)\W*$/i;
 const INITIAL_COMMENT = /(?:\/\*|\(\*|\/\/|#|--)\s*([^*\n]*\binit(?:ial(?:ly)?)?\b[^*\n]*)/gi;
 // A comment that is in place of a critical section.
 const CRITICAL = /^\W*(?:in\s+)?(?:the\s+)?critical[\s_]section\W*$/i;
+/** Events of a run, as `Wx=1` and `Ry=0`, which are no assignments. */
+export const EVENTS = /\bW[a-z]\d?\s*=[^]*\bR[a-z]\d?\s*=/;
 // Pieces of a line with gaps between them.
 const PIECE = /\S+(?: \S+)*/g;
 // How a line begins that stores, and a line that is or begins with a whole assignment.
@@ -65,7 +67,7 @@ function blankSpans(text) {
   return blanked.replace(/\{[ \t]*\}/g, (it) => "{}".padEnd(it.length));
 }
 
-/** Returns a line without its comment, unless that is in place of a critical section, or may be a fence. */
+/** Returns a line without its comment, unless that is a critical section or may be a fence. */
 function dropComment(line) {
   return line.replace(COMMENT, (comment) => (CRITICAL.test(comment) ? "critical section" : FENCE.test(comment) ? comment : ""));
 }
@@ -118,7 +120,7 @@ function readColumns(lines, columns, hasBars) {
     for (const [at, { code, index }] of cells.entries()) {
       const thread = hasBars ? at : columns.findLastIndex((it) => index >= it - 2);
       if (thread < 0 || thread >= columns.length) return null;
-      // A comment ends where the next column begins. One that crosses this place may have code after it.
+      // A comment ends at the next column. One that crosses it may have code after it.
       if (thread === commented) continue;
       const bare = dropComment(code);
       const isComment = bare !== code && !CRITICAL.test(bare);
@@ -194,7 +196,7 @@ function readBelow(lines) {
  * @returns {PseudoText | null}
  */
 export function readPseudoText(text) {
-  if (text.length > MAX_LETTERS || TEST.test(text)) return null;
+  if (text.length > MAX_LETTERS || TEST.test(text) || EVENTS.test(text)) return null;
   const blanked = blankSpans(text.replace(/\r/g, "").replaceAll("\u00a0", " "));
   const lines = splitLines(blanked.replace(IN_BRACES, "$<indent>$<name>:$<line>$<lines>\n"));
   const isRow = (it, isCell) => listCells(it).length > 1 && listCells(it).every(isCell);

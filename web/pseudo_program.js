@@ -16,14 +16,14 @@ const TYPE = /\b(?:int|bool|boolean|integer|var|volatile|shared|unsigned)\b/gi;
 const INITIALIZER = /(\w)\s*\{\s*(\w+)\s*\}/g;
 // Words with which a line before the threads asks, and a question of a test.
 const ASKS = /\?|\b(?:can|could|allowed|forbidden|outcomes?|possible)\b(?!\s*(?:[,;:=]|<-|←|$))/i;
-// A line that says in words what values names have at the start, and a value other than 0.
+// Words of initial values, and a value other than 0.
 const SAYS_INITIAL = /\b(?:init\w*|starts?|begin\w*|let|assum\w+|suppose|all|both)\b/i;
 const OTHER_VALUE = /(?<![\w.-])(?:[1-9]\d*|true|one|set|null)(?![\w.-]*\w)/i;
 const QUESTION = /^\s*(?:~\s*exists|exists|forall)\b/m;
 // Sites with one word, as `r1 = r2 = 0`; and what joins others than by `and`.
 const ATOM = /(?<![\w:])((?:(?:P|T|Proc |Thread )?\d\s*:\s*)?%?[A-Za-z_]\w*(?:\[\d\])?(?:\s*==?\s*[A-Za-z_]\w*)*)\s*==?\s*(\d+|true|false)\b/gi;
 const OTHER_CONNECTIVE = /\b(?:or|not|nor|n?either|never|always|must|guaranteed?|unless|without)\b|n't\b|[!~∨<>≠≤≥+*]|\|\||\\\//i;
-// Pairs of sites and of words, sites that both have a word, and one that has.
+// Pairs of sites and words, and one or two sites with a word.
 const PAIRS = /\(\s*(\w+)\s*,\s*(\w+)\s*\)\s*==?\s*\(\s*(\d+)\s*,\s*(\d+)\s*\)/g;
 const BOTH = /(?<!\w)([A-Za-z_]\w*)(?:\s+and\s+([A-Za-z_]\w*))?\s+(?:both\s+)?(?:be|equal)\s+(?=\d+\b)/gi;
 // Names of registers and of what a thread has for itself.
@@ -129,7 +129,7 @@ function nameThreads(question, own) {
   return question.replace(/(?<![\w:])[A-Za-z_]\w*/g, (it) => (counts(it) ? `${own.findIndex((names) => names.includes(it))}:${it}` : it));
 }
 
-/** Returns the question of lines that ask of some of the names, as the test's question; "" if none asks in a way that is known. */
+/** Returns the question of lines that ask of names, as the test's question; "" if none asks in a way that is known. */
 function readQuestion(lines, names, own, first) {
   const raw = lines.findIndex((it) => QUESTION.test(it));
   if (raw >= 0) return nameThreads(numberThreads(lines.slice(raw).join(" "), first), own);

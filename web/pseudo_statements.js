@@ -149,14 +149,14 @@ export class StatementWriter {
     this.branch = head === "else" ? -1 : indent;
     if (!isBelow || (isDeep && this.lines[this.at]?.indent > indent)) throw new Unread();
     if (body) return `${head} ${body}`;
-    // What is below a loop without a body may be it, unless it does nothing.
+    // A line below a loop without a body may be its body.
     if (!head.startsWith("while") || (next === indent && !NOTHING.test(this.lines[this.at].code))) throw new Unread();
     return `${head} ;`;
   }
 
   /**
-   * Returns what is after the head of a branch or loop in its line, in braces, and an `else` there. Throws Unread if it is not sure what belongs to it: of
-   * several statements without a colon, of lines below that are indented (`isDeep`), or an `else`.
+   * Returns what is after the head of a branch or loop in its line, in braces, and an `else` there. Throws Unread if it is not sure what belongs to it, of
+   * several statements or lines below (`isDeep`).
    */
   writeInline(rest, hasColon, isDeep) {
     const parts = rest.split(ELSE);

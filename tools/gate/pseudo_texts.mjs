@@ -224,6 +224,7 @@ const UNREAD_TEXTS = [
   ["columns in another order", "P1      P0\nx = 1   y = 1\na = y   b = x\n"],
   ["a comment that may be a fence", "Thread 1              Thread 2\nx = 1                 y = 1\n// MFENCE             // MFENCE\nr1 = y                r2 = x\n"],
   ["a comment that may end in the next column", "P0          P1\nx = 1 // ab y = 1\nr1 = y      r2 = x\n"],
+  ["events of a run", "P0: Wx=1; Ry=0\nP1: Wy=1; Rx=0\n"],
   ["initial words in a sentence", "Assume x and y start at 3.\nP0      P1\nx = 2   r1 = y\ny = 3   r2 = x\n"],
   ["initial words with colons", "x: 1, y: 0\nP0      P1\nx = 2   r1 = y\ny = 3   r2 = x\n"],
   ["tabs that mean two columns", "P0\tP1\tP2\nx = 1\tr1 = x\tr3 = y\nflag0 = 1\ty = 1\n"],
