@@ -47,6 +47,8 @@ const GO = /^(?:package\s+\w+[ \t]*\r?(?:\n|$)|func\s+\w*\()/;
 const CPP = /\bstd::|<atomic>|\batomic<|\busing\s|\bnamespace\b/;
 const IS_READ = "The page reads C, C++, Rust and x86 assembly.";
 const THREAD_IN_C = /^(?:X86|SRC)\s(?:[^{]*\{[^}]*\})?\s*P0\s*[({]/;
+// The row of the threads' names.
+const NAMES_ROW = /^[ \t]*P0[ \t]*[|;]/m;
 /** The sentence on the types of initial values. */
 export const NO_TYPES = "The initial values have no types.";
 // Words that declare the type of a location.
@@ -199,7 +201,7 @@ export function explainMissingFront(place) {
   // Before a block a thread's name is read as that of a note, and the fault is after it.
   const hasThreads = token === "P0" || (/\bP0\s*$/.test(front) && /^[|;]$/.test(token));
   const begin = text.lastIndexOf("\n", hasThreads && token !== "P0" ? front.lastIndexOf("P0") : index - 1) + 1;
-  if (!front.trim() && /^(?:\{|P0)$/.test(token)) {
+  if (!front.trim() && /^(?:\{|P0)$/.test(token) && NAMES_ROW.test(text)) {
     const language = isAllIn("SRC", text) ? "SRC" : "X86";
     place.proposeChange(`${language} Mine\n${token === "{" ? "" : "{}\n"}`, begin, begin);
     place.change.title = "Put in a first line";
