@@ -33,6 +33,7 @@ const KEYWORDS = new Set("if else while int void volatile assert smp_mb smp_rmb 
 // What is said of pseudo code.
 const OF_ACCESSES = "This is pseudo code: each access of a name that threads share is one load or one store.";
 const OF_ATOMICS = " Those of atomic variables are as gcc and clang compile them.";
+const OF_LOCKED = " Exchanges, additions and compare-exchanges by name are locked instructions.";
 const OF_SECTION = " A critical section is an addition to `critical` here";
 const OF_LOST = ": the question is whether one is lost, since two threads are in theirs at once.";
 const OF_STAYING = " The question is whether all are in the critical section at once.";
@@ -110,7 +111,9 @@ function declareShared(codes, own, initial) {
   return shared.map((name) => {
     const used = codes.join(" ").matchAll(new RegExp(`(?<!\\w)${name}\\[(\\d)\\]`, "g"));
     const indices = [...used].map(([, index]) => Number(index));
-    const isAtomic = codes.some((it) => new RegExp(`(?<!\\w)${name}(?:\\.|->)|&${name}\\b`).test(it));
+    const isOneOf = (pattern) => codes.some((it) => new RegExp(pattern).test(it));
+    if (isOneOf(`pthread_mutex_\\w+\\(&${name}\\b`)) return `pthread_mutex_t ${name};`;
+    const isAtomic = isOneOf(`(?<!\\w)${name}(?:\\.|->)|(?<!__sync_\\w{0,30}\\()&${name}\\b`);
     if (isAtomic) return `std::atomic<int> ${name}{${initial.get(name) ?? 0}};`;
     if (!indices.length) return `volatile int ${name} = ${initial.get(name) ?? 0};`;
     const given = initial.get(name);
@@ -211,7 +214,8 @@ export function explainPseudoProgram(text) {
   const sections = test.section.includes("critical") ? `${OF_SECTION}${test.asked ? "." : OF_LOST}` : test.section && !test.asked ? OF_STAYING : "";
   const change = { begin: 0, end: text.length, text: test.made, title: "Make x86 code of it", done: "Rewritten." };
   const isAsked = test.asked !== "" && !QUESTION.test(text);
-  const atomics = test.program.includes("std::atomic<") ? OF_ATOMICS : "";
+  const locked = test.program.includes("__sync_") ? OF_LOCKED : "";
+  const atomics = (test.program.includes("std::atomic<") ? OF_ATOMICS : "") + locked;
   return { words: `${OF_ACCESSES}${atomics}${sections}${explainMade(test)}`, change, isOffer: true, isAsked };
 }
 

@@ -40,6 +40,15 @@ const CODE_WITH_CALL = /^(?:\w+\s*=\s*)?[\w\s()[\]&+.,:>-]+$/;
 const ORDER = /(?<![\w:])(?:mo_|memory_order_)?(relaxed|consume|acquire|release|acq_rel|seq_cst)\b/g;
 const KERNEL_LOAD = /\b(?:READ_ONCE|smp_load_acquire)\s*\(\s*&?(\w+)\s*\)/g;
 const KERNEL_STORE = /^(?:WRITE_ONCE|smp_store_release)\s*\(\s*&?(\w+)\s*,\s*(.+)\)$/;
+// Instructions of processors in pseudo code, with what does the same in C; and a lock that a thread gets or gives back.
+const ATOMICS = [
+  [/\b(?:TestAndSet|test_and_set|TAS)\s*\(\s*&?(\w+)\s*\)/gi, "__sync_lock_test_and_set(&$1, 1)"],
+  [/\b(?:exchange|xchg|atomic_swap|get_?and_?set)\s*\(\s*&?(\w+)\s*,\s*(\w+)\s*\)/gi, "__sync_lock_test_and_set(&$1, $2)"],
+  [/\b(?:fetch_?and_?add|fetch_add|FAA|get_?and_?add)\s*\(\s*&?(\w+)\s*,\s*(\w+)\s*\)/gi, "__sync_fetch_and_add(&$1, $2)"],
+  [/\b(?:CAS|compare_?and_?(?:swap|set))\s*\(\s*&?(\w+)\s*,\s*(\w+)\s*,\s*(\w+)\s*\)/gi, "__sync_bool_compare_and_swap(&$1, $2, $3)"],
+];
+const BUILTIN = /^(?:\w+ ?=(?!=) ?)?__sync_\w+\(&\w+(?:, \w+)*\)$/;
+const LOCK = /^(un)?lock\s*\(\s*&?(\w+)\s*\)$|^(?:acquire|(release))\s*\(\s*&?(\w+)\s*\)$/i;
 // Names of the C code that pseudo code can't have.
 const TAKEN = /\b(?:critical|inside\d|printed\d)\b/;
 
@@ -60,13 +69,18 @@ function nameOrders(code) {
   return code.replace(ORDER, "std::memory_order_$1");
 }
 
+/** Returns code in which instructions of processors are functions of C. */
+function nameAtomics(code) {
+  return ATOMICS.reduce((all, [pattern, call]) => all.replace(pattern, call), code);
+}
+
 /**
  * Returns a condition as C writes it. Throws Unread if it is something else.
  * @param {string} code
  * @returns {string}
  */
 export function toCondition(code) {
-  const condition = toC(code.replace(KERNEL_LOAD, "$1")).replace(/(?<![=!<>])=(?!=)/g, "==");
+  const condition = toC(nameAtomics(code.replace(KERNEL_LOAD, "$1"))).replace(/(?<![=!<>])=(?!=)/g, "==");
   if (!CONDITION.test(condition) || !condition.trim() || TAKEN.test(condition)) throw new Unread();
   return nameOrders(condition);
 }
@@ -206,6 +220,8 @@ export class StatementWriter {
     if (shown) return `printed${this.number}${(this.printed += 1) > 1 ? `_${this.printed}` : ""} = ${shown};`;
     const [, asserted] = /^assert\b\s*(.+)$/i.exec(code) ?? [];
     if (asserted) return `assert(${toCondition(asserted)});`;
+    const [locked, isUnlocked, mutex, isReleased, other = mutex] = LOCK.exec(code) ?? [];
+    if (locked) return `pthread_mutex_${isUnlocked || isReleased ? "unlock" : "lock"}(&${other});`;
     const [, counted] = /^([A-Za-z_]\w*)\s*\+\+$/.exec(code) ?? [];
     if (counted) return `${counted}++;`;
     const [, type, name] = /^((?:const\s+)?(?:auto|int|unsigned|bool|long)\s+)(\w+)\s*=/.exec(code) ?? [];
@@ -226,8 +242,10 @@ function writeAssignment(code) {
   const [, to, from] = MOVE.exec(code) ?? [];
   const clean = (it) => it.replace(/^\[\s*_?(\w+)\s*\]$|^\$?(\w+)$/, "$1$2");
   const [, stored, word] = KERNEL_STORE.exec(code) ?? [];
-  const plain = to ? `${clean(to)} = ${clean(from)}` : stored ? `${stored} = ${word}` : code.replace(KERNEL_LOAD, "$1");
+  const plain = to ? `${clean(to)} = ${clean(from)}` : stored ? `${stored} = ${word}` : nameAtomics(code.replace(KERNEL_LOAD, "$1"));
   if (TAKEN.test(plain)) throw new Unread();
+  const call = toC(plain).replace(/\s*=\s*/, " = ");
+  if (BUILTIN.test(call)) return `${call};`;
   if (CALL.test(plain) && CODE_WITH_CALL.test(plain)) return `${nameOrders(plain).replace(/^(\w+)\s*=\s*/, "$1 = ")};`;
   const [, name, sign, value] = ASSIGNMENT.exec(toC(plain)) ?? [];
   if (!name || !EXPRESSION.test(value) || /[\w\])]\s+[\w(]/.test(value)) throw new Unread();

@@ -14,6 +14,7 @@ const ATOMICS = " Those of atomic variables are as gcc and clang compile them.";
 const LOST = " A critical section is an addition to `critical` here: the question is whether one is lost, since two threads are in theirs at once.";
 const STAYING = " The question is whether all are in the critical section at once.";
 const WAITING = " A loop that waits is one pass here: states in which it has not ended are in the list, too, and the question leaves them out.";
+const LOCKED = " Exchanges, additions and compare-exchanges by name are locked instructions.";
 const GUESS = " The question is a guess: change it to yours.";
 const UNREAD = /is not expected here\. A test is `SRC` or `X86` and a name,|A test begins with `SRC` or `X86`\./;
 
@@ -103,6 +104,24 @@ const TEXTS = [
   ["cells between bars", "P0 | P1 | P2\nx = 1 | if x == 1 then y = 1 | while y == 0 do skip\n | | print x\n",
     `${ACCESSES}${WAITING}${GUESS}`,
     "X86 Mine\n(* 2:EAX is y after its loop, 2:EBX is printed2 *)\n{ x=0; y=0; }\n P0         | P1          | P2          ;\n MOV [x],$1 | MOV EAX,[x] | MOV EAX,[y] ;\n            | CMP EAX,$1  | MOV EBX,[x] ;\n            | JNE END     |             ;\n            | MOV [y],$1  |             ;\n            | END:        |             ;\nexists (~2:EAX=0 /\\ 2:EBX=0)\n"],
+  ["locks", "Thread 1                 Thread 2\nlock(m)                  lock(m)\nx = x + 1                x = x + 1\nunlock(m)                unlock(m)\n",
+    `${ACCESSES} A mutex is a word that \`XCHG\` takes and gives back: states in which a thread did not get it are in the list, too, and the question leaves them out.${GUESS}`,
+    "X86 Mine\n(* 0:EAX is m at its lock, 1:EAX is m at its lock *)\n{ m=0; x=0; }\n P0           | P1           ;\n MOV EAX,$1   | MOV EAX,$1   ;\n XCHG [m],EAX | XCHG [m],EAX ;\n MOV EBX,[x]  | MOV EBX,[x]  ;\n ADD EBX,$1   | ADD EBX,$1   ;\n MOV [x],EBX  | MOV [x],EBX  ;\n MOV EBX,$0   | MOV EBX,$0   ;\n XCHG [m],EBX | XCHG [m],EBX ;\nexists (0:EAX=0 /\\ 1:EAX=0 /\\ ~x=2)\n"],
+  ["a test-and-set that waits", "P0:                          \n  while TestAndSet(lock): skip\n  critical section\n  lock = false\nP1:\n  while TestAndSet(lock): skip\n  critical section\n  lock = false\n",
+    `${ACCESSES}${LOCKED}${LOST}${WAITING}`,
+    "X86 Mine\n(* 0:EAX is lock at its lock, 1:EAX is lock at its lock *)\n{ lock=0; critical=0; }\n P0                 | P1                 ;\n MOV EAX,$1         | MOV EAX,$1         ;\n XCHG [lock],EAX    | XCHG [lock],EAX    ;\n MOV EBX,[critical] | MOV EBX,[critical] ;\n ADD EBX,$1         | ADD EBX,$1         ;\n MOV [critical],EBX | MOV [critical],EBX ;\n MOV [lock],$0      | MOV [lock],$0      ;\nlocations [lock]\nexists (0:EAX=0 /\\ 1:EAX=0 /\\ critical=1)\n"],
+  ["a compare-exchange that is tried", "Thread 1:\n  if CAS(lock, 0, 1):\n    critical section\n    lock = 0\nThread 2:\n  if CAS(lock, 0, 1) then\n    critical section\n    lock = 0\n",
+    `${ACCESSES}${LOCKED}${LOST} A compare-exchange is an \`XCHG\` here, which does the same, since its variable has no third word.`,
+    "X86 Mine\n(* 0:EAX is lock_before, 0:EBX is inside0, 1:EAX is lock_before, 1:EBX is inside1 *)\n{ lock=0; critical=0; }\n P0                 | P1                 ;\n MOV EAX,$1         | MOV EAX,$1         ;\n XCHG [lock],EAX    | XCHG [lock],EAX    ;\n CMP EAX,$0         | CMP EAX,$0         ;\n JNE END            | JNE END            ;\n MOV EBX,$1         | MOV EBX,$1         ;\n MOV ECX,[critical] | MOV ECX,[critical] ;\n ADD ECX,$1         | ADD ECX,$1         ;\n MOV [critical],ECX | MOV [critical],ECX ;\n MOV [lock],$0      | MOV [lock],$0      ;\n END:               | END:               ;\nlocations [lock]\nexists (0:EBX=1 /\\ 1:EBX=1 /\\ critical=1)\n"],
+  ["an addition and an exchange by name", "T1                    T2\nr1 = fetch_and_add(x, 1)   r2 = FAA(x, 2)\ny = exchange(z, 1)    TAS(z)\n",
+    `${ACCESSES}${LOCKED} The question \`true\` holds always: look at the list of states.`,
+    "X86 Mine\n(* 0:EAX is r1, 0:EBX is y, 1:EAX is r2 *)\n{ x=0; z=0; }\n P0                | P1                ;\n MOV EAX,$1        | MOV EAX,$2        ;\n LOCK XADD [x],EAX | LOCK XADD [x],EAX ;\n MOV EBX,$1        | MOV EBX,$1        ;\n XCHG [z],EBX      | XCHG [z],EBX      ;\nlocations [0:EAX; 0:EBX; 1:EAX; x; z]\nexists (true)\n"],
+  ["a compare-exchange that waits", "Initially lock = 0, n = 0\nP0                        P1\nwhile CAS(lock, 0, 1) = false do skip     while not CAS(lock, 0, 1) do skip\n",
+    `${ACCESSES}${LOCKED}${WAITING} The question only leaves out states in which a thread still waits: look at the list of states.`,
+    "X86 Mine\n(* 0:EAX is lock at its lock, 1:EAX is lock at its lock *)\n{ lock=0; }\n P0              | P1              ;\n MOV EAX,$1      | MOV EAX,$1      ;\n XCHG [lock],EAX | XCHG [lock],EAX ;\nlocations [lock]\nexists (0:EAX=0 /\\ 1:EAX=0)\n"],
+  ["a compare-exchange of a third word", "P0:\n r1 = CAS(x, 0, 1)\nP1:\n r2 = CAS(x, 0, 2)\n",
+    `This is pseudo code, which the page would rewrite as an x86 test, but not \`r1 = __sync_bool_compare_and_swap(&x, 0,..\`: a compare-exchange is rewritten if its variable is only ever set to the two constants that it names.`,
+    null],
   ["a negation of a comparison", "P0:\n x = 2\nP1:\n if not x == 1 then y = 1\n",
     `${ACCESSES} The question \`true\` holds always: look at the list of states.`,
     "X86 Mine\n{ x=0; y=0; }\n P0         | P1          ;\n MOV [x],$2 | MOV EAX,[x] ;\n            | CMP EAX,$1  ;\n            | JE END      ;\n            | MOV [y],$1  ;\n            | END:        ;\nlocations [y]\nexists (true)\n"],
