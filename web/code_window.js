@@ -35,15 +35,16 @@ function countHiddenLines(code) {
 }
 
 /**
- * Returns how much of the codes of a machine is cut: the largest number of lines that have no room, and far more if a line is too long.
+ * Returns how much of the codes of a machine is cut: the largest number of lines that have no room, and far more for each line that is too long.
  * @param {Element} machine
  * @returns {number}
  */
 export function measureCut(machine) {
   const codes = [...machine.querySelectorAll(".code")];
   for (const code of codes) code.style.paddingBottom = "";
-  const isTooLong = codes.some((it) => it.scrollWidth > it.clientWidth + 1);
-  return Math.max(0, ...codes.map(countHiddenLines)) + (isTooLong ? TOO_LONG : 0);
+  const lines = codes.filter((it) => it.scrollWidth > it.clientWidth + 1).flatMap((it) => [...it.querySelectorAll(".line")]);
+  const tooLong = lines.filter((it) => it.scrollWidth > it.clientWidth + 1).length;
+  return Math.max(0, ...codes.map(countHiddenLines)) + tooLong * TOO_LONG;
 }
 
 /**

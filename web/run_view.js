@@ -27,13 +27,13 @@ const LISTED = [
 const SEEN = 0.9;
 const LOOKS = 20;
 // How a machine may be drawn, by its classes, the best first: as large as the window allows; if its code has no room then, with the store buffer beside
-// the code, in smaller type, with low lines and entries, with lines close to each other; and if a part of it is out of sight even so, below a condition that
-// is cut to one line.
+// the code, in smaller type, with low lines and entries, with lines close to each other, in fine type; and if a part of it is out of sight even so, below a
+// condition that is cut to one line.
 const WAYS = [
-  "", "beside", "small", "beside small", "small low", "beside small low", "beside small low close", "small low cramped", "beside small low cramped",
-  "beside small low close cramped",
+  "", "beside", "small", "beside small", "small low", "beside small low", "beside small low close", "fine small", "fine small low", "fine small low close",
+  "small low cramped", "beside small low cramped", "beside small low close cramped", "fine small low close cramped",
 ];
-const KINDS = WAYS.at(-1).split(" ");
+const KINDS = [...new Set(WAYS.join(" ").split(" "))].filter(Boolean);
 // More lines than any code has, for a machine that is out of sight in part.
 const OUT_OF_SIGHT = 10000;
 // The largest number of steps of a run whose sentences are measured.
