@@ -28,7 +28,8 @@ const KEYS = [
 const WHAT =
   "lw answers a question about a small parallel program, a litmus test: in which states can it end? On x86 a store waits in its processor's " +
   "store buffer, while loads after it go ahead; so there are final states that no interleaving explains. It is for students of concurrency and " +
-  "for programmers of lock-free code.";
+  "for programmers of lock-free code. A test has at most four threads, eight locations, and six registers a thread; jumps go forward only, and there " +
+  "is no general compare-and-swap.";
 const OWN =
   "To try code of your own, put it in place of the text: a test, x86 instructions, or a small program in C, C++ or Rust, of which a button makes a test.";
 const PROVED = "Reports, schedules, compiled texts and each step of a run come from a program that is proved correct";

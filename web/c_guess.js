@@ -62,9 +62,10 @@ function listLostAdditions({ words }, accesses, isSure = true) {
  */
 export function guessQuestion(program, writers, accesses) {
   const lost = listLostAdditions(program, accesses);
-  if (lost.length) return `exists (${formatFormula({ sign: "\\/", parts: lost })})`;
+  // These are defects.
+  if (lost.length) return `~exists (${formatFormula({ sign: "\\/", parts: lost })})`;
   const entered = askOfEntered(program, writers, accesses);
-  if (entered) return `exists (${entered})`;
+  if (entered) return `~exists (${entered})`;
   if (!writers.some((it) => it.loadedBranches.length)) {
     const loads = writers.map((writer) => {
       const awaited = writer.waits.flatMap(listNames);

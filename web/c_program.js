@@ -182,20 +182,20 @@ function writeTest(text) {
   checkRepeated(program, writers, accesses);
   const ends = writers.flatMap((it) => it.waits);
   const whole = asked || guessQuestion(program, writers, accesses);
-  const question = ends.length ? limitQuestion(whole, ends) ?? refusePart(program.question, OF_QUESTION) : whole;
+  const isOpen = !asked && whole.endsWith("(true)");
+  const question = ends.length && !isOpen ? limitQuestion(whole, ends) ?? refusePart(program.question, OF_QUESTION) : whole;
   const list = formatList(question, !asked, accesses, sites.map((it) => it.site));
   const made = alignCells(`X86 ${program.name}\n${comment}{ ${block}}\n${formatRows(writers)}${list}${question}\n`);
   const isWide = checkWide(program, writers, used);
   const isWaiting = writers.some((it) => it.isWaiting);
   const isSwapping = writers.some((it) => it.pairs.some(({ isSingle }) => isSingle));
   const isLocking = accesses.some((it) => it.isMutex && !it.isSpin);
-  const isOpen = !asked && whole.endsWith("(true)");
   return { made, isGuess: !asked, isOpen, races: listRaces(accesses), isWaiting, isSwapping, isLocking, isWide, isRepeated: Boolean(program.repeated) };
 }
 
 /**
- * Returns the x86 test of a program in C or C++, or of a test of herd in C, and whether its question is a guess, since the program asks nothing, or asks
- * at most that no thread waits any more (`isOpen`); the names of plain variables on which threads race; whether one pass is in place of a loop that
+ * Returns the x86 test of a program in C or C++, or of a test of herd in C, and whether its question is a guess, since the program asks nothing, or is
+ * `true`, since there is none to guess (`isOpen`); the names of plain variables on which threads race; whether one pass is in place of a loop that
  * waits; whether an exchange is in place of a compare-exchange (`isSwapping`); whether a location is in place of a mutex; whether words of 32 bits are
  * in place of those of 64; and whether a run is in place of a loop of them. Or returns why it is not rewritten: a part of it, with its index, and the
  * end of a sentence; or without an index why lw refuses the test.

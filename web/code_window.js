@@ -9,6 +9,7 @@ const COLUMNS = 2;
 const MIN_LINES = 3;
 // More than a machine that is out of sight: what a line lacks can't be scrolled into sight.
 const TOO_LONG = 100000;
+const LONG_LINE = 50;
 // The empty space below a machine, in pixels.
 const MARGIN = 14;
 
@@ -35,7 +36,8 @@ function countHiddenLines(code) {
 }
 
 /**
- * Returns how much of the codes of a machine is cut: the largest number of lines that have no room, and far more for each line that is too long.
+ * Returns how much of the codes of a machine is cut: the largest number of lines that have no room, more for each line that is too long, and far more if
+ * there is one.
  * @param {Element} machine
  * @returns {number}
  */
@@ -44,7 +46,7 @@ export function measureCut(machine) {
   for (const code of codes) code.style.paddingBottom = "";
   const lines = codes.filter((it) => it.scrollWidth > it.clientWidth + 1).flatMap((it) => [...it.querySelectorAll(".line")]);
   const tooLong = lines.filter((it) => it.scrollWidth > it.clientWidth + 1).length;
-  return Math.max(0, ...codes.map(countHiddenLines)) + tooLong * TOO_LONG;
+  return Math.max(0, ...codes.map(countHiddenLines)) + tooLong * LONG_LINE + (tooLong ? TOO_LONG : 0);
 }
 
 /**

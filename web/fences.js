@@ -6,7 +6,7 @@ import { el, makeButton, makePlainMark, renderSentence } from "./dom.js";
 import { insertFencesInText } from "./fence_edit.js";
 import { Film, makeWatchButton } from "./film.js";
 import * as guess from "./guess.js";
-import { describeMapping } from "./register_names.js";
+import { describeMapping, listVariables } from "./register_names.js";
 import { isTooLong, makeSearchOffer } from "./search.js";
 import { showError, clearFault } from "./errors.js";
 import { blankComments } from "./tokens.js";
@@ -15,6 +15,9 @@ const MAX_SHOWN = 4;
 // The search for further fences that nobody has asked for: how many lists it may make, and after how many milliseconds it begins no further one.
 const AT_ONCE = { lists: 16, milliseconds: 1000 };
 const REACHABLE = "What is asked about is reachable with all locks. Once fences forbid it, a lock that changes nothing here may be needed: ask again then.";
+const IN_PROGRAM =
+  "In the program this fence is `std::atomic_thread_fence(std::memory_order_seq_cst)` at that place; or the last store before it becomes seq_cst, which " +
+  "is an `XCHG` on x86.";
 const TOGETHER = "Two that change nothing alone may matter together.";
 const BY_CLICK = "In Watch and By hand “+ fence” puts a fence between two instructions, where the pointer is, and “✕ fence” takes it out.";
 
@@ -197,7 +200,8 @@ export class Fences {
     const others = more ? [el("p", { class: "small" }, `And ${more} other sets of as many fences.`)] : [];
     const head = el("p", { class: "next-step" }, el("b", {}, `The fewest fences that ${goal}:`));
     const note = el("p", { class: "small" }, "The page itself puts the fences into the text ", makePlainMark(), ". The lists come from lw.");
-    return [head, el("ul", { class: "fence-sets" }, rows), ...others, note];
+    const inProgram = listVariables(this.editor.text).size ? el("p", {}, renderSentence(IN_PROGRAM)) : null;
+    return [head, el("ul", { class: "fence-sets" }, rows), ...others, ...(inProgram ? [inProgram] : []), note];
   }
 
   /** Says why there is no table, and offers a search if it would take too long. */

@@ -31,14 +31,12 @@ const OF_GUESS = " The question is a guess: change it to yours.";
 const OF_BUTTON =
   "The button makes an x86 test of it: each access as gcc and clang compile it, in the order of the program. That is not proved, and a compiler may " +
   "also reorder or merge relaxed and plain accesses.";
-const OF_WAITING =
-  " A loop that waits is one pass here: states in which it has not ended are in the list, too, and the question leaves them out.";
+const OF_WAITING = " A loop that waits is one pass here: states in which it has not ended are in the list, too";
 const OF_SWAPPING = " A compare-exchange is an `XCHG` here, which does the same, since its variable has no third word.";
-const OF_LOCKING =
-  " A mutex is a word that `XCHG` takes and gives back: states in which a thread did not get it are in the list, too, and the question leaves them out.";
+const OF_LOCKING = " A mutex is a word that `XCHG` takes and gives back: states in which a thread did not get it are in the list, too";
+const LEFT_OUT = ", and the question leaves them out";
 const OF_WIDE = " Words of 64 bits are words of 32 bits here, which no sum of this program exceeds.";
 const OF_REPEATED = " The loop in `main` is one run here, which is enough, since the page lists all final states.";
-const OPEN = " The question only leaves out states in which a thread still waits: look at the list of states.";
 const NOT_ASKED = " The question `true` holds always: look at the list of states.";
 // How programs in Rust, Java and Go begin, what only C++ has, and how a thread in C begins.
 const RUST = /^\s*(?:use\b|(?:unsafe\s+)?fn\b|pub\b|(?:static|const)\s+(?:mut\s+)?\w+\s*:|extern\s+crate\b|mod\s+\w+\s*\{|#!?\[)/;
@@ -91,8 +89,9 @@ function explainProgram(words, text, place) {
  * @returns {string}
  */
 export function explainMade({ made, isGuess, isOpen, races, isWaiting, isSwapping, isLocking, isWide, isRepeated }) {
-  const parts = [[isWaiting, OF_WAITING], [isSwapping, OF_SWAPPING], [isLocking, OF_LOCKING], [isWide, OF_WIDE], [isRepeated, OF_REPEATED]];
-  const question = made.endsWith("(true)\n") ? NOT_ASKED : isOpen ? OPEN : isGuess ? OF_GUESS : "";
+  const end = `${isOpen ? "" : LEFT_OUT}.`;
+  const parts = [[isWaiting, OF_WAITING + end], [isSwapping, OF_SWAPPING], [isLocking, OF_LOCKING + end], [isWide, OF_WIDE], [isRepeated, OF_REPEATED]];
+  const question = made.endsWith("(true)\n") ? NOT_ASKED : isGuess ? OF_GUESS : "";
   return `${explainRaces(races)}${parts.map(([isSo, sentence]) => (isSo ? sentence : "")).join("")}${question}`;
 }
 

@@ -168,7 +168,7 @@ function askOfSections(writers) {
   // Who does nothing after its section stays in it.
   const isStaying = sections.every((it) => it.isBranched && !it.isAfterSection);
   const parts = isStaying ? entered : [...entered, lost.length > 1 ? `(${lost.join(" \\/ ")})` : lost[0]];
-  return `exists (${parts.join(" /\\ ")})`;
+  return `~exists (${parts.join(" /\\ ")})`;
 }
 
 /** Returns statements without what the question on critical sections does not need. */

@@ -224,7 +224,7 @@ const MAINS = [
   ["std::mutex m; int n; int r1;\n", `for (;;) { n = 0; std::thread a([&] { m.lock(); n++; m.unlock(); }), b([&] { std::scoped_lock g(m); n++; r1 = 2; }); a.join(); b.join(); }`,
     ["MOV EAX,$1; XCHG [m],EAX; MOV EBX,[n]; ADD EBX,$1; MOV [n],EBX; MOV EBX,$0; XCHG [m],EBX",
       "MOV EAX,$1; XCHG [m],EAX; MOV ECX,[n]; ADD ECX,$1; MOV [n],ECX; MOV EBX,$2; MOV ECX,$0; XCHG [m],ECX"],
-    "exists (0:EAX=0 /\\ 1:EAX=0 /\\ ~n=2)"],
+    "~exists (0:EAX=0 /\\ 1:EAX=0 /\\ ~n=2)"],
   [`${ATOMICS}// lw: exists (r1=7)\n`, `${TWO_THREADS} ${JOINS} assert(r1 == 0);`, STORE_THEN_LOAD, "exists (0:EAX=7)"],
 ];
 // What is refused in a `main`: a part of the program, what is in its place, and why.
@@ -922,7 +922,7 @@ void P1() { y = 1; if (x == 0) r1 = 1; }
  MOV EBX,$1  | MOV EBX,$1  ;
  END:        | END:        ;
 locations [0:EBX; 1:EBX]
-exists (0:EAX=0 /\\ 1:EAX=0)
+~exists (0:EAX=0 /\\ 1:EAX=0)
 `],
   ["no question, and branches that take back what keeps others out", `std::atomic<int> x, y; int n;
 void P0() { x.store(1, std::memory_order_relaxed); if (y.load() == 0) { n++; x.store(0, std::memory_order_release); } }
@@ -940,7 +940,7 @@ void P1() { y.store(1, std::memory_order_relaxed); if (!x.load()) { n += 1; y.st
  MOV [n],EBX | MOV [n],EBX ;
  MOV [x],$0  | MOV [y],$0  ;
  END:        | END:        ;
-exists (0:EAX=0 /\\ 1:EAX=0 /\\ ~n=2)
+~exists (0:EAX=0 /\\ 1:EAX=0 /\\ ~n=2)
 `],
   ["no question, and branches that only take back", `volatile int x, y;
 void P0() { x = 1; if (!y) x = 0; }
@@ -1101,7 +1101,7 @@ int main() { std::thread t1(inc); std::thread t2(inc); t1.join(); t2.join(); std
  MOV [counter],EBX | MOV [counter],EBX ;
  MOV EBX,$0        | MOV EBX,$0        ;
  XCHG [m],EBX      | XCHG [m],EBX      ;
-exists (0:EAX=0 /\\ 1:EAX=0 /\\ ~counter=2)
+~exists (0:EAX=0 /\\ 1:EAX=0 /\\ ~counter=2)
 `],
   ["no question, and a mutex of POSIX", `#include <pthread.h>
 pthread_mutex_t m = PTHREAD_MUTEX_INITIALIZER;
@@ -1119,7 +1119,7 @@ int main() { pthread_t a, b; pthread_mutex_init(&m, NULL); pthread_create(&a, NU
  MOV [n],EBX  | MOV [n],EBX  ;
  MOV EBX,$0   | MOV EBX,$0   ;
  XCHG [m],EBX | XCHG [m],EBX ;
-exists (0:EAX=0 /\\ 1:EAX=0 /\\ ~n=2)
+~exists (0:EAX=0 /\\ 1:EAX=0 /\\ ~n=2)
 `],
   ["no question, and Peterson's lock", `#include <stdatomic.h>
 atomic_int flag[2];
@@ -1145,7 +1145,7 @@ void P1(void) { atomic_store(&flag[1], 1); atomic_store(&turn, 0); while (atomic
  MOV ECX,$0        | MOV ECX,$0        ;
  XCHG [flag_0],ECX | XCHG [flag_1],ECX ;
 locations [turn]
-exists ((0:EAX=0 \\/ ~0:EBX=1) /\\ (~1:EAX=1 \\/ ~1:EBX=0) /\\ ~n=2)
+~exists ((0:EAX=0 \\/ ~0:EBX=1) /\\ (~1:EAX=1 \\/ ~1:EBX=0) /\\ ~n=2)
 `],
   ["Peterson's lock, released", `#include <atomic>
 #include <thread>
@@ -1187,7 +1187,7 @@ void P1() { while (l.exchange(true, std::memory_order_acquire)) { while (l.load(
  MOV [n],EBX  | MOV [n],EBX  ;
  MOV [l],$0   | MOV [l],$0   ;
 locations [l]
-exists (0:EAX=0 /\\ 1:EAX=0 /\\ ~n=2)
+~exists (0:EAX=0 /\\ 1:EAX=0 /\\ ~n=2)
 `],
   ["no question, and a loop that compares three loads", `#include <stdatomic.h>
 atomic_int a, b, d;
@@ -1228,8 +1228,8 @@ void P1() { std::unique_lock<std::mutex> g(m); x = 1; n++; g.unlock(); x = 2; }
  JMP END        | XCHG [x],EBX ;
  L1: MOV [n],$5 |              ;
  END:           |              ;
-locations [n]
-exists (0:EAX=0 /\\ 1:EAX=0)
+locations [0:EAX; 1:EAX; n]
+exists (true)
 `],
   ["no question, and loops that exchange by builtins", `#include <pthread.h>
 volatile int lock; int n;
@@ -1246,7 +1246,7 @@ void P1(void) { while (__sync_lock_test_and_set(&lock, 1)) while (lock) continue
  MOV [n],EBX     | MOV [n],EBX     ;
  MOV [lock],$0   | MOV [lock],$0   ;
 locations [lock]
-exists (0:EAX=0 /\\ 1:EAX=0 /\\ ~n=2)
+~exists (0:EAX=0 /\\ 1:EAX=0 /\\ ~n=2)
 `],
   ["no question, and types of other sizes", `#include <atomic>
 std::atomic<long> counter{0}; static volatile unsigned long seq; std::uint8_t on; std::atomic<std::size_t> ready;
@@ -1412,7 +1412,7 @@ void t2() { lock(l1); n++; unlock(l1); }
  MOV [l2],$0   |               ;
  MOV [l1],$0   |               ;
 locations [l1]
-exists (0:EAX=0 /\\ 0:EBX=0 /\\ 1:EAX=0 /\\ ~n=2)
+~exists (0:EAX=0 /\\ 0:EBX=0 /\\ 1:EAX=0 /\\ ~n=2)
 `],
   ["no question, and a function in the condition of a loop", `std::atomic_flag f = ATOMIC_FLAG_INIT; int n;
 bool try_lock() { return !f.test_and_set(std::memory_order_acquire); }
@@ -1430,7 +1430,7 @@ void b() { while (!try_lock()) { std::this_thread::yield(); } n++; unlock(); }
  MOV [n],EBX  | MOV [n],EBX  ;
  MOV [f],$0   | MOV [f],$0   ;
 locations [f]
-exists (0:EAX=0 /\\ 1:EAX=0 /\\ ~n=2)
+~exists (0:EAX=0 /\\ 1:EAX=0 /\\ ~n=2)
 `],
   ["no question, and a structure that locks", `#include <atomic>
 struct Spinlock {
@@ -1459,8 +1459,8 @@ void t2() { int a = get(); }
                      | MOV EBX,$8          ;
                      | MOV [l_locked],$0   ;
                      | L1:                 ;
-locations [1:EBX; l_locked; n]
-exists (0:EAX=0 /\\ 1:EAX=0)
+locations [0:EAX; 1:EAX; 1:EBX; l_locked; n]
+exists (true)
 `],
   ["a class that locks two threads by their numbers", `class Peterson {
   std::atomic<bool> flag[2] = {false, false};
@@ -1541,7 +1541,7 @@ void t1() { int me = 1; lock(me); n++; unlock(me); }
  MOV ECX,$0        | MOV ECX,$0        ;
  XCHG [flag_0],ECX | XCHG [flag_1],ECX ;
 locations [turn]
-exists ((0:EAX=0 \\/ ~0:EBX=1) /\\ (1:EAX=0 \\/ ~1:EBX=0) /\\ ~n=2)
+~exists ((0:EAX=0 \\/ ~0:EBX=1) /\\ (1:EAX=0 \\/ ~1:EBX=0) /\\ ~n=2)
 `],
   ["lambdas with numbers", `std::atomic<int> x; int r[2];
 int main() { std::vector<std::thread> ts; for (int i = 0; i < 2; ++i) ts.emplace_back([&, i] { r[i] = x.fetch_add(i + 1); }); for (auto& t : ts) t.join(); assert(r[0] != 1 || r[1] != 1); }
@@ -1569,7 +1569,7 @@ void P1() { bool expected = false; while (!l.compare_exchange_strong(expected, t
  MOV [n],EBX  | MOV [n],EBX  ;
  MOV [l],$0   | MOV [l],$0   ;
 locations [l]
-exists (0:EAX=0 /\\ 1:EAX=0 /\\ ~n=2)
+~exists (0:EAX=0 /\\ 1:EAX=0 /\\ ~n=2)
 `],
   ["no question, and a loop by a compare-exchange that does not lock", `std::atomic<bool> l{false}; int n;
 void P0() { bool expected = false; while (!l.compare_exchange_weak(expected, true)) ; n++; l = false; }
@@ -1603,7 +1603,7 @@ void P1() { while (__sync_val_compare_and_swap(&l, 0, 1) != 0) { __asm__ volatil
  MOV [n],EBX  | MOV [n],EBX  ;
  MOV [l],$0   | MOV [l],$0   ;
 locations [l]
-exists (0:EAX=0 /\\ 1:EAX=0 /\\ ~n=2)
+~exists (0:EAX=0 /\\ 1:EAX=0 /\\ ~n=2)
 `],
   ["no question, and a loop that sets what it expects", `atomic_int l; int n;
 void lock(atomic_int *l) { int expected; do { expected = 0; } while (!atomic_compare_exchange_weak(l, &expected, 1)); }
@@ -1628,7 +1628,7 @@ void P1() { lock(&l); n++; atomic_store(&l, 0); }
  MOV ECX,$0   |              ;
  XCHG [l],ECX |              ;
 locations [l]
-exists (0:EAX=0 /\\ 0:EBX=0 /\\ 1:EAX=0 /\\ ~n=3)
+~exists (0:EAX=0 /\\ 0:EBX=0 /\\ 1:EAX=0 /\\ ~n=3)
 `],
   ["no question, and a loop that declares what it expects", `atomic_int l; int n;
 void lock() { for (;;) { int expected = 0; if (atomic_compare_exchange_weak_explicit(&l, &expected, 1, memory_order_acquire, memory_order_relaxed)) break; cpu_relax(); } }
@@ -1646,7 +1646,7 @@ void P1() { lock(); n++; atomic_store(&l, 0); }
  MOV EBX,$0   | MOV EBX,$0   ;
  XCHG [l],EBX | XCHG [l],EBX ;
 locations [l]
-exists (0:EAX=0 /\\ 1:EAX=0 /\\ ~n=2)
+~exists (0:EAX=0 /\\ 1:EAX=0 /\\ ~n=2)
 `],
   ["a loop by a compare-exchange of a third word", `atomic_int l; int n;
 void P0() { while (!__sync_bool_compare_and_swap(&l, 0, 1)) ; n++; l = 0; }
@@ -1781,7 +1781,7 @@ void P1() { std::scoped_lock<std::mutex, std::mutex> l(m2, m1); a++; b++; }
  XCHG [m2],ECX | XCHG [m1],ECX ;
  MOV ECX,$0    | MOV ECX,$0    ;
  XCHG [m1],ECX | XCHG [m2],ECX ;
-exists (0:EAX=0 /\\ 0:EBX=0 /\\ 1:EAX=0 /\\ 1:EBX=0 /\\ (~a=2 \\/ ~b=2))
+~exists (0:EAX=0 /\\ 0:EBX=0 /\\ 1:EAX=0 /\\ 1:EBX=0 /\\ (~a=2 \\/ ~b=2))
 `],
   ["no question, and locks of two mutexes, and guards of these", `std::mutex m1, m2; int a, b;
 void P0() { std::lock(m1, m2); std::lock_guard<std::mutex> g1(m1, std::adopt_lock); std::lock_guard<std::mutex> g2(m2, std::adopt_lock); a++; }
@@ -1801,7 +1801,7 @@ void P1() { std::unique_lock<std::mutex> g1(m2, std::defer_lock); std::unique_lo
  XCHG [m2],ECX | XCHG [m1],ECX ;
  MOV ECX,$0    | MOV ECX,$0    ;
  XCHG [m1],ECX | XCHG [m2],ECX ;
-exists (0:EAX=0 /\\ 0:EBX=0 /\\ 1:EAX=0 /\\ 1:EBX=0 /\\ ~a=2)
+~exists (0:EAX=0 /\\ 0:EBX=0 /\\ 1:EAX=0 /\\ 1:EBX=0 /\\ ~a=2)
 `],
   ["no question, and spin locks of pthreads", `pthread_spinlock_t s; int n; volatile int x, y;
 void P0() { pthread_spin_lock(&s); n++; pthread_spin_unlock(&s); int r0 = x; }
@@ -1818,7 +1818,7 @@ void P1() { pthread_spin_lock(&s); n++; pthread_spin_unlock(&s); x = 1; }
  MOV [s],$0   | MOV [s],$0   ;
  MOV EBX,[x]  | MOV [x],$1   ;
 locations [0:EBX]
-exists (0:EAX=0 /\\ 1:EAX=0 /\\ ~n=2)
+~exists (0:EAX=0 /\\ 1:EAX=0 /\\ ~n=2)
 `],
   ["a guard of two objects", `struct L { std::atomic<bool> f{false}; void lock() { while (f.exchange(true)); } void unlock() { f = false; } };
 L l, k; int n;
@@ -1913,7 +1913,7 @@ void b() { l.lock(); n++; l.unlock(); }
  ADD ECX,$1             | ADD ECX,$1             ;
  MOV [l_serving],ECX    | MOV [l_serving],ECX    ;
 locations [l_next; l_serving]
-exists ((0:EBX=0 /\\ 0:EAX=0 \\/ 0:EBX=1 /\\ 0:EAX=1) /\\ (1:EBX=0 /\\ 1:EAX=0 \\/ 1:EBX=1 /\\ 1:EAX=1) /\\ ~n=2)
+~exists ((0:EBX=0 /\\ 0:EAX=0 \\/ 0:EBX=1 /\\ 0:EAX=1) /\\ (1:EBX=0 /\\ 1:EAX=0 \\/ 1:EBX=1 /\\ 1:EAX=1) /\\ ~n=2)
 `],
   ["no question, and loops that look and then exchange", `std::atomic<bool> l{false}; int n;
 void lock1() { for (;;) { if (!l.exchange(true, std::memory_order_acquire)) return; while (l.load(std::memory_order_relaxed)) { _mm_pause(); } } }
@@ -1932,7 +1932,7 @@ void P1() { lock2(); n++; l = false; }
  MOV EBX,$0   | MOV EBX,$0   ;
  XCHG [l],EBX | XCHG [l],EBX ;
 locations [l]
-exists (0:EAX=0 /\\ 1:EAX=0 /\\ ~n=2)
+~exists (0:EAX=0 /\\ 1:EAX=0 /\\ ~n=2)
 `],
   ["a loop that looks at another variable and then exchanges", `std::atomic<bool> l{false}, k; int n;
 void lock2() { do { while (k.load(std::memory_order_relaxed)) ; } while (l.exchange(true, std::memory_order_acquire)); }
@@ -2098,8 +2098,8 @@ void b() { if (l.try_lock()) { n++; l.unlock(); } }
                      | MOV [n],EAX         ;
                      | MOV [l_locked],$0   ;
                      | END:                ;
-locations [l_locked; n]
-exists (0:EAX=0)
+locations [0:EAX; l_locked; n]
+exists (true)
 `],
   ["no question, and names of numbers", `enum { IDLE, WANT };
 volatile int flag[2]; volatile int turn;
@@ -2116,8 +2116,8 @@ void P1() { flag[1] = WANT; turn = 0; while (flag[0] == WANT && turn == 0) ; fla
  JNE L1              | JNE L1              ;
  MOV EBX,[turn]      | MOV EBX,[turn]      ;
  L1: MOV [flag_0],$0 | L1: MOV [flag_1],$0 ;
-locations [turn]
-exists ((~0:EAX=1 \\/ ~0:EBX=1) /\\ (~1:EAX=1 \\/ ~1:EBX=0))
+locations [0:EAX; 0:EBX; 1:EAX; 1:EBX; turn]
+exists (true)
 `],
   ["numbers by casts, with `main`", `class Peterson { public: Peterson() : turn(0) { flag[0] = false; flag[1] = false; }
  void enter(int id) { const int other = id ^ 1; flag[id].store(true); turn.store(other); while (flag[other].load() && turn.load() == other) { } }
@@ -2188,7 +2188,7 @@ void P1() { std::lock_guard<sync::SpinLock> g(sl); n++; }
  MOV [n],EBX        | MOV [n],EBX        ;
  MOV [sl_flag],$0   | MOV [sl_flag],$0   ;
 locations [sl_flag]
-exists (0:EAX=0 /\\ 1:EAX=0 /\\ ~n=2)
+~exists (0:EAX=0 /\\ 1:EAX=0 /\\ ~n=2)
 `],
   ["no question, and a name of a type", `using Atom = std::atomic<int>; Atom x{0}, y{0};
 void P0() { x.store(1, std::memory_order_relaxed); int r0 = y.load(std::memory_order_relaxed); }
@@ -2219,7 +2219,7 @@ void P1() { std::lock_guard<Lock> g(m); n++; }
  MOV EBX,$0   |              ;
  XCHG [m],EBX |              ;
 locations [x]
-exists (0:EAX=0 /\\ 1:EAX=0 /\\ ~n=2)
+~exists (0:EAX=0 /\\ 1:EAX=0 /\\ ~n=2)
 `],
   ["no question, and loops whose conditions assign", `std::atomic<int> x; int d;
 void P0() { d = 1; x.store(3, std::memory_order_release); }
@@ -2258,7 +2258,7 @@ void P1() { if (try_lock()) { n++; l = false; } }
  XCHG [l],ECX   | XCHG [l],ECX   ;
  END:           | END:           ;
 locations [0:EAX; 1:EAX; l]
-exists (~0:EBX=0 /\\ ~1:EBX=0 /\\ ~n=2)
+~exists (~0:EBX=0 /\\ ~1:EBX=0 /\\ ~n=2)
 `],
   ["no question, and compare-exchanges in many forms", `std::atomic<int> x{0}; int r1, r2;
 void a() { r1 = __sync_bool_compare_and_swap(&x, 0, 1); }
@@ -2361,7 +2361,7 @@ void P1(void) { atomic_inc(&x); int r = smp_load_acquire(&x); }
  MOV [x],EAX | MOV [x],EBX ;
              | MOV EAX,[x] ;
 locations [1:EAX]
-exists (~x=2)
+~exists (~x=2)
 `],
   ["two functions of one name", `std::atomic<int> x; void f(int a) { x = a; } void f(bool a) { x = a; } void P0() { f(2); }
 `, "`f`: give each function a name of its own"],
