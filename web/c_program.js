@@ -21,7 +21,8 @@ const OF_NOTHING = "nothing sets it";
 const OF_RESULT = "the thread returns a value on some paths only";
 const OF_PATHS = "declare it outside of blocks, with a value, as `int r0 = 0`";
 const OF_ASKED = ": the program asks something else, so leave this out";
-const OF_ENDLESS = ": a loop that waits need not end before this, so assert it at the end of `main`";
+const OF_ENDLESS = ": the thread may still wait after this, in a loop or for a lock, so assert it at the end of `main`";
+const OF_OTHERS = ": another thread may still wait then, in a loop or for a lock, so assert it at the end of `main`";
 const OF_QUESTION = ": a question is `exists (..)`, `~exists (..)` or `forall (..)`";
 const OF_WIDE = ": the page takes words of 64 bits as words of 32, which sums or constants of this program may exceed";
 // A type of 64 bits, which is the group, and one of 32 without a sign.
@@ -105,7 +106,8 @@ function translateQuestion({ words, question: { code, index, source } }, writers
     used.add(site);
     return site;
   };
-  return code.trim().replace(NAME, translateSite).replace(/&&/g, "/\\").replace(/\|\|/g, "\\/").replace(/==/g, "=");
+  const translated = code.trim().replace(NAME, translateSite).replace(/&&/g, "/\\").replace(/\|\|/g, "\\/").replace(/==/g, "=");
+  return translated.replace(/=(\s*)-(\d+)/g, (_, blanks, digits) => `=${blanks}${WORD - Number(digits)}`);
 }
 
 /**
@@ -117,7 +119,8 @@ function askAssertions({ question }, writers) {
   for (const writer of asserting) {
     if (question.code) refusePart(writer.assertion, OF_ASKED);
     const others = writers.filter((it) => it !== writer && it.waits.length);
-    if (others.length || writer.waitCount < writer.waits.length) refusePart(writer.assertion, OF_ENDLESS);
+    if (others.length) refusePart(writer.assertion, OF_OTHERS);
+    if (writer.waitCount < writer.waits.length) refusePart(writer.assertion, OF_ENDLESS);
   }
   return asserting.length ? formatAssertion(asserting.flatMap((it) => it.asserted)) : "";
 }
@@ -190,7 +193,27 @@ function writeTest(text) {
   const isWaiting = writers.some((it) => it.isWaiting);
   const isSwapping = writers.some((it) => it.pairs.some(({ isSingle }) => isSingle));
   const isLocking = accesses.some((it) => it.isMutex && !it.isSpin);
-  return { made, isGuess: !asked, isOpen, races: listRaces(accesses), isWaiting, isSwapping, isLocking, isWide, isRepeated: Boolean(program.repeated) };
+  return { program, made, isGuess: !asked, isOpen, races: listRaces(accesses), isWaiting, isSwapping, isLocking, isWide, isRepeated: Boolean(program.repeated) };
+}
+
+/** Throws why lw refuses a test: if that is its question, NoTest at the question of the program. */
+function checkTest(made, { question: { code, index, source } }) {
+  try {
+    readTest(made);
+  } catch (error) {
+    const others = made.replace(/\n(?:~\s*exists|exists|forall)\b[^]*$/, "\nexists (true)\n");
+    if (!code || source || !isRead(others)) throw error;
+    refusePart({ code: code.trim(), index: index + code.search(/\S|$/) }, `: ${error.message}`);
+  }
+}
+
+/** Returns whether a text is read as a test. */
+function isRead(text) {
+  try {
+    return Boolean(readTest(text));
+  } catch {
+    return false;
+  }
 }
 
 /**
@@ -205,8 +228,8 @@ function writeTest(text) {
  */
 export function rewriteProgram(text) {
   try {
-    const test = writeTest(text);
-    readTest(test.made);
+    const { program, ...test } = writeTest(text);
+    checkTest(test.made, program);
     return test;
   } catch ({ message, index }) {
     return { why: message, index };

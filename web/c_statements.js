@@ -28,6 +28,7 @@ const COMPARISON = /[=!]=|[^=!]=!|<(?!<)|(?<!>)>(?!>)|&&|\|\|/;
 export const OF_FUNCTIONS = ": write what the function does in its place";
 // Why a statement is refused, by a part of it in squeezed code, unless a rule says so.
 const REASONS = [
+  [/^#(?:if|elif|else|endif)/, ": leave out `#if` and its like, with what is not compiled"],
   [/^(?:__)?asm(?:__)?\b|thread_fence/, ": a fence is `atomic_thread_fence(memory_order_seq_cst)`"],
   [/compare_exchange|cmpxchg/, ": the x86 format has no compare-and-swap. `tools/from_c.py` follows it"],
   [/fetch_(?:or|and|xor)/, ": of locked instructions the x86 format has only exchange and addition"],

@@ -23,6 +23,8 @@ const STEP_KINDS = { "+": "fetch_add", "-": "fetch_sub" };
 const SAME_CODE =
   /^(?:load (?:plain|relaxed|consume|acquire)|store (?:plain|relaxed|release)|exchange (?:consume|acquire|acq_rel)|fetch_\w+ \w+|\w+ seq_cst)$/;
 // Why a statement is refused.
+const NO_ORDER = ": no order of memory has this name; they are `relaxed`, `consume`, `acquire`, `release`, `acq_rel` and `seq_cst`";
+const ORDER = /^(?:relaxed|consume|acquire|release|acq_rel|seq_cst|plain)$/;
 const OF_ORDER = ", of which compilers make different code";
 const OF_ASSIGNMENTS = ": write each assignment as a statement of its own";
 const OF_CONSTANTS = ": a constant is decimal, or `0x` and hexadecimal, of 32 bits";
@@ -273,6 +275,7 @@ export class ValueWriter {
     if (isLimited && (isStep(kind) || !isBelow(variable.limit, value))) this.refuseStatement(explainLimit(variable.limit));
     if (kind === "fetch_sub" && parseConstant(value) === null) this.refuseStatement(OF_SUBTRACTION);
     // A compiler may make a load of an addition that is not seq_cst if it finds that it adds 0.
+    if (!ORDER.test(order)) this.refuseStatement(NO_ORDER);
     const isIdle = isStep(kind) && order !== "seq_cst" && !parseConstant(value);
     if (isIdle || !SAME_CODE.test(`${kind} ${order}`)) this.refuseStatement(OF_ORDER);
   }

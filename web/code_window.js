@@ -9,6 +9,7 @@ const COLUMNS = 2;
 const MIN_LINES = 3;
 // More than a machine that is out of sight: what a line lacks can't be scrolled into sight.
 const TOO_LONG = 100000;
+// And for each such line, less than that.
 const LONG_LINE = 50;
 // The empty space below a machine, in pixels.
 const MARGIN = 14;

@@ -7,7 +7,7 @@ import { computeLeastHeight, listUsedRegisters } from "./machine_size.js";
 import { isStill } from "./motion.js";
 import { Player } from "./player.js";
 import { setRoom } from "./placing.js";
-import { caches, hasStepped } from "./preferences.js";
+import { caches, hasStepped, largeType } from "./preferences.js";
 import { listVariables } from "./register_names.js";
 import { parseRegister } from "./replays.js";
 import { RunMenu } from "./run_menu.js";
@@ -27,8 +27,8 @@ const LISTED = [
 const SEEN = 0.9;
 const LOOKS = 20;
 // How a machine may be drawn, by its classes, the best first: as large as the window allows; if its code has no room then, with the store buffer beside
-// the code, in smaller type, with low lines and entries, with lines close to each other, in fine type; and if a part of it is out of sight even so, below a
-// condition that is cut to one line.
+// the code, in smaller type, with low lines and entries, with lines close to each other, and in fine type, unless the reader wants large type; and if a part
+// of it is out of sight even so, below a condition that is cut to one line.
 const WAYS = [
   "", "beside", "small", "beside small", "small low", "beside small low", "beside small low close", "fine small", "fine small low", "fine small low close",
   "small low cramped", "beside small low cramped", "beside small low close cramped", "fine small low close cramped",
@@ -178,7 +178,8 @@ export class RunView {
   chooseWay() {
     const least = computeLeastHeight(this.stage.shown);
     let [best, fewest] = ["", Infinity];
-    for (const way of isScrolled(this.stage.place) ? WAYS : [""]) {
+    const ways = WAYS.filter((it) => !largeType.isOn || !it.includes("fine"));
+    for (const way of isScrolled(this.stage.place) ? ways : [""]) {
       if (!fewest || (fewest < OUT_OF_SIGHT && way.includes("cramped"))) break;
       const cut = this.drawIn(way, least);
       if (cut < fewest) [best, fewest] = [way, cut];

@@ -323,7 +323,10 @@ const OF_REGISTERS = ", which needs more than six registers";
 const OF_ENTRIES = ": initial values are entries as `x=1;`";
 const OF_BRANCHED = ": an assertion is in no branch, and after no `return`";
 const OF_ASSERTIONS = ": an assertion compares variables with constants by `==` or `!=`, joined by `&&` and `||`";
-const OF_ENDLESS = ": a loop that waits need not end before this, so assert it at the end of `main`";
+const OF_ENDLESS = ": the thread may still wait after this, in a loop or for a lock, so assert it at the end of `main`";
+const OF_OTHER_THREADS = ": another thread may still wait then, in a loop or for a lock, so assert it at the end of `main`";
+const NO_ORDER = ": no order of memory has this name; they are `relaxed`, `consume`, `acquire`, `release`, `acq_rel` and `seq_cst`";
+const OF_DIRECTIVES = ": leave out `#if` and its like, with what is not compiled";
 const REFUSED = [
   ["int r0 = y;", "if (y == 1) { int r0 = 1; }", `\`0:r0\`${OF_PATHS}`],
   ["int r0 = y;", "while (y != 1) ;", `\`0:r0\`${UNSET}`],
@@ -410,6 +413,8 @@ const REFUSED = [
   ["int r0 = y;", "int r0 = atomic_fetch_or(&y, 1);",
     "`int r0 = atomic_fetch_or(&y, 1)`: of locked instructions the x86 format has only exchange and addition"],
   ["int r0 = y;", "int e = 0, r0 = atomic_compare_exchange_strong(&y, &e, 2);", `\`int e = 0, r0 = atomic_compare_exchange_..\`${OF_SWAPS}`],
+  ["int r0 = y;", "int r0 = atomic_load_explicit(&y, memory_order_relaxd);", `\`int r0 = atomic_load_explicit(&y, memory..\`${NO_ORDER}`],
+  ["int r0 = y;", "\n#if 0\natomic_thread_fence(memory_order_seq_cst);\n#endif\nint r0 = y;", `\`#if 0 atomic_thread_fence(memory_order_s..\`${OF_DIRECTIVES}`],
   ["int r0 = y;", "int e = y, r0 = atomic_compare_exchange_strong(&y, &e, 1);", `\`int e = y, r0 = atomic_compare_exchange_..\`${OF_NO_CONSTANTS}`],
   ["int r0 = y;", "int r0 = y.compare_exchange_strong(1, 1);", `\`int r0 = y.compare_exchange_strong(1, 1)\`${OF_NO_CONSTANTS}`],
   ["int r0 = y;", "int e = 0; y.compare_exchange_strong(e, 1); int r0 = y.compare_exchange_weak(e, 1);", `\`int r0 = y.compare_exchange_weak(e, 1)\`${OF_NO_CONSTANTS}`],
@@ -475,7 +480,7 @@ const REFUSED = [
   ["int r0 = y;", "int r0 = y; assert(r0 == 1);", "`assert(r0 == 1)`: the program asks something else, so leave this out"],
   ["int r0 = y;", "int r0 = y; assert(r0 == 1); r0 = 2;", `\`r0 = 2\`${OF_FIXED}`],
   ["// lw: exists (0:r0=0 /\\ 1:r0=0)", "", `\`assert(r0 == 1)\`${OF_ENDLESS}`, "int r0 = y;", "int r0 = y; assert(r0 == 1); while (x) ;"],
-  ["// lw: exists (0:r0=0 /\\ 1:r0=0)", "", `\`assert(r0 == 1)\`${OF_ENDLESS}`, "int r0 = y; }\nvoid P1(void) {",
+  ["// lw: exists (0:r0=0 /\\ 1:r0=0)", "", `\`assert(r0 == 1)\`${OF_OTHER_THREADS}`, "int r0 = y; }\nvoid P1(void) {",
     "int r0 = y; assert(r0 == 1); }\nvoid P1(void) { while (x) ; "],
   ["int r0 = y;", "printf(\"%d\", x + 1);", "`printf(\"%d\", x + 1)`: a thread prints variables and constants only"],
   ["int r0 = y;", "printf(\"%d %d\", x, y);", `\`printf("%d %d", x, y)\`${OF_LOADS}`],
@@ -509,7 +514,7 @@ const REFUSED = [
   ["0:r0", "0:r5", `\`0:r5\`${UNSET}`],
   ["0:r0", "2:r0", `\`2:r0\`${UNSET}`],
   ["0:r0=0", "z=0", `\`z\`${UNSET}`],
-  ["0:r0=0", "0:r0=0 0", "found 0, expected )"],
+  ["0:r0=0", "0:r0=0 0", "`exists (0:r0=0 0 /\\ 1:r0=0)`: found 0, expected )"],
   ["int d;", "atomic_int eax;", "eax is reserved", "x = 1", "eax = 1"],
 ];
 
