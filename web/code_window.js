@@ -1,6 +1,8 @@
 // The part of a thread's code that is in sight, if not all of it has room: the next instruction is always in it, and the first line is whole.
 // There is no scroll bar: the box says which lines are shown, and the last line is pale if others follow it.
 
+import { largeType } from "./preferences.js";
+
 // The part of a line that may be missing at the end of a code that is shown as a whole.
 const SPARE = 0.35;
 // The number of columns of threads in a narrow window, and the least number of lines of codes that are fitted.
@@ -38,7 +40,7 @@ function countHiddenLines(code) {
 
 /**
  * Returns how much of the codes of a machine is cut: the largest number of lines that have no room, more for each line that is too long, and far more if
- * there is one.
+ * there is one. In large type it does not matter how many are too long.
  * @param {Element} machine
  * @returns {number}
  */
@@ -47,7 +49,7 @@ export function measureCut(machine) {
   for (const code of codes) code.style.paddingBottom = "";
   const lines = codes.filter((it) => it.scrollWidth > it.clientWidth + 1).flatMap((it) => [...it.querySelectorAll(".line")]);
   const tooLong = lines.filter((it) => it.scrollWidth > it.clientWidth + 1).length;
-  return Math.max(0, ...codes.map(countHiddenLines)) + tooLong * LONG_LINE + (tooLong ? TOO_LONG : 0);
+  return Math.max(0, ...codes.map(countHiddenLines)) + (largeType.isOn ? 0 : tooLong * LONG_LINE) + (tooLong ? TOO_LONG : 0);
 }
 
 /**
