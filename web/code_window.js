@@ -47,9 +47,10 @@ function countHiddenLines(code) {
 export function measureCut(machine) {
   const codes = [...machine.querySelectorAll(".code")];
   for (const code of codes) code.style.paddingBottom = "";
-  const lines = codes.filter((it) => it.scrollWidth > it.clientWidth + 1).flatMap((it) => [...it.querySelectorAll(".line")]);
-  const tooLong = lines.filter((it) => it.scrollWidth > it.clientWidth + 1).length;
-  return Math.max(0, ...codes.map(countHiddenLines)) + (largeType.isOn ? 0 : tooLong * LONG_LINE) + (tooLong ? TOO_LONG : 0);
+  const isTooLong = (it) => it.scrollWidth > it.clientWidth + 1;
+  const cut = codes.filter(isTooLong);
+  const lines = largeType.isOn ? 0 : cut.flatMap((it) => [...it.querySelectorAll(".line")]).filter(isTooLong).length;
+  return Math.max(0, ...codes.map(countHiddenLines)) + lines * LONG_LINE + (cut.length ? TOO_LONG : 0);
 }
 
 /**
