@@ -22,7 +22,8 @@ const DEEPEST = 12;
 const MOST = 200;
 // Longer code is not extended.
 const LONGEST = 4000;
-// In a method, what is before its members, and a name that is called as a function.
+// In a method, what is before its functions and before its variables, and a name that is called as a function.
+const THIS_OF_CALL = /\bthis\s{0,9}->\s{0,9}(?=\w+\s{0,9}\()/g;
 const THIS = /\bthis\s{0,9}->\s{0,9}/g;
 const SIBLING = /(?<!(?:\.|->)\s{0,9})\b(\w+)(?=\s{0,9}\()/g;
 // A statement that stores the result of a call: the groups are before it and after it.
@@ -100,7 +101,7 @@ export class CallWriter extends SwapWriter {
   /** Returns squeezed code with the values of names in place of these. */
   translate(code, names, hasConstants) {
     if (this.isHerd) return squeezeCode(replaceNames(code, names));
-    const called = code.replace(THIS, "").replace(SIBLING, (name) => names.get(`${name}(`) ?? name);
+    const called = code.replace(THIS_OF_CALL, "").replace(THIS, "this.").replace(SIBLING, (name) => names.get(`${name}(`) ?? name);
     const replaced = resolvePlaces(replaceNames(called, names), this.program);
     const squeezed = squeezeCode(replaced);
     return hasConstants ? foldConstants(squeezed) : squeezed;

@@ -146,7 +146,7 @@ export function addObject({ words, globals, names, objects, arrays, functions },
     globals.set(joined, { ...others, name: joined, element: element && `${object}_${element}`, value, object, isOfClass: methods.length > 0 });
     const array = element?.split("[")[0];
     const places = element ? [[element, joined], [array, `${object}_${array}`]] : [[name, joined]];
-    for (const [place, code] of places) names.set(`${object}.${place}`, code) && own.set(place, code);
+    for (const [place, code] of places) names.set(`${object}.${place}`, code) && own.set(place, code).set(`this.${place}`, code);
     if (!element) continue;
     names.set(`${object}_${element}`, joined);
     arrays.add(`${object}_${array}`);

@@ -249,7 +249,7 @@ export function declareVariables({ words, names, arrays, isHerd }, variables, co
     const { name, element, value, limit } = variable;
     const word = value ? parseConstant(value) : words.get(name) ?? 0;
     if (word === null || word >= limit) refusePart(shown, OF_VALUES);
-    if (variables.has(name) && (element || variables.get(name).element)) refusePart(shown, OF_LONE);
+    if (variables.has(name) && (element || variables.get(name).element || variables.get(name).object)) refusePart(shown, OF_LONE);
     if (element) names.set(element, name) && arrays.add(element.split("[")[0]);
     words.set(name, word);
     variables.set(name, variable);

@@ -19,16 +19,23 @@ const BREAK = /^\s*(?:(?:break|(return))\s*;|\{\s*(?:break|(return))\s*;\s*\})/;
 // A branch that leaves a loop or a pass, and what a loop sets before it looks: the group is the assignment.
 const LEAVING = /^\s*(?:continue|break)\s*$/;
 const SETTING = /^\{\s*(\w+\s*=\s*\w+)\s*;(?=\s*while\b)/;
-// The head of a loop that counts: the groups are its variable, the first number, the variable again, the comparison, the bound, and how it counts.
+// The head of a loop that counts: the groups are its type, its variable, the first number, the variable again, the comparison, the bound, and how it
+// counts.
 const COUNTED = new RegExp(
-  "^for\\s*\\(\\s*(?:(?:const|unsigned|signed|int|long|short|auto|(?:std\\s*::\\s*)?s?size_t|u?int\\d{1,2}_t)\\s+)+(\\w+)\\s*=\\s*(\\d{1,9})\\s*;" +
+  "^for\\s*\\(\\s*((?:(?:const|unsigned|signed|int|long|short|auto|(?:std\\s*::\\s*)?s?size_t|u?int\\d{1,2}_t)\\s+)+)(\\w+)\\s*=\\s*(\\d{1,9})\\s*;" +
     "\\s*(\\w+)\\s*(<=?|>=?|!=)\\s*(\\w+)\\s*;\\s*(\\w+\\s*(?:\\+\\+|--)|(?:\\+\\+|--)\\s*\\w+|\\w+\\s*[+-]=\\s*\\d{1,3})\\s*\\)",
 );
+// In its type, what has no sign, and what has 8 or 16 bits.
+const UNSIGNED = /\bunsigned\b|\bsize_t\b|\buint/;
+const SMALL = /\bshort\b|int(8|16)_t/;
 const COMPARISONS = { "<": (a, b) => a < b, "<=": (a, b) => a <= b, ">": (a, b) => a > b, ">=": (a, b) => a >= b, "!=": (a, b) => a !== b };
 const LEAVES = /\b(?:break|continue|goto)\b/;
 const MOST_PASSES = 16;
 const OF_PASSES = ": count to 2 or 3 here, since a thread of a test has 32 instructions at most";
 const DO = /^do\b/;
+// An `else` after a branch. And how much of a code may have the head of a statement up to its parenthesis.
+const ELSE = /^\s*else\b/;
+const LONGEST_HEAD = 40;
 const WHILE = /^\s*while\s*(?=\()/;
 
 /** Reads the statements of a thread. */
@@ -41,9 +48,9 @@ class ThreadReader extends StatementReader {
   /** Returns the passes of the loop here, each as a block, if it counts to a constant and nothing else changes its variable; null if it does not. */
   readCounted() {
     const { rest } = this;
-    const [head = "", name] = COUNTED.exec(rest) ?? [];
+    const [head = "", , name] = COUNTED.exec(rest) ?? [];
     const numbers = head ? listNumbers(head, this.names) : [];
-    if (numbers.length > MOST_PASSES) refusePart(this.takePart(head.length), OF_PASSES);
+    if (this.passCount * numbers.length > MOST_PASSES) refusePart(this.takePart(head.length), OF_PASSES);
     const { code, end } = findBody(rest, head.length);
     const isChanged = new RegExp(`(?:\\+\\+|--|&)\\s*${name}\\b|\\b${name}\\s*(?:\\+\\+|--|(?:[-+*/%&|^]|<<|>>)?=(?!=))`).test(code);
     if (!numbers.length || isChanged || LEAVES.test(code) || this.depth > DEEPEST) return null;
@@ -51,7 +58,7 @@ class ThreadReader extends StatementReader {
     const { index } = this.takePart(end);
     const at = index + end - code.length + (inner === code ? 0 : 1);
     const replace = (number) => inner.replace(new RegExp(`(?<![\\w.>])${name}\\b`, "g"), String(number).padEnd(name.length));
-    const readPass = (number) => ({ code: head, index, block: new this.constructor({ code: replace(number), index: at }, this.depth + 1, this.names).readAll() });
+    const readPass = (number) => ({ code: head, index, block: this.makeReader({ code: replace(number), index: at }, numbers.length).readAll() });
     return { code: head, index, block: numbers.map(readPass) };
   }
 
@@ -116,7 +123,7 @@ class ThreadReader extends StatementReader {
   /** Returns the statements of a loop; none if one is none that is rewritten. */
   readBody(code) {
     try {
-      return new this.constructor(code, this.depth + 1, this.names).readAll();
+      return this.makeReader(code).readAll();
     } catch {
       return [];
     }
@@ -126,25 +133,32 @@ class ThreadReader extends StatementReader {
   readInner(code) {
     const inside = code.startsWith("{") ? code.slice(1, -1).trim() : code;
     if (!WHILE.test(inside) || this.depth > DEEPEST) return null;
-    const reader = new this.constructor({ code: inside, index: 0 }, this.depth + 1, this.names);
+    const reader = this.makeReader({ code: inside, index: 0 });
     const loop = reader.readWaiting();
     return loop && !loop.assigns && !loop.inner.length && !reader.rest ? loop.condition : null;
   }
 }
 
+/** Returns whether a type of the variable of a loop has a number. */
+function hasNumber(type, number) {
+  const bits = SMALL.test(type) ? Number(SMALL.exec(type)[1] ?? 16) : 32;
+  return UNSIGNED.test(type) ? number >= 0 && number < 2 ** bits : Math.abs(number) < 2 ** (bits - 1);
+}
+
 /**
  * Returns the numbers that the variable of a loop has in its passes, given its head, at least the first ones if they are too many; none if the loop compares
- * or counts another variable.
+ * or counts another variable, or counts to a number that its type has not.
  */
 function listNumbers(head, names) {
-  const [, name, first, compared, sign, named, step] = COUNTED.exec(head);
+  const [, type, name, first, compared, sign, named, step] = COUNTED.exec(head);
   const bound = parseConstant(names.get(named) ?? named) ?? NaN;
   const [counted] = /[A-Za-z_]\w*/.exec(step);
   const size = Number(/\d+$/.exec(step.replace(counted, ""))?.[0] ?? 1) * (step.includes("-") ? -1 : 1);
   if (compared !== name || counted !== name || Number.isNaN(bound)) return [];
   const numbers = [];
-  for (let number = Number(first); COMPARISONS[sign](number, bound) && numbers.length <= MOST_PASSES; number += size) numbers.push(number);
-  return numbers.some((it) => it < 0) ? [] : numbers;
+  let number = Number(first);
+  for (; COMPARISONS[sign](number, bound) && numbers.length <= MOST_PASSES; number += size) numbers.push(number);
+  return numbers.some((it) => it < 0) || ![Number(first), number].every((it) => hasNumber(type, it)) ? [] : numbers;
 }
 
 /** Returns what a condition `assigns` first, in parentheses, and the `condition` without it; null if it does not. */
@@ -178,14 +192,33 @@ function makePass(statements, condition) {
   return isEnding && body.length ? { body, condition: conditions.join(" || ") } : null;
 }
 
+/** Returns where the statement ends that begins at an index: after the statements in it, and after its `else`; 0 if it has no end. */
+function findStatementEnd(code, begin) {
+  let [at, count] = [begin, 0];
+  for (;;) {
+    at += code.slice(at).search(/\S|$/);
+    const [, word] = /^(if|while|for|switch)\s*\(/.exec(code.slice(at, at + LONGEST_HEAD)) ?? [];
+    const close = word ? findClosing(code, code.indexOf("(", at)) : -1;
+    if (word && close < 0) return 0;
+    if (word) {
+      at = close + 1;
+      count += Number(word === "if");
+      continue;
+    }
+    const isDo = DO.test(code.slice(at, at + LONGEST_HEAD));
+    const body = isDo ? at + code.slice(at).search(/[{;]|$/) : at;
+    const end = (code[body] === "{" ? findClosing(code, body) : code.indexOf(";", body)) + 1;
+    const [other] = (count && ELSE.exec(code.slice(end))) || [];
+    if (!end || (!isDo && !other)) return end;
+    if (!isDo) count -= 1;
+    at = isDo ? end : end + other.length;
+  }
+}
+
 /** Returns the code of a statement or a block that begins at an index, after blanks, and where it ends. */
 function findBody(code, index) {
   const begin = index + code.slice(index).search(/\S|$/);
-  // The body may be a loop itself, with a body of its own.
-  const [head] = WHILE.exec(code.slice(begin)) ?? [];
-  const close = head ? findClosing(code, begin + head.length) : -1;
-  const inner = close < 0 ? begin : close + 1 + code.slice(close + 1).search(/\S|$/);
-  const end = (code[inner] === "{" ? findClosing(code, inner) : code.indexOf(";", inner)) + 1 || code.length;
+  const end = findStatementEnd(code, begin) || code.length;
   return { code: code.slice(begin, end), end };
 }
 

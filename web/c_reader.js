@@ -40,10 +40,12 @@ const BARE = /^\s*(?:\{([^{}]*)\}\s*)?(?:(?:static\s+)?void\s+)?P0\s*\([^(){};]*
 // The heading of a test of herd and its block: the groups are its name, and what is in the block.
 const HEADING = /^\s*(?:C|X86|SRC)\s+([^\s{]+)[^{(]*\{([^}]*)\}/;
 // A comment in C: the groups are the question in a line and that in a block. MARK of tools/c/source.py finds the same, also after a second `//`.
-// A string is matched first, since what looks like a comment is none in it.
-const COMMENT = /"(?:[^"\\\n]|\\.)*"|\/\/(?:.*?lw:(?<=\/\/[ \t]*lw:)(.*)|.*)|\/\*(?:\s*lw:([^]*?)|[^]*?)\*\//g;
-// What in a string might be taken for code.
+// A string or a letter is matched first, since what looks like a comment is none in it. A backslash at the end of a comment's line continues the comment.
+const COMMENT =
+  /"(?:[^"\\\n]|\\.)*"|'(?:[^'\\\n]|\\.)'|\/\/(?:.*?lw:(?<=\/\/[ \t]*lw:)(.*)|(?:\\\r?\n|.)*)|\/\*(?:\s*lw:([^]*?)|[^]*?)\*\//g;
+// What in a string or a letter might be taken for code.
 const MARK_IN_STRING = /[(){};,]/g;
+const MARK_IN_LETTER = /[(){};,"/]/g;
 // What a program may have that does not matter here.
 const HEADERS = /^[ \t]*#[ \t]*(?:include|pragma)\b.*/gm;
 const WITHOUT_EFFECT = /\busing\s[\w:\s]{0,80};|\balignas\s{0,9}\([\s\w:]{0,80}\)|\[\[[\w:, ]{0,80}\]\]|\bnoexcept\b/g;
@@ -142,6 +144,7 @@ class ProgramReader {
     const questions = [];
     this.rest = (this.isHerd ? blankComments(this.text) : this.text).replace(COMMENT, (comment, line, block, index) => {
       if (comment.startsWith('"')) return comment.replace(MARK_IN_STRING, " ");
+      if (comment.startsWith("'")) return comment.replace(MARK_IN_LETTER, " ");
       const code = line ?? block;
       if (code !== undefined) questions.push({ code, index: index + comment.lastIndexOf(code) });
       if (questions.length > 1 && !this.isHerd) refusePart({ code: comment, index }, ": a second comment says what is asked");

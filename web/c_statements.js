@@ -66,17 +66,26 @@ export function explainCondition(code) {
   return REASONS.find(([pattern]) => pattern !== COMPARISON && pattern.test(code.replace(/[=!]=.*/, "")))?.[1] ?? OF_CONDITIONS;
 }
 
-/** Reads the statements of a code, from its begin to its end. `at` is how far it is read, and `depth` the number of statements that it is in. */
+/**
+ * Reads the statements of a code, from its begin to its end. `at` is how far it is read, `depth` the number of statements that it is in, and `passCount` how
+ * often the loops around it execute it.
+ */
 export class StatementReader {
   /**
    * `names` has the constants that have names.
    * @param {Part} code
    * @param {number} [depth]
    * @param {Map<string, string>} [names]
+   * @param {number} [passCount]
    */
-  constructor({ code, index }, depth = 0, names = new Map()) {
-    Object.assign(this, { code, index, depth, names, at: 0 });
+  constructor({ code, index }, depth = 0, names = new Map(), passCount = 1) {
+    Object.assign(this, { code, index, depth, names, passCount, at: 0 });
     this.skipBlanks();
+  }
+
+  /** Returns a reader of a code in the statement, which is executed some times in each pass of the loops around it. */
+  makeReader(part, count = 1) {
+    return new this.constructor(part, this.depth + 1, this.names, this.passCount * count);
   }
 
   /** Returns what is not read yet. */
@@ -125,8 +134,10 @@ export class StatementReader {
 
   /** Returns a block, whose braces are not in its statements. */
   readBlock() {
-    const { code, index } = this.takePart(findClosing(this.rest, 0) + 1);
-    return { code, index, block: new this.constructor({ code: code.slice(1, -1), index: index + 1 }, this.depth + 1, this.names).readAll() };
+    const close = findClosing(this.rest, 0);
+    if (close < 0) refusePart(this.takePart(this.rest.length), ": its `}` is missing");
+    const { code, index } = this.takePart(close + 1);
+    return { code, index, block: this.makeReader({ code: code.slice(1, -1), index: index + 1 }).readAll() };
   }
 
   /** Returns an `if`, with its `else`. Its code is up to its condition. */

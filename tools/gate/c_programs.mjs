@@ -104,10 +104,20 @@ const STATEMENTS = [
     "int r0 = 7; int r1 = r0++; r1 = --r0; *v = r0--; r0++;"],
   // Loops that count.
   ["for (int i = 0; i < 2; i++) v = i;", "MOV [v],$0; MOV [v],$1", "for (int i = 0; i < 2; i++) *v = i;"],
-  ["for (unsigned k = 3; k >= 1; k -= 2) { v = k; x++; }", "MOV [v],$3; MOV EAX,$1; LOCK XADD [x],EAX; MOV [v],$1; MOV EAX,$1; LOCK XADD [x],EAX",
-    "for (unsigned k = 3; k >= 1; k -= 2) { *v = k; (*x)++; }"],
+  ["for (int k = 3; k >= 1; k -= 2) { v = k; x++; }", "MOV [v],$3; MOV EAX,$1; LOCK XADD [x],EAX; MOV [v],$1; MOV EAX,$1; LOCK XADD [x],EAX",
+    "for (int k = 3; k >= 1; k -= 2) { *v = k; (*x)++; }"],
   ["int r0 = 0; for (int i = 1; i != 3; ++i) { int a = x; r0 += a + i; }",
     "MOV EAX,$0; MOV EBX,[x]; ADD EAX,EBX; ADD EAX,$1; MOV EBX,[x]; ADD EAX,EBX; ADD EAX,$2", "int r0 = 0; for (int i = 1; i != 3; ++i) { int a = *x; r0 += a + i; }"],
+  ["for (unsigned k = 3; k > 1; k--) if (x == k) { v = 1; v = k; } else v = 4;",
+    "MOV EAX,[x]; CMP EAX,$3; JNE L1; MOV [v],$1; MOV [v],$3; JMP L2; L1: MOV [v],$4; L2: MOV EAX,[x]; CMP EAX,$2; JNE L3; MOV [v],$1; MOV [v],$2; JMP END; " +
+    "L3: MOV [v],$4; END:", null],
+  ["for (int i = 0; i < 2; i++) for (int k = 0; k < 2; k++) v = k;", "MOV [v],$0; MOV [v],$1; MOV [v],$0; MOV [v],$1", null],
+  ["for (int i = 0; i < 2; i++) if (x) for (int k = 0; k < 2; k++) v = k; else if (x) v = 3; v = 4;",
+    "MOV EAX,[x]; CMP EAX,$0; JE L1; MOV [v],$0; MOV [v],$1; JMP L2; L1: MOV EAX,[x]; CMP EAX,$0; JE L3; MOV [v],$3; L3: L2: MOV EAX,[x]; CMP EAX,$0; JE L4; " +
+    "MOV [v],$0; MOV [v],$1; JMP L5; L4: MOV EAX,[x]; CMP EAX,$0; JE L6; MOV [v],$3; L6: L5: MOV [v],$4", null],
+  // Letters, and a comment of two lines.
+  ["putchar('\"'); v = 1; putchar('\"'); v = 2; putchar('\\''); v = 3; putchar(';');", "MOV [v],$1; MOV [v],$2; MOV [v],$3", null],
+  ["v = 1; // One. \\\n v = 2;\n v = 3;", "MOV [v],$1; MOV [v],$3", null],
   // Branches.
   ["int r0 = x; if (r0) y.store(1, std::memory_order_relaxed);", "MOV EAX,[x]; CMP EAX,$0; JE END; MOV [y],$1; END:",
     "int r0 = *x; if (r0) y->store(1, memory_order_relaxed);"],
@@ -330,6 +340,12 @@ const OF_DIRECTIVES = ": leave out `#if` and its like, with what is not compiled
 const REFUSED = [
   ["int r0 = y;", "if (y == 1) { int r0 = 1; }", `\`0:r0\`${OF_PATHS}`],
   ["int r0 = y;", "while (y != 1) ;", `\`0:r0\`${UNSET}`],
+  ["int r0 = y;", "for (unsigned k = 3; k >= 0; k--) x = k;", `\`for (unsigned k = 3; k >= 0; k--)\`${OF_LOOPS}`],
+  ["int r0 = y;", "for (size_t k = 3; k > 0; k -= 2) x = k;", `\`for (size_t k = 3; k > 0; k -= 2)\`${OF_LOOPS}`],
+  ["int r0 = y;", "for (int8_t k = 126; k <= 127; k++) x = 1;", `\`for (int8_t k = 126; k <= 127; k++)\`${OF_LOOPS}`],
+  ["int r0 = y;", "for (int i = 0; i < 5; i++) { for (int k = 0; k < 5; k++) { x = k; } }",
+    "`for (int k = 0; k < 5; k++)`: count to 2 or 3 here, since a thread of a test has 32 instructions at most"],
+  ["int d;", "struct { int a; } s; int s_a;", "`int s_a;`: give it a name that no other variable has"],
   ["int r0 = y;", "while (1) ;", `\`while (1)\`${OF_LOOPS}`],
   ["int r0 = y;", "int r0 = y; while (r0 == 1) ;", `\`while (r0 == 1)\`${OF_LOOPS}`],
   ["int r0 = y;", "while (y || x.exchange(1)) ;", `\`while (y || x.exchange(1))\`${OF_LOOPS}`],
@@ -501,7 +517,7 @@ const REFUSED = [
   ["int r0 = y;", "std::atomic_ref<int> rd(d); rd = 1;", "`rd = 1`: `rd` is not declared"],
   ["int d;", "struct s { float a; } d;", "`float a;`: a class has integers, `bool`, mutexes, arrays of these, and functions"],
   ["int d;", "struct s { int a = x; } d;", `\`struct s { int a = x; } d;\`${OF_VALUES}`],
-  ["int d;", "struct s { int a; } d; int d_a; struct s d;", `\`struct s d;\`${OF_LONE}`],
+  ["int d;", "struct s { int a; }; int d_a; struct s d;", `\`struct s d;\`${OF_LONE}`],
   ["int d;", "int d = x;", `\`int d = x;\`${OF_VALUES}`],
   ["int d;", "atomic_short d = 128;", `\`atomic_short d = 128;\`${OF_VALUES}`],
   ["int d;", "atomic_bool d = 2;", `\`atomic_bool d = 2;\`${OF_VALUES}`],
@@ -520,7 +536,8 @@ const REFUSED = [
 
 // Long texts, the places of a program where they are put, as what is before and after them, and the most milliseconds for each.
 const LONG = [" ".repeat(60000), "a".repeat(60000), "(".repeat(60000), "int x;\n".repeat(10000), "{".repeat(60000), "(".repeat(30000) + ")".repeat(30000), "while (x) ".repeat(6000),
-  "x, ".repeat(20000), "x[0] = ".repeat(8000), "x && ".repeat(12000), "x = x + 1; ".repeat(5000), "for (;;) { if (x) break; ".repeat(2400)];
+  "x, ".repeat(20000), "x[0] = ".repeat(8000), "x && ".repeat(12000), "x = x + 1; ".repeat(5000), "for (;;) { if (x) break; ".repeat(2400), "for (int i = 0; i < 3; i++) if (x) { ".repeat(1000),
+  "for (int i = 0; i < 9; i++) { ".repeat(40) + "x = i; " + "} ".repeat(40)];
 const STARTED = "int main() { std::thread t([&] { x = 1; }); t.join(); ";
 const PLACES = [
   ["", ""], ["int main() { ", " }"], ["int main() { std::thread t([&] { ", " }); t.join(); }"], ["int main() { std::thread t([&", "] { x = 1; }); t.join(); }"],
@@ -1494,6 +1511,22 @@ int main() { std::thread t1(worker, 0), t2{worker, 1}; t1.join(); t2.join(); ass
  MOV [p_flag_0],$0  | MOV [p_flag_1],$0  ;
 locations [p_turn]
 forall (~0:EAX=0 /\\ 0:EBX=1 \\/ ~1:EAX=0 /\\ 1:EBX=0 \\/ n=2)
+`],
+  ["a method whose parameter has the name of a member", `struct A { std::atomic<int> v, w[2]; void set(int v, int w) { this->v = w; this->w[1] = v; v++; } } a;
+void P0() { a.set(3, 4); }
+void P1() { int r = a.w[1]; }
+// lw: exists (a_v=4)
+`, `X86 Mine
+(* 0:EAX is v, 1:EAX is r *)
+{ a_v=0; a_w_1=0; }
+ P0               | P1              ;
+ MOV EAX,$3       | MOV EAX,[a_w_1] ;
+ MOV EBX,$4       |                 ;
+ XCHG [a_v],EBX   |                 ;
+ MOV EBX,EAX      |                 ;
+ XCHG [a_w_1],EBX |                 ;
+ ADD EAX,$1       |                 ;
+exists (a_v=4)
 `],
   ["a class with a constructor, and objects by references", `class Flag { public: Flag() : v(0) { on = true; } Flag(const Flag&) = delete; void set(int k) { this->v.store(k, std::memory_order_release); put(k); }
   int get() const { return v.load(std::memory_order_acquire); } private: void put(int k) { w = k; } std::atomic<int> v; int w; std::atomic<bool> on; };
