@@ -223,6 +223,14 @@ export class CallWriter extends SwapWriter {
     return name;
   }
 
+  /** Writes statements, after which names in them that have numbers or other names have them no more. */
+  writeBlock(statements, isLast) {
+    const { names } = this;
+    this.names = new Map(names);
+    super.writeBlock(statements, isLast);
+    this.names = names;
+  }
+
   /** Writes an `if`, only one of whose branches is reached if its condition is one of constants. */
   writeBranch(statement, isLast) {
     const code = this.squeeze(statement.condition);

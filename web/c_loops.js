@@ -76,7 +76,7 @@ export class LoopWriter extends ThreadWriter {
   /** Makes a writer of a thread, as a `ThreadWriter`. */
   constructor(program, number, kept) {
     super(program, number, kept);
-    // The words of variables that are constants where the statement is, and the loops whose ends are not known yet.
+    // The constants that variables were last set to, with the branches around, and the loops whose ends are not known yet.
     this.lastConstants = new Map();
     this.unknownEnds = [];
   }
@@ -160,7 +160,7 @@ export class LoopWriter extends ThreadWriter {
     const word = parseConstant(desired);
     const last = parseConstant(expected) ?? (place === expected ? parseConstant(value) : null);
     const isVariable = parseConstant(expected) === null;
-    const isSet = !isVariable || isLate || this.lastConstants.get(expected) === last;
+    const isSet = !isVariable || isLate || this.findConstant(expected) === last;
     const isWhole = isVariable ? place === expected : place === undefined;
     if (word === null || last === null || word === last || !isSet || !isWhole || !inner.every((it) => this.isOfLoads(it))) this.refuseStatement(OF_LOOPS);
     const variable = isVariable && this.locals.has(expected) ? expected : this.nameVariable(name, "at its lock");
@@ -255,7 +255,13 @@ export class LoopWriter extends ThreadWriter {
   /** Writes the instructions that set a variable with a register, and records its word if that is a constant. */
   assignLocal(name, value) {
     super.assignLocal(name, value);
-    this.lastConstants.set(name, this.branches.length || this.exits.length ? null : parseConstant(value));
+    this.lastConstants.set(name, { word: this.exits.length ? null : parseConstant(value), branches: [...this.branches] });
+  }
+
+  /** Returns the constant that a variable has on all paths to the statement; null if it may have another word. */
+  findConstant(name) {
+    const { word, branches } = this.lastConstants.get(name) ?? { word: null, branches: [] };
+    return branches.every((it, at) => it === this.branches[at]) ? word : null;
   }
 
   /** Writes a step of a variable with a register, whose word is not known then. */

@@ -49,7 +49,7 @@ export function isChanged(name, code, changing) {
   const here = `\\b${name}\\b`;
   const step = new RegExp(`(?:\\+\\+|--)\\s{0,9}${here}|${here}\\s{0,9}(?:\\+\\+|--|(?:[-+*/%&|^]|<<|>>)?=(?!=))`);
   const address = new RegExp(`(?<!&)(?<![\\w)\\]]\\s{0,9})&\\s{0,9}${here}|compare_exchange_\\w{1,9}\\s{0,9}\\(\\s{0,9}${here}`);
-  const isPassed = (it) => new RegExp(`\\b${it}\\s{0,9}\\([^;{}]{0,200}${here}`).test(code);
+  const isPassed = (it) => new RegExp(`\\b${it}\\s{0,9}\\([^;{}]{0,200}(?<=[(,]\\s{0,9})${here}\\s{0,9}[,)]`).test(code);
   return step.test(code) || address.test(code) || changing.some(isPassed);
 }
 

@@ -26,6 +26,8 @@ const STRING = /"(?:[^"\\]|\\.)*"/g;
 const COMPARISON = /[=!]=|[^=!]=!|<(?!<)|(?<!>)>(?!>)|&&|\|\|/;
 /** Why a call of a function is refused, as the end of a sentence. */
 export const OF_FUNCTIONS = ": write what the function does in its place";
+/** Why an index is refused, as the end of a sentence. */
+export const OF_INDICES = ": an array is shared, and its indices are constants in it, as `a[0]`";
 // Why a statement is refused, by a part of it in squeezed code, unless a rule says so.
 const REASONS = [
   [/^#(?:if|elif|else|endif)/, ": leave out `#if` and its like, with what is not compiled"],
@@ -35,7 +37,7 @@ const REASONS = [
   [/\blw_see\b/, ": the question names the variable itself, as `0:r0`"],
   [/\?/, ": write an `if`"],
   [/^(?:const )?(?:float|double|string)\b/, ": a variable is an integer, as `int r0`"],
-  [/\w\[/, ": an array is shared, and its indices are constants in it, as `a[0]`"],
+  [/\w\[/, OF_INDICES],
   [/^\w+ ?\*|&(?=\w+$)/, ": threads have no pointers of their own"],
   [/^\w+:|^goto\b/, ": `goto` and labels are not rewritten"],
   [/[\w)](?:[*\/%^]|&(?!&)|\|(?!\|))|~|<<|>>/, ": the x86 format has sums only"],

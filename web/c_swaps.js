@@ -29,7 +29,7 @@ export class SwapWriter extends LoopWriter {
    */
   writeSwap({ name, expected, desired, isSetting }) {
     const isVariable = parseConstant(expected) === null;
-    const [last, word] = [isVariable ? this.lastConstants.get(expected) ?? null : parseConstant(expected), parseConstant(desired)];
+    const [last, word] = [isVariable ? this.findConstant(expected) : parseConstant(expected), parseConstant(desired)];
     if (last === null || word === null || last === word || (isVariable && !this.locals.has(expected))) this.refuseStatement(OF_CONSTANTS);
     const variable = isVariable && isSetting ? expected : this.nameFound(name);
     this.locals.add(variable);

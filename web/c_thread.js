@@ -287,10 +287,18 @@ export class ThreadWriter extends LockWriter {
     return this.functions.has(name) || [...this.functions.values()].some((it) => it.name === name);
   }
 
-  /** Records when a loop or a lock ends. Throws NoTest if it may not be reached, and then seems to wait, since its registers are 0. */
+  /** Records when a loop or a lock ends. Throws NoTest if it may not be reached, and then seems to wait, unless its registers are 0 then. */
   addWait(end) {
-    if ((this.branches.length || this.exits.length) && !isTrueOfZeros(end)) this.refuseStatement(OF_BRANCHES);
+    const isReached = !this.branches.length && !this.exits.length;
+    if (!isReached && (!isTrueOfZeros(end) || hasName(end, (it) => this.isSetElsewhere(it)))) this.refuseStatement(OF_BRANCHES);
     this.waits.push(end);
+  }
+
+  /** Returns whether the register of a site may have another word than 0 on a path that does not come to the statement. */
+  isSetElsewhere(site) {
+    const variable = this.registers[REGISTERS.X86.indexOf(site.split(":")[1])];
+    const isHere = ({ branches, exit }) => exit === this.exits.at(-1) && this.branches.every((it, at) => it === branches[at]);
+    return (this.settings.get(variable) ?? []).some((it) => it.word !== 0 && !isHere(it));
   }
 
   /** Returns a name of a variable with a register that no other one has. */
@@ -510,6 +518,7 @@ export class ThreadWriter extends LockWriter {
     const count = this.accesses.length;
     if (this.fixed.has(name)) this.refuseStatement(OF_FIXED);
     if (!this.firstValues.has(name)) this.firstValues.set(name, !this.branches.length && !this.exits.length);
+    this.recordSetting(name, parseConstant(value));
     const isTruth = isCondition(value);
     if (isTruth) this.writeTruth(value, this.findRegister(name));
     else this.writeValue(value, this.findRegister(name));

@@ -8,7 +8,7 @@
 // `added` the constant that it adds, or null. It `isLocked` if its load and its store are one instruction. It `isSure` if all runs of its thread do it.
 
 import { parseConstant, refusePart, replaceNames, squeezeCode } from "./c_code.js";
-import { explainCondition, explainStatement, removeOuterParentheses, splitTerms } from "./c_statements.js";
+import { explainCondition, explainStatement, OF_INDICES, removeOuterParentheses, splitTerms } from "./c_statements.js";
 import { REGISTERS, WORD } from "./token_reader.js";
 
 // The patterns are of squeezed code. A call: the groups are its kind, an order in its name, a `&`, the variable, a value, and an order.
@@ -69,6 +69,12 @@ function toWord(number) {
   return ((number % WORD) + WORD) % WORD;
 }
 
+/** Returns a name or a constant without the parentheses around it, or code that is neither. */
+function removeParentheses(code) {
+  const inner = removeOuterParentheses(code);
+  return /^-?\w+$/.test(inner) ? inner : code;
+}
+
 /** Returns whether an operation of a kind adds to a variable. */
 function isStep(kind) {
   return kind.startsWith("fetch");
@@ -123,6 +129,8 @@ export class ValueWriter {
     this.known = new Set();
     // Of each variable with a register that is set, whether all runs do the first assignment to it.
     this.firstValues = new Map();
+    // Where each is set: with which constant, or null, in which branches, and after which `return`.
+    this.settings = new Map();
     // Those that are not set again, since a question asks of the value that they have.
     this.fixed = new Set();
     // The branches around a statement, and the variables that have a value at each `return`.
@@ -168,13 +176,20 @@ export class ValueWriter {
     return this.known.has(value) ? this.findRegister(value) : null;
   }
 
+  /** Records that a variable with a register is set here, to a constant or to another word, which is null. */
+  recordSetting(name, word) {
+    const settings = this.settings.get(name) ?? [];
+    settings.push({ word, branches: [...this.branches], exit: this.exits.at(-1) });
+    this.settings.set(name, settings);
+  }
+
   // Values.
 
   /** Writes the instructions that set a register to a value: a sum, or one term. */
   writeValue(code, register) {
     if (ASSIGNMENT_IN_VALUE.test(code)) this.refuseStatement(OF_ASSIGNMENTS);
     const value = removeOuterParentheses(code);
-    const terms = splitTerms(value);
+    const terms = splitTerms(value).map(({ sign, term }) => ({ sign, term: removeParentheses(term) }));
     if (terms.length > 1) this.writeSum(terms, register);
     else this.writeTerm(value, register);
   }
@@ -217,6 +232,7 @@ export class ValueWriter {
     const own = this.findRegister(place);
     if (own === register || !this.known.has(place) || this.limits.has(place) || this.fixed.has(place)) this.refuseStatement(OF_STEPS);
     if (!this.firstValues.has(place)) this.firstValues.set(place, false);
+    this.recordSetting(place, null);
     const step = `ADD ${own},$${toWord(Number(`${sign}1`))}`;
     const copy = `MOV ${register},${own}`;
     for (const instruction of isBefore ? [step, copy] : [copy, step]) this.writeInstruction(instruction);
@@ -252,7 +268,8 @@ export class ValueWriter {
   findShared(name, isPointer) {
     if (/^\d/.test(name)) this.refuseStatement(OF_CONSTANTS);
     if (this.locals.has(name)) this.refuseStatement(`: \`${name}\` ${this.known.has(name) ? "is not shared" : "has no value on some path to here"}`);
-    const variable = this.variables.get(name) ?? this.refuseStatement(`: \`${name}\` is not declared`);
+    const isArray = new RegExp(`\\b${name}\\s{0,9}\\[`).test(this.statement.condition ?? this.statement.code);
+    const variable = this.variables.get(name) ?? this.refuseStatement(isArray ? OF_INDICES : `: \`${name}\` is not declared`);
     if (isPointer && !variable.isPointer) this.refuseStatement(`: \`${name}\` is no pointer, as \`&${name}\` is`);
     if (variable.order === "mutex") this.refuseStatement(`: \`${name}\` is a mutex, which is only locked and unlocked`);
     if (!isPointer && variable.isPointer) this.refuseStatement(`: \`${name}\` is a pointer to \`*${name}\``);

@@ -95,6 +95,7 @@ const STATEMENTS = [
   ["int r0 = 1; int r1 = 2; v = r0 + r1; x = (r0 + 1);",
     "MOV EAX,$1; MOV EBX,$2; MOV ECX,EAX; ADD ECX,EBX; MOV [v],ECX; MOV ECX,EAX; ADD ECX,$1; XCHG [x],ECX",
     "int r0 = 1; int r1 = 2; *v = r0 + r1; *x = (r0 + 1);"],
+  ["int r0 = x + (-1); int r1 = (r0) - (2);", "MOV EAX,[x]; ADD EAX,$4294967295; MOV EBX,EAX; ADD EBX,$4294967294", null],
   ["int r0 = 5 - 2 + 1; int r1 = r0 - -1;", "MOV EAX,$4; MOV EBX,EAX; ADD EBX,$1", "int r0 = 5 - 2 + 1; int r1 = r0 - -1;"],
   ["int r0 = x++ + 1; int r1 = r0 + ++x;",
     "MOV EAX,$1; LOCK XADD [x],EAX; ADD EAX,$1; MOV EBX,$1; LOCK XADD [x],EBX; ADD EBX,$1; ADD EBX,EAX",
@@ -346,6 +347,9 @@ const REFUSED = [
   ["int r0 = y;", "for (int i = 0; i < 5; i++) { for (int k = 0; k < 5; k++) { x = k; } }",
     "`for (int k = 0; k < 5; k++)`: count to 2 or 3 here, since a thread of a test has 32 instructions at most"],
   ["int d;", "struct { int a; } s; int s_a;", "`int s_a;`: give it a name that no other variable has"],
+  ["int r0 = y;", "int r0 = 5; if (y) { while ((r0 = x) != 0) ; }", `\`while ((r0 = x) != 0)\`${OF_BRANCHES}`],
+  ["int r0 = y;", "{ int k = 3; if (y) x = k; } if (y) { int k; while ((k = x) != 0) ; }", `\`while ((k = x) != 0)\`${OF_BRANCHES}`],
+  ["int r0 = y;", "int e = 1; if (y) { do { e = 0; } while (!x.compare_exchange_weak(e, 1)); }", `\`do { e = 0; } while (!x.compare_exchange..\`${OF_BRANCHES}`],
   ["int r0 = y;", "while (1) ;", `\`while (1)\`${OF_LOOPS}`],
   ["int r0 = y;", "int r0 = y; while (r0 == 1) ;", `\`while (r0 == 1)\`${OF_LOOPS}`],
   ["int r0 = y;", "while (y || x.exchange(1)) ;", `\`while (y || x.exchange(1))\`${OF_LOOPS}`],
@@ -1527,6 +1531,64 @@ void P1() { int r = a.w[1]; }
  XCHG [a_w_1],EBX |                 ;
  ADD EAX,$1       |                 ;
 exists (a_v=4)
+`],
+  ["numbers of blocks, and a reference to a word by a number", `std::atomic<int> a[2];
+void set(std::atomic<int>& to, int k) { to = k; }
+void f(int i) { for (int n = 0; n < 2; n++) { int k = 1; a[k - i] = n; } set(a[i ^ 1], 5); }
+void P0() { f(0); }
+void P1() { f(1); }
+// lw: exists (a_0=1)
+`, `X86 Mine
+{ a_0=0; a_1=0; }
+ P0             | P1             ;
+ MOV EAX,$0     | MOV EAX,$0     ;
+ XCHG [a_1],EAX | XCHG [a_0],EAX ;
+ MOV EAX,$1     | MOV EAX,$1     ;
+ XCHG [a_1],EAX | XCHG [a_0],EAX ;
+ MOV EAX,$5     | MOV EAX,$5     ;
+ XCHG [a_1],EAX | XCHG [a_0],EAX ;
+locations [a_1]
+exists (a_0=1)
+`],
+  ["an index that is no constant", `std::atomic<int> a[2], x;
+void P0() { int i = x; int r = std::atomic_load(&a[i]); }
+// lw: exists (x=1)
+`, "`int r = std::atomic_load(&a[i])`: an array is shared, and its indices are constants in it, as `a[0]`"],
+  ["compare-exchanges in branches", `std::atomic<int> c, x;
+bool take() { int e = 0; return c.compare_exchange_strong(e, 1); }
+void P0() { int e = 0; if (x) { if (take()) x = 2; } else if (c.compare_exchange_strong(e, 1)) x = 3; }
+void P1() { x = 1; c = 1; }
+// lw: exists (x=2)
+`, `X86 Mine
+(* 0:EAX is e, 0:EBX is e_2, 0:ECX is take_result *)
+{ c=0; x=0; }
+ P0             | P1           ;
+ MOV EAX,$0     | MOV EAX,$1   ;
+ MOV EDX,[x]    | XCHG [x],EAX ;
+ CMP EDX,$0     | MOV EAX,$1   ;
+ JE L1          | XCHG [c],EAX ;
+ MOV EBX,$0     |              ;
+ MOV EBX,$1     |              ;
+ XCHG [c],EBX   |              ;
+ CMP EBX,$0     |              ;
+ JNE L4         |              ;
+ MOV ECX,$1     |              ;
+ JMP L5         |              ;
+ L4: MOV ECX,$0 |              ;
+ L5: CMP ECX,$0 |              ;
+ JE L2          |              ;
+ MOV EDX,$2     |              ;
+ XCHG [x],EDX   |              ;
+ L2: JMP END    |              ;
+ L1: MOV EAX,$1 |              ;
+ XCHG [c],EAX   |              ;
+ CMP EAX,$0     |              ;
+ JNE END        |              ;
+ MOV EDX,$3     |              ;
+ XCHG [x],EDX   |              ;
+ END:           |              ;
+locations [c]
+exists (x=2)
 `],
   ["a class with a constructor, and objects by references", `class Flag { public: Flag() : v(0) { on = true; } Flag(const Flag&) = delete; void set(int k) { this->v.store(k, std::memory_order_release); put(k); }
   int get() const { return v.load(std::memory_order_acquire); } private: void put(int k) { w = k; } std::atomic<int> v; int w; std::atomic<bool> on; };
