@@ -307,7 +307,8 @@ export class CallWriter extends SwapWriter {
   declareLocal(variable, value) {
     const { name, limit } = variable;
     const number = value ? computeConstant(value) : null;
-    if (number !== null && this.isConstant(name)) {
+    const isOfType = limit === 2 || limit === WORD || (number >= 0 && number < limit);
+    if (number !== null && isOfType && this.isConstant(name)) {
       this.names.set(name, limit === 2 ? String(Number(number !== 0)) : String(number));
       this.hasConstants = true;
       return;

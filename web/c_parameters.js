@@ -81,9 +81,18 @@ export class ArgumentBinder {
     const parameters = parseParameters(this.called.parameters);
     const values = parameters.map((it, at) => codes[at] ?? it.value);
     if (codes.length > parameters.length || values.some((it) => !it)) return false;
-    const isReference = ({ mark, isConst, declaration }) => mark === "*" || (mark && !(isConst && declaration));
-    parameters.forEach((it, at) => isReference(it) && this.referred.add(values[at].replace("&", "")));
-    return parameters.every((it, at) => (isReference(it) ? this.bindPlace(it, values[at]) : this.bindValue(it, values[at])));
+    const isReference = (it, at) => it.mark === "*" || (it.mark && !(it.isConst && it.declaration && !this.isPlaceOfType(it, values[at])));
+    parameters.forEach((it, at) => isReference(it, at) && this.referred.add(values[at].replace("&", "")));
+    return parameters.every((it, at) => (isReference(it, at) ? this.bindPlace(it, values[at]) : this.bindValue(it, values[at])));
+  }
+
+  /** Returns whether a value is a variable of the type of a parameter, which then refers to it. What starts a thread copies variables for it. */
+  isPlaceOfType({ declaration }, value) {
+    const { program, locals, limits, called } = this.scope;
+    if (this.called === called && !/\bc?ref\(/.test(value)) return false;
+    const place = REFERRED.exec(removeOuterParentheses(value))?.[1];
+    const { order, limit } = program.variables.get(place) ?? (locals.has(place) ? { order: "plain", limit: limits.get(place) ?? WORD } : {});
+    return declaration.order === order && declaration.limit === limit;
   }
 
   /** Gives a reference or a pointer the variable, the object or the array that it refers to. Returns whether it has it. */

@@ -5,7 +5,7 @@
 
 import { alignCells } from "./aligned.js";
 import { CallWriter } from "./c_calls.js";
-import { refusePart } from "./c_code.js";
+import { parseConstant, refusePart } from "./c_code.js";
 import { areEntering, formatList, guessQuestion } from "./c_guess.js";
 import { linkThreads } from "./c_links.js";
 import { startThreads } from "./c_main.js";
@@ -106,8 +106,8 @@ function translateQuestion({ words, question: { code, index, source } }, writers
     used.add(site);
     return site;
   };
-  const translated = code.trim().replace(NAME, translateSite).replace(/&&/g, "/\\").replace(/\|\|/g, "\\/").replace(/==/g, "=");
-  return translated.replace(/=(\s*)-(\d+)/g, (_, blanks, digits) => `=${blanks}${WORD - Number(digits)}`);
+  const named = code.trim().replace(NAME, translateSite).replace(/&&/g, "/\\").replace(/\|\|/g, "\\/").replace(/==/g, "=");
+  return named.replace(/= ?(-\d{1,10})\b/g, (whole, constant) => `=${parseConstant(constant) ?? constant}`);
 }
 
 /**

@@ -1550,6 +1550,38 @@ void P1() { f(1); }
 locations [a_1]
 exists (a_0=1)
 `],
+  ["constant references to variables", `std::atomic<int> x; int n;
+void put(const int& k, int& m) { m++; x = k; }
+void wait(const std::atomic<int>& v) { while (!v) ; }
+void P0() { int r = 3; put(r, r); put(5, r); put(n, r); wait(x); }
+void P1() { n = 2; }
+// lw: exists (x=-4)
+`, `X86 Mine
+(* 0:EAX is r, 0:EBX is x after its loop *)
+{ x=0; n=0; }
+ P0           | P1         ;
+ MOV EAX,$3   | MOV [n],$2 ;
+ ADD EAX,$1   |            ;
+ MOV ECX,EAX  |            ;
+ XCHG [x],ECX |            ;
+ ADD EAX,$1   |            ;
+ MOV ECX,$5   |            ;
+ XCHG [x],ECX |            ;
+ ADD EAX,$1   |            ;
+ MOV ECX,[n]  |            ;
+ XCHG [x],ECX |            ;
+ MOV EBX,[x]  |            ;
+exists (~0:EBX=0 /\\ x=4294967292)
+`],
+  ["a constant reference to what the start of a thread copies", `std::atomic<int> x; int n;
+void f(const int& k) { x = k; }
+void g() { n = 2; }
+int main() { std::thread t1(f, n), t2(g); t1.join(); t2.join(); }
+`, "`std::thread t1(f, n), t2(g)`: its arguments are constants, variables of the thread, and shared variables of the types of its parameters"],
+  ["a number that a variable of 8 bits has not", `std::atomic<int> a[2];
+void f(int i) { uint8_t k = i - 1; a[i] = k; }
+void P0() { f(0); }
+`, `\`uint8_t k = i - 1\`${OF_SMALL}`],
   ["an index that is no constant", `std::atomic<int> a[2], x;
 void P0() { int i = x; int r = std::atomic_load(&a[i]); }
 // lw: exists (x=1)
