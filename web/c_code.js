@@ -153,6 +153,11 @@ export function replaceNames(code, names) {
   });
 }
 
+/** Returns whether code is a name that has no value. */
+function isNewName(code) {
+  return /^[A-Za-z_]/.test(code) && !ORDER.test(code);
+}
+
 /**
  * Adds to `names` what squeezed code names: an order of memory, a constant, or a reference by which a variable is atomic. Returns whether it names one.
  * @param {string} code
@@ -164,6 +169,8 @@ export function defineName(code, names) {
   const [, constant, word] = NAMED_WORD.exec(code) ?? [];
   const [, first, second, variable] = REFERENCE.exec(code) ?? [];
   const isWord = constant !== undefined && parseConstant(word) !== null;
+  // A name that is declared again has its value in its place here.
+  if (!isNewName(name ?? constant ?? first ?? second ?? "")) return false;
   if (order) names.set(name, order);
   if (isWord) names.set(constant, word);
   // Only its methods are atomic without a word that says so.
@@ -236,20 +243,21 @@ function listElements(declarator) {
 /**
  * Adds what code declares to some variables, and the initial words of these to a program's. Throws NoTest for the part that is `shown`, with a reason,
  * if it is no declaration of shared variables, which are pointers in herd's form only.
- * @param {{words: Map<string, number>, names: Map<string, string>, arrays: Set<string>, isHerd: boolean}} program
+ * @param {{words: Map<string, number>, names: Map<string, string>, arrays: Set<string>, isHerd: boolean, hasSpaces?: boolean}} program
  * @param {Map<string, Declaration>} variables
  * @param {string} code
  * @param {Part} shown
  * @param {string} why
  */
-export function declareVariables({ words, names, arrays, isHerd }, variables, code, shown, why) {
+export function declareVariables({ words, names, arrays, isHerd, hasSpaces }, variables, code, shown, why) {
   const declared = parseDeclaration(squeezeCode(replaceNames(code, names)));
   if (!declared.length || declared[0].isPointer !== isHerd) refusePart(shown, why);
   for (const variable of declared) {
     const { name, element, value, limit } = variable;
     const word = value ? parseConstant(value) : words.get(name) ?? 0;
     if (word === null || word >= limit) refusePart(shown, OF_VALUES);
-    if (variables.has(name) && (element || variables.get(name).element || variables.get(name).object)) refusePart(shown, OF_LONE);
+    const former = variables.get(name);
+    if (former && (element || former.element || former.object || hasSpaces)) refusePart(shown, OF_LONE);
     if (element) names.set(element, name) && arrays.add(element.split("[")[0]);
     words.set(name, word);
     variables.set(name, variable);

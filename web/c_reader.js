@@ -23,6 +23,7 @@ import {
   declareVariables,
   defineName,
   findClosing,
+  OF_LONE,
   OF_VALUES,
   parseConstant,
   parseDeclaration,
@@ -32,6 +33,7 @@ import {
   splitCode,
   squeezeCode,
 } from "./c_code.js";
+import { WORD } from "./token_reader.js";
 import { blankComments } from "./tokens.js";
 
 // How a test of herd begins. (The first word of one in C may be wrong.) And one without its first line: the group is what is in its block.
@@ -111,6 +113,8 @@ class ProgramReader {
     this.functions = new Map();
     this.threads = [];
     this.main = null;
+    // Whether variables may have the same name, in several namespaces.
+    this.hasSpaces = false;
   }
 
   /** Returns the index of the rest in the text. */
@@ -172,6 +176,7 @@ class ProgramReader {
     const found = FUNCTION.exec(this.rest);
     const [prototype] = (!this.isHerd && PROTOTYPE.exec(this.rest)) || [];
     if (found) this.readFunction(found);
+    else if (this.rest[0] === ";") this.skipPart(1);
     else if (prototype) this.skipPart(prototype.length);
     else if (!this.readNamedValue() && !this.readSpace() && !this.readStructure() && !this.readObjects()) this.readVariables();
   }
@@ -185,6 +190,7 @@ class ProgramReader {
     const part = this.cutPart(end + 1 + tail.length);
     const code = { code: this.rest.slice(head.length, end), index: this.index + head.length };
     const others = objects.split(",").map((it) => it.trim()).filter(Boolean);
+    if (this.types.has(name)) refusePart(part, OF_LONE);
     const type = readClass(name, code, this.names);
     for (const it of [name, ...(isType ? others : [])]) if (it) this.types.set(it, type);
     for (const object of isType ? [] : others) addObject(this, object, type, part);
@@ -209,7 +215,7 @@ class ProgramReader {
     const value = parseNamedValue(replaceNames(macro ? text : code, this.names));
     if (macro && (!macroName || value === null)) refusePart(this.cutPart(macro.length), OF_MACROS);
     if (value === null) return false;
-    this.names.set(macroName ?? constantName, value);
+    this.setName(macroName ?? constantName, value, this.cutPart((macro ?? constant).length));
     this.skipPart((macro ?? constant).length);
     return true;
   }
@@ -224,13 +230,19 @@ class ProgramReader {
     let word = -1;
     for (const it of constants.split(",").filter((constant) => constant.trim())) {
       const [constant, value] = it.split("=").map((part) => part.trim());
-      word = value === undefined ? word + 1 : parseConstant(value) ?? refusePart(this.cutPart(found.length), OF_VALUES);
-      this.names.set(constant, String(word));
+      word = value === undefined ? (word + 1) % WORD : parseConstant(value) ?? refusePart(this.cutPart(found.length), OF_VALUES);
+      this.setName(constant, String(word), this.cutPart(found.length));
     }
     if (alias) this.names.set(first ?? last, type ?? other);
     if (macro) this.addMacro(this.cutPart(found.length), name, text);
     this.skipPart(found.length);
     return true;
+  }
+
+  /** Gives a name a value. Throws NoTest for a part if it has another one, as in two namespaces. */
+  setName(name, value, part) {
+    if ((this.names.get(name) ?? value) !== value) refusePart(part, OF_LONE);
+    this.names.set(name, value);
   }
 
   /** Adds a macro as a function. */
@@ -248,6 +260,7 @@ class ProgramReader {
     const end = head ? findClosing(this.rest, head.length - 1) : -1;
     if (end < 0) return false;
     this.rest = `${this.rest.slice(0, end)} ${this.rest.slice(end + 1)}`;
+    if (name) this.hasSpaces = true;
     if (name) this.rest = this.rest.replace(new RegExp(`\\b${name}::`, "g"), blank);
     this.skipPart(head.length);
     return true;

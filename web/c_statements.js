@@ -38,7 +38,7 @@ const REASONS = [
   [/\?/, ": write an `if`"],
   [/^(?:const )?(?:float|double|string)\b/, ": a variable is an integer, as `int r0`"],
   [/\w\[/, OF_INDICES],
-  [/^\w+ ?\*|&(?=\w+$)/, ": threads have no pointers of their own"],
+  [/^\w+ ?\*(?!=)|&(?=\w+$)/, ": threads have no pointers of their own"],
   [/^\w+:|^goto\b/, ": `goto` and labels are not rewritten"],
   [/[\w)](?:[*\/%^]|&(?!&)|\|(?!\|))|~|<<|>>/, ": the x86 format has sums only"],
   [COMPARISON, ": compare in the condition of an `if`"],

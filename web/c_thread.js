@@ -44,6 +44,8 @@ const ASSERTION = /^assert\((.*)\)$/;
 const PRINTED = /^(?:" *"|'.*'|std(?:out|err)|endl|flush|)$/;
 // An assignment: the groups are its place, the sign of `+=` or `-=`, and its value.
 const ASSIGNMENT = /^(\*?\w+)([+-]?)=([^=].*)$/;
+// A declaration of a name that has a value, which is in its place.
+const SHADOWING = /^(?:[A-Za-z_]\w* )+-?(?:\d\w*|memory_order_\w+)(?:=(?!=)|[{(])/;
 // Why a statement is refused.
 const OF_UNREACHED = ": no run comes here after a `return`";
 const OF_RETURN = ": a thread that returns a value is `int P0(void)`";
@@ -401,6 +403,7 @@ export class ThreadWriter extends LockWriter {
 
   /** Writes a statement that has no statements in it: a declaration, a fence, a `return`, or an operation. */
   writeSimple(statement, isLast) {
+    if (SHADOWING.test(statement)) this.refuseStatement(OF_NAMES);
     if (defineName(statement, this.names) || this.writeMutex(statement)) return;
     if (this.functions.has(/^\w+(?=\()/.exec(statement)?.[0])) this.refuseStatement(OF_FUNCTIONS);
     const declared = parseDeclaration(statement);

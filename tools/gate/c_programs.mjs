@@ -350,6 +350,14 @@ const REFUSED = [
   ["int r0 = y;", "int r0 = 5; if (y) { while ((r0 = x) != 0) ; }", `\`while ((r0 = x) != 0)\`${OF_BRANCHES}`],
   ["int r0 = y;", "{ int k = 3; if (y) x = k; } if (y) { int k; while ((k = x) != 0) ; }", `\`while ((k = x) != 0)\`${OF_BRANCHES}`],
   ["int r0 = y;", "int e = 1; if (y) { do { e = 0; } while (!x.compare_exchange_weak(e, 1)); }", `\`do { e = 0; } while (!x.compare_exchange..\`${OF_BRANCHES}`],
+  ["int r0 = y;", "const int k = 1; { constexpr int n = 2; { constexpr int n = 3; x = n; } } int r0 = y;", `\`constexpr int n = 3\`${OF_LONE}`],
+  ["int r0 = y;", "constexpr auto o = std::memory_order_release; { constexpr auto o = std::memory_order_seq_cst; x.store(1, o); } int r0 = y;",
+    `\`constexpr auto o = std::memory_order_seq..\`${OF_LONE}`],
+  ["int d;", "enum { A, B }; int d;", `\`int B = 2\`${OF_LONE}`, "int r0 = y;", "int B = 2; int r0 = y;"],
+  ["int d;", "namespace n { atomic_int z; } atomic_int z;", `\`atomic_int z;\`${OF_LONE}`],
+  ["int d;", "namespace n { constexpr int z = 1; } constexpr int z = 2;", `\`constexpr int z = 2;\`${OF_LONE}`],
+  ["int d;", "namespace n { struct S { int z; }; } struct S { atomic_int z; };", `\`struct S { atomic_int z; };\`${OF_LONE}`],
+  ["int r0 = y;", "int r0 = y; r0 *= 2;", "`r0 *= 2`: the x86 format has sums only"],
   ["int r0 = y;", "while (1) ;", `\`while (1)\`${OF_LOOPS}`],
   ["int r0 = y;", "int r0 = y; while (r0 == 1) ;", `\`while (r0 == 1)\`${OF_LOOPS}`],
   ["int r0 = y;", "while (y || x.exchange(1)) ;", `\`while (y || x.exchange(1))\`${OF_LOOPS}`],
@@ -1582,6 +1590,17 @@ int main() { std::thread t1(f, n), t2(g); t1.join(); t2.join(); }
 void f(int i) { uint8_t k = i - 1; a[i] = k; }
 void P0() { f(0); }
 `, `\`uint8_t k = i - 1\`${OF_SMALL}`],
+  ["signs that end nothing, and an enumeration to the last word", `enum { A = 0xffffffff, B };
+std::atomic<int> x;;
+void P0() { x = B; };
+// lw: exists (x=1)
+`, `X86 Mine
+{ x=0; }
+ P0           ;
+ MOV EAX,$0   ;
+ XCHG [x],EAX ;
+exists (x=1)
+`],
   ["an index that is no constant", `std::atomic<int> a[2], x;
 void P0() { int i = x; int r = std::atomic_load(&a[i]); }
 // lw: exists (x=1)
