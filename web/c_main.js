@@ -62,6 +62,7 @@ const OF_CAPTURES = ": a lambda has its variables by reference, as `[&]`";
 const OF_ASKED = ": `main` asks only once";
 const OF_FORMULAS = ": what `main` asks compares variables with constants by `==` or `!=`, joined by `&&` and `||`";
 const OF_NAMES = ": give it a name that no other variable has";
+const OF_UNREACHED = ": no run comes here after a `return`";
 const OF_CODE = ": a thread begins with a function or a lambda, and has an argument for each parameter";
 
 /** Follows the statements of `main`. */
@@ -87,18 +88,28 @@ class MainFollower {
     this.question = null;
   }
 
-  /** Follows statements. Throws NoTest at one that does more than what is rewritten. */
+  /** Follows statements. Throws NoTest at one that does more than what is rewritten, and at one that no run comes to. */
   followStatements(statements) {
+    let isOver = false;
     for (const statement of statements) {
-      if (statement.isRepeated) this.repeated = { statement, names: new Set() };
-      if (statement.number) this.setNumber(statement.number);
-      if (statement.repeat) this.followCounting(statement);
-      else if (statement.block) this.followBlock(statement.block);
-      else if (statement.then) this.followBranch(statement);
-      else if (statement.joined) this.joinAll(statement);
-      else this.followSimple(statement);
-      if (statement.number) this.setNumber({ name: statement.number.name });
+      const isSimple = !statement.block && !statement.then && !statement.repeat && !statement.joined;
+      const code = isSimple ? squeezeCode(removeStrings(statement.code)) : "";
+      if (isOver && !(isSimple && this.isHarmless(code))) refusePart(statement, OF_UNREACHED);
+      this.followStatement(statement);
+      isOver ||= ENDING.test(code);
     }
+  }
+
+  /** Follows a statement. */
+  followStatement(statement) {
+    if (statement.isRepeated) this.repeated = { statement, names: new Set() };
+    if (statement.number) this.setNumber(statement.number);
+    if (statement.repeat) this.followCounting(statement);
+    else if (statement.block) this.followBlock(statement.block);
+    else if (statement.then) this.followBranch(statement);
+    else if (statement.joined) this.joinAll(statement);
+    else this.followSimple(statement);
+    if (statement.number) this.setNumber({ name: statement.number.name });
   }
 
   /** Gives the index of a loop its digit in a pass, or takes it from it if there is none. */
@@ -128,7 +139,7 @@ class MainFollower {
     for (const it of [...statement.then, ...statement.otherwise]) this.checkHarmless(it);
     const [, call] = CHECKED.exec(statement.condition.trim()) ?? [];
     if (call) this.followSimple({ code: call, index: statement.index + statement.code.indexOf(call) });
-    else this.ask(statement, (formula) => `exists (${formatFormula(formula)})`, statement.condition);
+    else this.ask(statement, (formula) => `exists (${formatFormula(formula)})`, joinConditions(statement));
   }
 
   /** Throws NoTest unless a statement, and all statements in it, change nothing that threads share. */
@@ -328,6 +339,13 @@ class MainFollower {
     words.set(name, word);
     this.repeated?.names.add(name);
   }
+}
+
+/** Returns the condition of an `if`, with that of an `if` that is all of its branch. */
+function joinConditions({ condition, then, otherwise }) {
+  const [inner, ...others] = then;
+  const isNested = inner?.then && !others.length && !otherwise.length && !inner.otherwise.length;
+  return isNested ? `(${condition}) && (${joinConditions(inner)})` : condition;
 }
 
 /** Returns a record of a start. */

@@ -202,6 +202,8 @@ const MAINS = [
   [ATOMICS, `${TWO_THREADS} ${JOINS} printf("r1=%d; x++ // (%d)\\n", r1, r2); return 0;`, STORE_THEN_LOAD, BOTH_0],
   ["", `std::atomic<int> x{0}, y{0}; int r1 = 0, r2 = 0; ${TWO_THREADS} ${JOINS} assert(!(r1 == 0 && r2 == 0));`, STORE_THEN_LOAD, NEVER],
   [ATOMICS, `${TWO_THREADS} ${JOINS} if (r1 == 0 && !r2) { puts("both"); } else puts("no");`, STORE_THEN_LOAD, BOTH_0],
+  [ATOMICS, `${TWO_THREADS} ${JOINS} if (r1 == 0) { if (!r2) puts("both"); } exit(0); return 0;`, STORE_THEN_LOAD, BOTH_0],
+  [ATOMICS, `${TWO_THREADS} ${JOINS} if (r1 == 0) { if (!r2) puts("both"); else puts("one"); }`, STORE_THEN_LOAD, "exists (0:EAX=0)"],
   [ATOMICS, `${TWO_THREADS} ${JOINS} assert(r1 || 0 != r2);`, STORE_THEN_LOAD, NEVER],
   [ATOMICS, `${TWO_THREADS} ${JOINS} assert(r1 == 1 || r2 == 1);`, STORE_THEN_LOAD, "forall (0:EAX=1 \\/ 1:EAX=1)"],
   [ATOMICS, `${TWO_THREADS} ${JOINS} assert(x.load() == 1); assert((r1 == 1 || r2 == 1) && y == 1);`, STORE_THEN_LOAD,
@@ -254,6 +256,8 @@ const makeUnset = (name) => `: its passes begin alike if it sets \`${name}\` bef
 const REFUSED_MAINS = [
   ["  std::thread t1", "  for (int i = 0; i < 9; i++) {} std::thread t1", `\`for (int i = 0; i < 9; i++)\`${OF_RUNS}`],
   ["  std::thread t1", "  for (;;) {} std::thread t1", `\`for (;;)\`${OF_RUNS}`],
+  ["int main", "void set() { x = 3; return; y = 4; }\nint main", "`y = 4`: no run comes here after a `return`", "  std::thread t1", "  set(); std::thread t1"],
+  ["  std::thread t1", "  return 0; std::thread t1", "`std::thread t1([&] { x.store(1, std::mem..`: no run comes here after a `return`"],
   ["  assert", "  r1++; assert", "`r1++`: after the joins, `main` only prints, or asks by an `assert` or an `if`"],
   ["  std::thread t1", "  int i = y; std::thread t1", "`int i = y`: an initial value is one constant, as in `x = 1` or `x{1}`, and of a `bool` 0 or 1"],
   ["  std::thread t1", "  x++; std::thread t1", `\`x++\`${OF_BEFORE}`],
