@@ -20,7 +20,8 @@ const OF_POSITIVES = /^(?:[<>/%&|^~]|<=|>=|<<|>>)$/;
 // A greater word may be one without a sign.
 const GREATEST = 2 ** 31;
 // A cast of a constant to a type that has it. And parentheses, in which there are no others, which are those of no call.
-const CAST = /\((?:(?:const|unsigned|signed|long|int|s?size_t|u?int(?:32|64|ptr)_t|void(?=\*)) ?)+\*?\)(?=\d)|\bstatic_cast<[\w ]{1,40}>(?=\(\d+\))/g;
+const TYPE_OF_WORD = "(?:(?:const|unsigned|signed|long|int|s?size_t|u?int(?:32|64|ptr)_t|void(?=\\*)) ?)+\\*?";
+const CAST = new RegExp(`\\(${TYPE_OF_WORD}\\)(?=\\d)|\\bstatic_cast<${TYPE_OF_WORD}>(?=\\(\\d+\\))`, "g");
 const INNER = /(^|[^\w)\]>])\(([^()[\]=,;"?]{1,60}|[^()[\]=,;"?]{1,60}[=!]=[^()[\]=,;"?]{1,60})\)/g;
 // What separates expressions.
 const MARK = /(&&|\|\||[=!<>]=|(?<!<)<(?!<)|(?<!>)>(?!>)|[+\-]=|=|[()[\],?:;{}])/;

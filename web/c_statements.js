@@ -41,6 +41,7 @@ const REASONS = [
   [/^\w+ ?\*(?!=)|&(?=\w+$)/, ": threads have no pointers of their own"],
   [/^\w+:|^goto\b/, ": `goto` and labels are not rewritten"],
   [/[\w)](?:[*\/%^]|&(?!&)|\|(?!\|))|~|<<|>>/, ": the x86 format has sums only"],
+  [/_cast</, ": write the word that the cast results in"],
   [COMPARISON, ": compare in the condition of an `if`"],
   [/^\w+\([^]*\)$|[=(,]\w+\(/, OF_FUNCTIONS],
 ];

@@ -312,7 +312,7 @@ export class ValueWriter {
     if (kind === "load") this.writeInstruction(`MOV ${target},[${name}]`);
     else if (kind === "store" && order !== "seq_cst") this.writeStore(operation);
     else {
-      this.writeValue(kind === "fetch_sub" ? `-${value}` : value, target);
+      this.writeValue(kind === "fetch_sub" ? String(added) : value, target);
       this.writeInstruction(`${isStep(kind) ? "LOCK XADD" : "XCHG"} [${name}],${target}`);
     }
   }

@@ -96,6 +96,8 @@ const STATEMENTS = [
     "MOV EAX,$1; MOV EBX,$2; MOV ECX,EAX; ADD ECX,EBX; MOV [v],ECX; MOV ECX,EAX; ADD ECX,$1; XCHG [x],ECX",
     "int r0 = 1; int r1 = 2; *v = r0 + r1; *x = (r0 + 1);"],
   ["int r0 = x + (-1); int r1 = (r0) - (2);", "MOV EAX,[x]; ADD EAX,$4294967295; MOV EBX,EAX; ADD EBX,$4294967294", null],
+  ["x -= -3; x.fetch_sub(-2); int r0 = x--;",
+    "MOV EBX,$3; LOCK XADD [x],EBX; MOV EBX,$2; LOCK XADD [x],EBX; MOV EAX,$4294967295; LOCK XADD [x],EAX", null],
   ["int r0 = 5 - 2 + 1; int r1 = r0 - -1;", "MOV EAX,$4; MOV EBX,EAX; ADD EBX,$1", "int r0 = 5 - 2 + 1; int r1 = r0 - -1;"],
   ["int r0 = x++ + 1; int r1 = r0 + ++x;",
     "MOV EAX,$1; LOCK XADD [x],EAX; ADD EAX,$1; MOV EBX,$1; LOCK XADD [x],EBX; ADD EBX,$1; ADD EBX,EAX",
@@ -1605,6 +1607,10 @@ void P0() { x = B; };
  XCHG [x],EAX ;
 exists (x=1)
 `],
+  ["casts of constants to a type that has them, and to one that has not", `std::atomic<int> a[2];
+void f(int i) { a[i] = static_cast<unsigned long>(300) + (long)i; a[i] = static_cast<unsigned char>(300); }
+void P0() { f(1); }
+`, "`a[i] = static_cast<unsigned char>(300)`: write the word that the cast results in"],
   ["an index that is no constant", `std::atomic<int> a[2], x;
 void P0() { int i = x; int r = std::atomic_load(&a[i]); }
 // lw: exists (x=1)
