@@ -6,7 +6,7 @@
 // the names of functions that it `calls`, and the conditions of loops `inner` to it. It `isLate` if it assigns before its condition, or not. A loop
 // of loads has the statements of its `body`, and the condition of its next pass.
 
-import { findClosing, parseConstant, refusePart, squeezeCode } from "./c_code.js";
+import { findClosing, parseConstant, refusePart } from "./c_code.js";
 
 /** The number of statements that a statement may be in. */
 export const DEEPEST = 64;
