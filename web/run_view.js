@@ -182,7 +182,9 @@ export class RunView {
     for (const way of isScrolled(this.stage.place) ? ways : [""]) {
       if (!fewest || (fewest < OUT_OF_SIGHT && way.includes("cramped"))) break;
       const cut = this.drawIn(way, least);
-      if (cut < fewest) [best, fewest] = [way, cut];
+      // Fine type is of no use if a part is out of sight.
+      const isWorse = way.includes("fine") && isOutOfSight(this.stage.place);
+      if (cut < fewest && !isWorse) [best, fewest] = [way, cut];
     }
     if (fewest) this.drawIn(best, least);
     return fewest;

@@ -38,7 +38,8 @@ class Faults(PageCase):
         self.assertEqual("=", user.run("return document.querySelector('.marks mark').textContent"))
         self.assertFalse("has no ;" in user.text("#fault"))
         self.assertEqual(1, len(user.all(".notice")))
-        self.assertEqual(["No answer: line 4 of the text has a fault."], user.texts("#outcome .list-place"))
+        self.assertSays("No answer: line 4 of the text has a fault.", "#outcome .list-place")
+        self.assertSays("Line 4, column 12: A statement sets a location or a register by :=.", "#outcome .reason")
         user.click("#fault .go-to")
         self.assertEqual("text", user.focused().get_attribute("id"))
 
@@ -501,6 +502,7 @@ class Faults(PageCase):
         user.run_text(MENDED.replace("MOV EBX", "MVO EBX"))
         self.assertSays("No answer: line 6 of the text has a fault.", "#outcome .no-answer")
         self.assertEqual(1, len(user.all("#watching .machine")))
+        self.assertEqual([], user.all("#outcome .reason"))
         user.run_text(FIVE.replace("x := 1", "x = 1"))
         self.assertSays("No answer: line 4 of the text has a fault.", "#outcome .no-answer")
         self.assertEqual([[], []], [user.all(it) for it in ("#watching .machine", ".states-place")])
