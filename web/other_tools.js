@@ -139,7 +139,7 @@ export function findOtherLanguage(place) {
   const rest = text.slice(index);
   const code = rest.replace(C_COMMENTS, "");
   const [other] = [["Java", JAVA], ["Go", GO]].find(([, pattern]) => pattern.test(code) && !CPP.test(code)) ?? [];
-  if (other) return { words: `This begins as a program in ${other} does. ${IS_READ}`, document: "from-c.html" };
+  if (other) return { words: `This begins as a program in ${other} does. ${IS_READ}`, document: "your-code.html" };
   if (C.test(code)) return explainProgram("This begins as a program or a test in C does.", rest, place);
   if (RUST.test(code)) return explainProgram("This begins as a program in Rust does.", rest, place);
   if (OTHERS.test(token)) return { words: `\`${token}\` is the language of another processor in herd's tests. ${OF_OTHERS}`, document: "from-herd.html" };

@@ -30,6 +30,7 @@ class Document(NamedTuple):
 DOCUMENTS = {
     "tutorial.html": Document("TUTORIAL", "Tutorial", "an hour's walk"),
     "page.html": Document("PAGE", "The page", "all that it shows"),
+    "your-code.html": Document("YOUR-CODE", "Your own code", "what can be pasted, and what it becomes"),
     "lab.html": Document("LAB", "Lab", "90 minutes for a class"),
     "families.html": Document("FAMILIES", "Classic shapes", "by litmus tests, on one page"),
     "fences.html": Document("FENCES", "Fences", "which are needed, and why"),
