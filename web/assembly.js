@@ -1,7 +1,9 @@
 // Makes an x86 test of instructions that have none around them, as a compiler prints them or as somebody writes them below the names of threads. Not
 // proved.
 //
-// The record `AssemblyBlock` is that of assembly_reader.js.
+// The records `AssemblyBlock` and `Line` are those of assembly_reader.js. A `Source` is a text of instructions in its parts: the `front` of a test before it
+// and its `tail`, a question, if it has them, the index of this (`end`), its `threads`, lists of code, the index of each line in the text (`places`), the
+// `locations` that variables are, with the index of the line that first names each (`mentions`), and what `readThreads` returns.
 
 import { alignCells } from "./aligned.js";
 import { findLocations, makeQuestion, REGISTER } from "./assembly_question.js";
@@ -89,15 +91,16 @@ export function formatNames(words) {
   return words.length === 1 ? words[0] : `${words.slice(0, -1).join(", ")} and ${words.at(-1)}`;
 }
 
-/** Returns the codes of threads that a blank line separates; one, if there are too many, or if a jump would leave its thread. */
+/** Returns the lines of threads that a blank line separates; one, if there are too many, or if a jump would leave its thread. */
 function splitAtBlankLines(lines) {
   const threads = [[]];
   for (const line of lines) {
-    if (line) threads.at(-1).push(line);
+    if (line.code) threads.at(-1).push(line);
     else if (threads.at(-1).length) threads.push([]);
   }
   const filled = threads.filter((it) => it.length);
-  const isLeft = (code) => {
+  const isLeft = (thread) => {
+    const code = thread.map((it) => it.code);
     const labels = new Set(code.map((it) => /^([.\w$@]+):/.exec(it)?.[1]));
     return code.some((it) => [...it.matchAll(/\bj\w+\s+([.\w$@]+)$/gi)].some(([, label]) => !labels.has(label)));
   };
@@ -111,18 +114,19 @@ function areNumbered(blocks, first) {
 }
 
 /**
- * Returns the codes of the threads of a text of instructions, as lists of lines; the `first` number that their names have; whether they are `named`; the
+ * Returns the threads of a text of instructions, as lists of lines; the `first` number that their names have; whether they are `named`; the
  * names of the functions that are `leftOut`; and the variables, as blocks. Without names a blank line begins the next thread.
  */
 function readThreads(text) {
   const [front, ...others] = readBlocks(text);
-  const all = others.filter((it) => it.lines.some(Boolean));
-  const isThread = ({ name, lines }) => !NO_THREAD.test(name) && !(name.includes("_M_run") && lines.some((it) => INDIRECT.test(it)));
+  const hasCode = (it) => it.lines.some((line) => line.code);
+  const all = others.filter(hasCode);
+  const isThread = ({ name, lines }) => !NO_THREAD.test(name) && !(name.includes("_M_run") && lines.some((it) => INDIRECT.test(it.code)));
   const kept = all.filter(isThread);
   const [blocks, leftOut] = kept.length ? [kept, all.filter((it) => !kept.includes(it)).map((it) => it.name)] : [all, []];
   const variables = others.filter((it) => it.words.length);
-  if (!blocks.length || front.lines.some(Boolean)) {
-    const threads = all.length ? [front, ...all].filter((it) => it.lines.some(Boolean)).map((it) => it.lines) : splitAtBlankLines(front.lines);
+  if (!blocks.length || hasCode(front)) {
+    const threads = all.length ? [front, ...all].filter(hasCode).map((it) => it.lines) : splitAtBlankLines(front.lines);
     return { threads, names: all.map((it) => it.name), first: 0, leftOut: [], variables };
   }
   const first = areNumbered(blocks, 1) ? 1 : 0;
@@ -137,12 +141,14 @@ function formatLocation(variable, offset) {
   return isReserved(name) ? `${name}_` : name.length > MAX_NAME ? `_${name.slice(1 - MAX_NAME)}` : name;
 }
 
-/** Returns an instruction in which variables have names of locations, and adds these to a map of names. */
-function rewriteVariables(line, locations) {
+/** Returns the code of a line in which variables have names of locations, and adds these to a map of names, and the index of the line to one of mentions. */
+function rewriteVariables({ code: line, index }, locations, mentions) {
   const rewrite = (whole, before, variable, offset) => {
     if (REGISTER.test(variable)) return whole;
     const name = formatLocation(variable, offset);
-    locations.set(Number(offset) ? `${variable}+${Number(offset)}` : variable, name);
+    const key = Number(offset) ? `${variable}+${Number(offset)}` : variable;
+    locations.set(key, name);
+    mentions.set(key, Math.min(index, mentions.get(key) ?? index));
     return before + name;
   };
   const written = line.replace(/\[rip\s*\+\s*(\d+)\]/i, "+$1[rip]").replace(/(?<![-\w+.$])(\d+)\+([A-Za-z_][\w.$:]*)(?=\(%rip\))/, "$2+$1");
@@ -189,34 +195,62 @@ function areInstructions(lines) {
   return !unknown.length || (known.some((it) => it.includes(",")) && unknown.length * 2 <= lines.length);
 }
 
-/** Returns a sentence that refuses the variables of lines, of which a map has the locations, or null. */
-function refuseVariables(lines, locations, variables) {
+/** Returns the index of the first mention of a location in a text; undefined if it has none. */
+function findMention({ locations, mentions }, name) {
+  return mentions.get([...locations].find(([, it]) => it === name)?.[0]);
+}
+
+/** Returns why the variables of a text are refused, a sentence, and the `index` of the place; or null. */
+function refuseVariables(source) {
+  const { threads, locations, mentions, variables } = source;
   const namesakes = findNamesakes(locations);
-  if (namesakes) return `${BEGIN}, in which ${formatNames(namesakes.map((it) => `\`${it}\``))} would have one name.`;
-  const large = findLargeWord(variables, lines);
-  return large ? `${BEGIN}: the initial value of \`${large}\` does not fit into the 32 bits of a word of lw.` : null;
+  if (namesakes) {
+    return { words: `${BEGIN}, in which ${formatNames(namesakes.map((it) => `\`${it}\``))} would have one name.`, index: mentions.get(namesakes[1]) };
+  }
+  const large = findLargeWord(variables, threads.flat());
+  const words = `${BEGIN}: the initial value of \`${large}\` does not fit into the 32 bits of a word of lw.`;
+  return large ? { words, index: findMention(source, large) } : null;
 }
 
-/** Returns a sentence that refuses a text in which a location has two names, or null. */
-function refuseAliases(text, locations) {
+/** Returns why a text in which a location has two names is refused, a sentence, and the `index` of the place; or null. */
+function refuseAliases(text, { locations, mentions }) {
   const [, name] = [...text.matchAll(ALIAS)].find(([, it]) => locations.has(it)) ?? [];
-  return name ? `${BEGIN}, in which \`${name}\` is another name of a variable: write one name.` : null;
+  return name ? { words: `${BEGIN}, in which \`${name}\` is another name of a variable: write one name.`, index: mentions.get(name) } : null;
 }
 
-/** Returns a sentence that refuses the lines of a text of instructions, or null: "" says that they are no instructions. */
-function refuseLines(threads, names) {
-  const lines = threads.flat();
-  if (!areInstructions(lines)) return "";
-  if (lines.some((it) => FRAME.test(it))) return UNOPTIMIZED;
-  const onStack = lines.find((it) => ON_STACK.test(it));
-  if (onStack) return `${BEGIN}. \`${onStack}\` accesses the stack, which no test has.`;
-  if (lines.some((it) => OF_TABLE.test(it))) return POSITION_INDEPENDENT;
-  if (lines.some((it) => UNLINKED.test(it))) return NOT_LINKED;
+// Lines that no test has, and the sentence on the first of them.
+const REFUSED_LINES = [
+  [(it) => FRAME.test(it), () => UNOPTIMIZED],
+  [(it) => ON_STACK.test(it), (code) => `${BEGIN}. \`${code}\` accesses the stack, which no test has.`],
+  [(it) => OF_TABLE.test(it), () => POSITION_INDEPENDENT],
+  [(it) => UNLINKED.test(it), () => NOT_LINKED],
+];
+
+/** Returns a function that returns the first line for which a test holds, and its `index` in the text; undefined if there is none. */
+function makeFinder({ threads, places }) {
+  const lines = threads.flatMap((it, thread) => it.map((code, at) => ({ code, index: places[thread][at] })));
+  return (isSuch) => lines.find((it) => isSuch(it.code));
+}
+
+/**
+ * Returns why the lines of a text of instructions are refused: `words`, a sentence, and the `index` of the place, if that is not the begin; or null. The
+ * words are "" if they are no instructions.
+ */
+function refuseLines(source) {
+  const { threads, names } = source;
+  if (!areInstructions(threads.flat())) return { words: "" };
+  const findLine = makeFinder(source);
+  for (const [isRefused, explain] of REFUSED_LINES) {
+    const line = findLine(isRefused);
+    if (line) return { words: explain(line.code), index: line.index };
+  }
   const parts = names.length ? `, as \`${names[0]}\` and \`${names[1]}\`` : "";
-  if (threads.length > MAX_THREADS) return `${BEGIN}, in ${threads.length} parts${parts}: a test has four threads at most.`;
-  if (threads.some((it) => it.length > MAX_LINES)) return `${BEGIN}: a thread has 32 at most.`;
-  const address = lines.find((it) => ADDRESS.test(it) && !IS_SUM.test(it));
-  return address ? `${BEGIN}: \`${address}\` has an address in a register, and lw has locations by their names only.` : null;
+  if (threads.length > MAX_THREADS) return { words: `${BEGIN}, in ${threads.length} parts${parts}: a test has four threads at most.` };
+  const long = threads.findIndex((it) => it.length > MAX_LINES);
+  if (long >= 0) return { words: `${BEGIN}: a thread has 32 at most.`, index: source.places[long][0] };
+  const address = findLine((it) => ADDRESS.test(it) && !IS_SUM.test(it));
+  const words = `${BEGIN}: \`${address?.code}\` has an address in a register, and lw has locations by their names only.`;
+  return address ? { words, index: address.index } : null;
 }
 
 /**
@@ -250,16 +284,20 @@ function isTooLong(text) {
   return (end >= 0 && text.length - end > LONGEST) || text.split("\n").some(isLong);
 }
 
-/** Returns a text of instructions in its parts: the front of a test before it, and its end, if it has them, its threads, and the locations in them. */
+/** Returns a text of instructions in its parts, as a `Source`. */
 function readSource(text) {
   const [front = ""] = FRONT.exec(text) ?? [];
   const index = text.search(QUESTION);
   const end = index < front.length ? text.length : index;
   const listing = rewriteListing(text.slice(front.length, end));
   const read = readThreads(listing.text);
-  const locations = new Map();
-  const threads = read.threads.map((it) => rewriteReturns(it).map((line) => rewriteVariables(line, locations)));
-  return { ...read, front, locations, threads, isDisassembly: listing.isDisassembly, tail: numberThreads(text.slice(end), read.first) };
+  const [locations, mentions] = [new Map(), new Map()];
+  const findPlace = ({ row, column }) => front.length + listing.begins[row] + column;
+  const lines = read.threads.map((it) => rewriteReturns(it).map((line) => ({ code: line.code, index: findPlace(line) })));
+  const threads = lines.map((it) => it.map((line) => rewriteVariables(line, locations, mentions)));
+  const places = lines.map((it) => it.map((line) => line.index));
+  const tail = numberThreads(text.slice(end), read.first);
+  return { ...read, front, locations, mentions, threads, places, isDisassembly: listing.isDisassembly, tail, end };
 }
 
 /** Returns the text of a test of threads of lines. */
@@ -286,28 +324,31 @@ function makeWritten({ front, threads, tail, locations, variables }) {
 
 /**
  * Returns a test that does the same as the instructions of a text, as `makeWritten` does, and whether its question asks only for the ends of loops
- * (`isLimited`); or `why` there is none: the end of a sentence.
+ * (`isLimited`); or `why` there is none: the end of a sentence, and the `index` of the place, if that is not the begin.
  */
 function makeLowered(source) {
   try {
     const { part, lines, own, block, isShown, tail, ends, said, isBegin } = lowerText(source);
-    if (part) return { why: `: \`${part}\` is in the middle of a word.` };
+    if (part) return { why: `: \`${part}\` is in the middle of a word.`, index: source.mentions.get(part.replace(/\+0$/, "")) };
     const { list, question, isAsked } = makeQuestion(own, false, isShown);
     const { text } = rewriteWhole(formatTest(formatHead(source.front, block), lines, tail || `${list}exists (${question})\n`));
     const { text: made, why } = limitTest(text, ends, QUESTION);
-    if (why ?? !isRead(made)) return { why: why ?? `: ${TOO_LARGE}` };
+    if (why) return { why, index: source.end };
+    if (!isRead(made)) return { why: `: ${TOO_LARGE}` };
     return isBegin(readTest(made)) ? { text: made, isAsked, isLimited: ends.length > 0, said } : { why: `: ${OTHER_BEGIN}` };
   } catch (fault) {
     if (!(fault instanceof Refusal)) throw fault;
     const { message, step } = fault;
     // The label of a jump may be another one than that in the text.
     const code = step?.code.replace(/^(j(?!mp)\w+) .*/, "$1");
-    return { why: step ? `, of which the page does not rewrite \`${code}\`${message ? `: ${message}` : `. ${OTHERWISE}`}` : `: ${message}` };
+    const words = message ? `: ${message}` : `. ${OTHERWISE}`;
+    return { why: step ? `, of which the page does not rewrite \`${code}\`${words}` : `: ${message}`, index: step?.index };
   }
 }
 
 /**
- * Returns a sentence that says that a text has only instructions, with a question or without one, and proposes to make a test of them; or "".
+ * Returns a sentence that says that a text has only instructions, with a question or without one, and proposes to make a test of them; or "". If it refuses
+ * them, `place.at` is the place of the first one that is refused.
  * @param {FaultPlace} place
  * @returns {string}
  */
@@ -318,9 +359,10 @@ export function explainAssembly(place) {
   if (processor) return processor;
   const source = readSource(text);
   const { threads, tail, locations } = source;
-  const refused = refuseLines(threads, source.names) ?? refuseVariables(threads.flat(), locations, source.variables) ?? refuseAliases(text, locations);
-  if (refused !== null) return refused;
-  const { text: made, isAsked, isLimited, said, why } = makeWritten(source) ?? makeLowered(source);
+  const refused = refuseLines(source) ?? refuseVariables(source) ?? refuseAliases(text, source);
+  const { text: made, isAsked, isLimited, said, words, why, index } = refused ?? makeWritten(source) ?? makeLowered(source);
+  if (index !== undefined) place.markMissing(index);
+  if (words !== undefined) return words;
   if (why) return `${BEGIN}${why.replace(/[^.]$/, "$&.")}`;
   place.proposeChange(threads.length > 1 ? alignCells(made) : made, 0, text.length);
   place.change.title = threads.length > 1 ? `Make ${formatNames(threads.map((_, thread) => `P${thread}`))} of them` : "Make it P0 of a test";

@@ -21,11 +21,14 @@ const MAX_LABEL = 32;
 const OF_MEANING = /^(?:call\w*|ud2|hlt|int3?|(?:lock )?cmpxchg(?:8|16)b)\b/i;
 const LINE = /^((?:\w+:\s*)*)(.*)$/;
 
-/** Returns the steps of the lines of a thread, and the indices of the steps that its labels are before, or of the end. Throws Refusal. */
-function readSteps(lines, isAtt) {
-  const all = lines.map((line) => {
+/**
+ * Returns the steps of the lines of a thread, and the indices of the steps that its labels are before, or of the end. A step has the `index` of its line in
+ * the text, of those in `places`. Throws Refusal.
+ */
+function readSteps(lines, isAtt, places = []) {
+  const all = lines.map((line, at) => {
     const [, labels, code] = LINE.exec(line);
-    return { labels: labels.match(/\w+/g) ?? [], code, operation: parseOperation(code, isAtt) ?? { operands: [] } };
+    return { labels: labels.match(/\w+/g) ?? [], code, operation: parseOperation(code, isAtt) ?? { operands: [] }, index: places[at] };
   });
   const indices = new Map(all.flatMap(({ labels }, at) => labels.map((it) => [it, at])));
   const twice = all.find(({ labels }, at) => labels.some((it) => indices.get(it) !== at));
@@ -218,13 +221,13 @@ function writeAll(flows, shared, registers, begins) {
 /**
  * Returns threads that do the same as lines of assembly: their `lines`, the `marker` of each, and the registers that are `shown`; and the `widths` and the
  * `words` of the locations. `initial` returns the word of a location of some width at the begin, `begins` has those of the registers of each thread, or
- * null, and `asked` the registers of each thread that a question names. Throws Refusal.
+ * null, `asked` the registers of each thread that a question names, and `places` the index of each line in the text. Throws Refusal.
  * @param {string[][]} threads
- * @param {{isAtt: boolean, initial: function(string, number): number, begins: (Map<string, number> | null)[], asked: string[][]}} given
+ * @param {{isAtt: boolean, initial: function(string, number): number, begins: (Map<string, number> | null)[], asked: string[][], places: number[][]}} given
  * @returns {object}
  */
-export function lowerThreads(threads, { isAtt, initial, begins, asked }) {
-  const read = threads.map((lines) => readSteps(lines, isAtt));
+export function lowerThreads(threads, { isAtt, initial, begins, asked, places }) {
+  const read = threads.map((lines, thread) => readSteps(lines, isAtt, places[thread]));
   const all = read.map((it) => it.steps);
   const flows = read.map((it) => findFlow(it.steps, it.indices));
   const open = flows.findIndex((it) => !it);

@@ -1,9 +1,9 @@
 // Reads instructions without a test around them, as a compiler prints them or as somebody writes them below the names of threads: the code of each
 // function, and the words of variables. Not proved.
 //
-// An `AssemblyBlock` has the `name` in the line that begins it, or "", the `number` of the thread that this line names, or null, its `lines`, each an
-// instruction, a label with a colon, or "" for a blank line, and the `words` of a variable, each a `word` with its `offset` and its size (`bytes`). The record
-// `Step` is that of block_order.js.
+// An `AssemblyBlock` has the `name` in the line that begins it, or "", the `number` of the thread that this line names, or null, its `lines`, and the `words`
+// of a variable, each a `word` with its `offset` and its size (`bytes`). A `Line` has its `code`: an instruction, a label with a colon, or "" for a blank
+// line; and its place in the text, a `row` and a `column`, which both count from 0. The record `Step` is that of block_order.js.
 
 import { orderSteps } from "./block_order.js";
 
@@ -37,10 +37,16 @@ const RETURN = /^(?:(?:rep|bnd)\s+)?ret[lqnf]?\b/i;
 // An instruction after which a label begins a function.
 const LEAVES = /^(?:(?:rep|bnd)\s+)?(?:ret|jmp|ud2|hlt|int\s?3)/i;
 
-/** Returns the statements of a line, with `;` between them, without its comment. */
+/** Returns the statements of a line, with `;` between them, without its comment, each with its `code` and its `column`. */
 function splitStatements(line) {
-  const code = line.replace(COMMENT, "").trim().replace(/\block\s*;\s*/gi, "lock ");
-  return code.includes(";") ? code.split(";").map((it) => it.trim()).filter(Boolean) : [code];
+  const code = line.replace(COMMENT, "").replace(/\block\s*;/gi, (it) => `${it.slice(0, -1)} `);
+  let begin = 0;
+  const statements = code.split(";").map((it) => {
+    const column = begin + it.length - it.trimStart().length;
+    begin += it.length + 1;
+    return { code: it.trim(), column };
+  });
+  return statements.filter((it) => it.code);
 }
 
 /** Returns the label of a line that has nothing else; undefined if there is none. */
@@ -84,7 +90,9 @@ function listFollowing(lines) {
 class AssemblyReader {
   /** @param {string} text */
   constructor(text) {
-    this.lines = text.split("\n").map((it) => it.trim());
+    const whole = text.split("\n");
+    this.lines = whole.map((it) => it.trim());
+    this.indents = whole.map((it) => it.length - it.trimStart().length);
     const written = this.lines.map((it) => it.replace(COMMENT, ""));
     const code = written.join("\n");
     const shared = new Set(listSharedFunctions(written));
@@ -112,35 +120,41 @@ class AssemblyReader {
       const [, mark, name, number, code = ""] = HEADING.exec(line) ?? [];
       const isHeading = name !== undefined && !this.targets.has(name);
       if (isHeading) this.beginBlock(name, Number(number));
-      const statements = splitStatements(!isHeading ? line : mark ? "" : code);
-      if (!line) this.block.lines.push("");
-      for (const it of statements.filter(Boolean)) this.readStatement(it, at);
+      const rest = !isHeading ? line : mark ? "" : code;
+      const begin = this.indents[at] + line.length - rest.length;
+      if (!line) this.addLine("", at, begin);
+      for (const it of splitStatements(rest)) this.readStatement(it.code, at, begin + it.column);
     }
     return this.blocks;
   }
 
-  /** Reads a statement of the line that has an index. */
-  readStatement(statement, at) {
+  /** Adds code that begins at a place to the lines of the block. */
+  addLine(code, row, column) {
+    this.block.lines.push({ code, row, column });
+  }
+
+  /** Reads a statement of the line that has an index, in which it begins at a column. */
+  readStatement(statement, at, column) {
     const [, procedure] = PROCEDURE.exec(statement) ?? [];
     const label = procedure ?? parseLabelLine(statement) ?? LABEL_BEFORE.exec(statement)?.[1] ?? VARIABLE.exec(statement)?.[1];
     const rest = procedure ? "" : statement.slice(label ? statement.indexOf(label) + label.length : 0).replace(/^\s*:/, "").trim();
     if (procedure) this.declared.add(procedure);
-    if (label) this.readLabel(label, rest, at);
+    if (label) this.readLabel(label, rest, at, column);
     const [, directive, other, list] = DATA.exec(rest) ?? [];
     if (directive ?? other) this.addWords(parseWords(directive ?? other, list));
-    else if (TEXT.test(rest) && !this.block.lines.some(Boolean)) this.addWords([{ word: NaN, bytes: 8 }]);
-    else if (rest && !IGNORED.test(rest)) this.block.lines.push(rest.replace(/\s+/g, " "));
+    else if (TEXT.test(rest) && !this.block.lines.some((it) => it.code)) this.addWords([{ word: NaN, bytes: 8 }]);
+    else if (rest && !IGNORED.test(rest)) this.addLine(rest.replace(/\s+/g, " "), at, column + statement.length - rest.length);
   }
 
   /** Reads a label, which the rest of its line follows: that of a jump, the name of a block, or both, or one to which nothing jumps, which is left out. */
-  readLabel(label, rest, at) {
+  readLabel(label, rest, at, column) {
     const isTarget = this.targets.has(label);
     const isBegin = isTarget ? this.declared.has(label) : !label.startsWith(".") && this.beginsBlock(label, rest, at);
     if (isBegin) {
       const [, digit] = /^P(\d)(?:\(.*\))?$/.exec(label) ?? [];
       this.beginBlock(label, digit === undefined ? null : Number(digit));
     }
-    if (isTarget) this.block.lines.push(`${label}:`);
+    if (isTarget) this.addLine(`${label}:`, at, column);
   }
 
   /**
@@ -148,9 +162,9 @@ class AssemblyReader {
    * of threads say where a function ends.
    */
   beginsBlock(label, rest, at) {
-    const code = this.block.lines.filter(Boolean);
+    const code = this.block.lines.map((it) => it.code).filter(Boolean);
     const next = rest || this.following[at];
-    const isNamed = !this.hasEnds && !this.blocks[0].lines.some(Boolean);
+    const isNamed = !this.hasEnds && !this.blocks[0].lines.some((it) => it.code);
     return isNamed || this.declared.has(label) || !code.length || LEAVES.test(code.at(-1)) || DATA.test(next ?? "");
   }
 
@@ -173,8 +187,8 @@ export function readBlocks(text) {
   const blocks = new AssemblyReader(text).readAll();
   const named = new Map(blocks.filter((it) => it.name).map((it) => [it.name, it.lines]));
   return blocks.map((block) => {
-    const [only, another] = block.lines.filter(Boolean);
-    const [, name] = (another === undefined && ONLY_JUMP.exec(only ?? "")) || [];
+    const [only, another] = block.lines.filter((it) => it.code);
+    const [, name] = (another === undefined && ONLY_JUMP.exec(only?.code ?? "")) || [];
     return name && name !== block.name && named.has(name) ? { ...block, lines: named.get(name) } : block;
   });
 }
@@ -188,10 +202,10 @@ function rewriteLabel(label) {
 function readSteps(lines) {
   const steps = [];
   let labels = [];
-  for (const line of lines.filter(Boolean)) {
-    if (line.endsWith(":")) labels.push(line.slice(0, -1));
+  for (const line of lines.filter((it) => it.code)) {
+    if (line.code.endsWith(":")) labels.push(line.code.slice(0, -1));
     else {
-      steps.push({ labels, code: line });
+      steps.push({ ...line, labels });
       labels = [];
     }
   }
@@ -209,8 +223,8 @@ function makeEnd(labels) {
 /**
  * Returns lines of a function with its labels before instructions, in which each return but the last one jumps to a label at the end, and so does what
  * jumps to a return. Only loops jump back.
- * @param {string[]} lines
- * @returns {string[]}
+ * @param {Line[]} lines
+ * @returns {Line[]}
  */
 export function rewriteReturns(lines) {
   const { steps, last } = readSteps(lines);
@@ -218,10 +232,11 @@ export function rewriteReturns(lines) {
   const isReturn = (it) => RETURN.test(it.code);
   const ends = new Set([...steps.filter(isReturn).flatMap((it) => it.labels), ...last]);
   const rewriteJump = (code) => code.replace(JUMP, (jump, label) => jump.slice(0, -label.length) + (ends.has(label) ? end : rewriteLabel(label)));
-  const rewriteStep = (it) => ({ labels: isReturn(it) ? [] : it.labels.map(rewriteLabel), code: isReturn(it) ? `jmp ${end}` : rewriteJump(it.code) });
+  const rewriteCode = (it) => (isReturn(it) ? `jmp ${end}` : rewriteJump(it.code));
+  const rewriteStep = (it) => ({ ...it, labels: isReturn(it) ? [] : it.labels.map(rewriteLabel), code: rewriteCode(it) });
   const written = orderSteps(steps.map(rewriteStep), end);
   const isLast = ({ labels, code }) => !labels.length && new RegExp(`^jmp\\s+(?:short\\s+)?${end}$`, "i").test(code);
   while (written.length && isLast(written.at(-1))) written.pop();
-  const code = written.map((it) => [...it.labels.map((label) => `${label}:`), it.code].join(" "));
-  return written.some((it) => it.code.endsWith(` ${end}`)) ? [...code, `${end}:`] : code;
+  const code = written.map(({ labels, ...it }) => ({ ...it, code: [...labels.map((label) => `${label}:`), it.code].join(" ") }));
+  return written.some((it) => it.code.endsWith(` ${end}`)) ? [...code, { ...code.at(-1), code: `${end}:` }] : code;
 }

@@ -1,4 +1,6 @@
 // Makes the parts of a test of functions in assembly: the code of its threads, the words at the begin, and what the question has to know. Not proved.
+//
+// The record `Source` is that of assembly.js.
 
 import { parseRegister } from "./assembly_operations.js";
 import { listUnset, lowerThreads } from "./assembly_lowering.js";
@@ -78,32 +80,35 @@ function describeLowering({ written, widths, pairs }) {
   ];
 }
 
-/** Returns the end of a test in which the registers that it asks for have lw's names. Throws Refusal for one that has no word at the end. */
-function renameSites(tail, { written, registers }) {
-  return tail.replace(SITE, (whole, thread, colon, name) => {
+/**
+ * Returns the end of a test, which begins at an index of the text, in which the registers that it asks for have lw's names. Throws Refusal for one that has
+ * no word at the end.
+ */
+function renameSites(tail, begin, { written, registers }) {
+  return tail.replace(SITE, (whole, thread, colon, name, index) => {
     const { register, width } = parseRegister(name) ?? {};
     if (!register || !written[thread]) return whole;
     const isKnown = (it) => it.register === register && (it.known >= Math.min(width, 32) || register === "RAX");
-    if (!written[thread].shown.some(isKnown)) throw new Refusal(OF_PART, { code: whole });
+    if (!written[thread].shown.some(isKnown)) throw new Refusal(OF_PART, { code: whole, index: begin + index });
     return `${thread}${colon}${registers[thread].names.get(register)}`;
   });
 }
 
 /**
  * Returns what a test of threads in assembly has: their `lines`, the `own` ones of the code, the `block` of words at the begin, whether a site of a register
- * `isShown`, the `tail` of the text, which has a question, with lw's registers, the `ends` to which the question is limited, and what is `said`. `front` is the
- * front of a test before them, or "". `isBegin` says whether a test has the words at the begin that were taken. Throws Refusal.
- * @param {{threads: string[][], locations: Map<string, string>, variables: AssemblyBlock[], front: string, tail: string}} source
+ * `isShown`, the `tail` of the text, which has a question, with lw's registers, the `ends` to which the question is limited, and what is `said`. `isBegin`
+ * says whether a test has the words at the begin that were taken. Throws Refusal.
+ * @param {Source} source
  * @returns {object}
  */
-export function lowerText({ threads, locations, variables, front, tail }) {
+export function lowerText({ threads, places, locations, variables, front, tail, end }) {
   const read = makeInitial(variables, locations);
   const { words, begins } = readFront(front, threads.length);
   const initial = (name, width) => words.get(name) ?? read(name, width);
   const sites = [...tail.matchAll(SITE)].map(([, thread, , name]) => ({ thread: Number(thread), register: parseRegister(name)?.register }));
   const asked = begins.map((begin, thread) => [...begin.keys(), ...sites.filter((it) => it.thread === thread && it.register).map((it) => it.register)]);
   const isAtt = isInAtt(threads);
-  const lowered = lowerThreads(threads, { isAtt, initial, begins: begins.map((it) => (front ? it : null)), asked });
+  const lowered = lowerThreads(threads, { isAtt, initial, begins: begins.map((it) => (front ? it : null)), asked, places });
   const { written, widths } = lowered;
   const part = findPart(widths, locations);
   if (part) return { part };
@@ -114,7 +119,7 @@ export function lowerText({ threads, locations, variables, front, tail }) {
     own: written.map((it) => it.own),
     block: entries.map(({ name, word }) => `${name}=${word};`).join(" "),
     isShown: (site) => !site.includes(":") || shown.has(site),
-    tail: renameSites(tail, lowered),
+    tail: renameSites(tail, end, lowered),
     ends: written.flatMap(({ marker }, thread) => (marker ? [{ name: `${thread}:${marker}`, word: 1, isEqual: true }] : [])),
     said: describeLowering(lowered),
     isBegin: (test) => test.locations.every((name, at) => !widths.has(name) || test.words[at] === initial(name, widths.get(name))),

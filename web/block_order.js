@@ -1,7 +1,8 @@
 // Orders the code of a thread so that its jumps go forward, as lw wants them: compilers put code that runs rarely at the end, from where it jumps back.
 // Only the jump back of a loop stays one. Not proved.
 //
-// A `Step` has its `labels`, and its `code`: an instruction. A block is a list of steps that a run enters at the first one only, and leaves at the last one.
+// A `Step` has its `labels`, its `code`: an instruction, and the `row` and the `column` of its place in the text. A block is a list of steps that a run
+// enters at the first one only, and leaves at the last one.
 
 const JUMP = /^j(\w+)\s+(?:short\s+)?(\w+)$/i;
 // More steps than this are not ordered.
@@ -69,11 +70,11 @@ function sortBlocks(next) {
 function linkBlock(block, { jumped, continued }, following, label) {
   const { condition } = parseJump(block.at(-1));
   const front = condition ? block.slice(0, -1) : block;
-  const makeJump = (name, to) => ({ labels: condition ? block.at(-1).labels : [], code: `j${name} ${label(to)}` });
+  const makeJump = (name, to) => ({ ...block.at(-1), labels: condition ? block.at(-1).labels : [], code: `j${name} ${label(to)}` });
   if (condition === "mp") return jumped === following && !block.at(-1).labels.length ? front : block;
   if (continued === following) return block;
   if (jumped === following && OPPOSITES[condition]) return [...front, makeJump(OPPOSITES[condition], continued)];
-  return [...block, { labels: [], code: `jmp ${label(continued)}` }];
+  return [...block, { ...block.at(-1), labels: [], code: `jmp ${label(continued)}` }];
 }
 
 /** Returns a label for the block at an index, and records it. */

@@ -17,6 +17,16 @@ const SYMBOL = /^\s*(?:0x)?([\da-f]+)(?:\s+<([^>+]+)(?:\+(?:(0x[\da-f]+)|(\d+)))
 const JUMP = /^((?:(?:bnd|notrack)\s+)?(?:j\w+|callq?)\s+)(?:0x)?([\da-f]+)(?:\s+<([^>+]+(?:>[^>+]*)*)(\+\w+)?>)?\s*$/i;
 const MANGLED = /"?\?([A-Za-z_]\w*)((?:@[A-Za-z_]\w*)*)@@[\w@?$]*"?/g;
 
+/** Returns the lines of a text, each with the index at which it begins. */
+function listLines(text) {
+  let end = 0;
+  return text.split("\n").map((line) => {
+    const begin = end;
+    end += line.length + 1;
+    return [line, begin];
+  });
+}
+
 /** Returns an instruction in which a variable has its name, if a comment or a relocation says it. What is no variable is one of the `functions`. */
 function nameVariable(code, relocation, functions) {
   const comment = code.indexOf("#");
@@ -30,19 +40,22 @@ function nameVariable(code, relocation, functions) {
   return code.slice(0, comment).replace(ADDRESS, `${place}${address.startsWith("[") ? "[rip]" : "(%rip)"}`);
 }
 
-/** Returns the lines of a disassembly, each with what it has: its `address`, its `code`, the `name` of the function that it begins, and its `relocation`. */
+/**
+ * Returns the lines of a disassembly, each with the index at which its code is in the text (`begin`), and what it has: its `address`, its `code`, the `name`
+ * of the function that it begins, and its `relocation`.
+ */
 function readLines(text) {
   const lines = [];
-  for (const line of text.split("\n")) {
+  for (const [line, begin] of listLines(text)) {
     const [, at, symbol = ""] = RELOCATION.exec(line) ?? [];
     const [, name, other] = FUNCTION.exec(line) ?? [];
     const [, address, bytes, code] = INSTRUCTION.exec(line) ?? [];
     if (symbol && lines.length) {
       const [added = "+0"] = ADDED.exec(symbol.trim()) ?? [];
       lines.at(-1).relocation = { at: parseInt(at, 16), name: symbol.trim().replace(ADDED, ""), added: Number(added.slice(1)) * (added[0] === "-" ? -1 : 1) };
-    } else if (name ?? other) lines.push({ name: name ?? other });
-    else if (address && code) lines.push({ address: address.replace(/^0+(?=.)/, "").toLowerCase(), code });
-    else if (!bytes && line.trim() && !REST.test(line)) lines.push({ code: line });
+    } else if (name ?? other) lines.push({ begin, name: name ?? other });
+    else if (address && code) lines.push({ begin: begin + line.length - code.length, address: address.replace(/^0+(?=.)/, "").toLowerCase(), code });
+    else if (!bytes && line.trim() && !REST.test(line)) lines.push({ begin, code: line });
   }
   return lines;
 }
@@ -55,7 +68,7 @@ function nameTarget({ code, relocation }, current) {
   return { code: jump + (name ?? `L${target.toLowerCase()}`), label: name ? null : target.toLowerCase() };
 }
 
-/** Returns assembly that is the lines of a disassembly. */
+/** Returns assembly that is the lines of a disassembly, as a `text`, and the index in that for the begin of each line (`begins`). */
 function formatLines(lines) {
   const functions = new Set(lines.flatMap(({ name }) => name ?? []));
   let current = "";
@@ -64,18 +77,23 @@ function formatLines(lines) {
     return { ...line, ...(line.name ? {} : (nameTarget(line, current) ?? { code: nameVariable(line.code, line.relocation, functions) })) };
   });
   const labels = new Set(written.map((it) => it.label));
-  const format = ({ name, address, code }) => (name ? `.globl ${name}\n${name}:` : `${labels.has(address) ? `L${address}: ` : ""}${code}`);
-  return written.map(format).join("\n");
+  const formatted = written.flatMap(({ begin, name, address, code }) => {
+    if (name) return [`.globl ${name}`, `${name}:`].map((it) => ({ begin, code: it }));
+    const label = labels.has(address) ? `L${address}: ` : "";
+    return [{ begin: begin - label.length, code: label + code }];
+  });
+  return { text: formatted.map((it) => it.code).join("\n"), begins: formatted.map((it) => it.begin) };
 }
 
 /**
- * Returns a text in which a disassembly is assembly, and names of Microsoft's compiler are those of the program; and whether it is a disassembly.
+ * Returns a text in which a disassembly is assembly, and names of Microsoft's compiler are those of the program; whether it is a disassembly; and for the
+ * begin of each line of the returned text the index in the other one (`begins`).
  * @param {string} text
- * @returns {{text: string, isDisassembly: boolean}}
+ * @returns {{text: string, isDisassembly: boolean, begins: number[]}}
  */
 export function rewriteListing(text) {
   const isDisassembly = text.split("\n").some((it) => FUNCTION.test(it) || LINE.test(it) || (it.includes("#") && ADDRESS.test(it)));
-  const plain = isDisassembly ? formatLines(readLines(text)) : text;
+  const { text: plain, begins } = isDisassembly ? formatLines(readLines(text)) : { text, begins: listLines(text).map(([, begin]) => begin) };
   const rename = (_, name, classes) => [...classes.split("@").slice(1).reverse(), name].join("::");
-  return { text: plain.includes("?") ? plain.replace(MANGLED, rename) : plain, isDisassembly };
+  return { text: plain.includes("?") ? plain.replace(MANGLED, rename) : plain, isDisassembly, begins };
 }

@@ -257,6 +257,38 @@ const COMPILED = [
     null],
 ];
 
+// Texts that are refused, how the words on each begin after `BEGIN`, and the row and the column of the place.
+const PLACES = [
+  ["a second instruction that is equal in its beginning", "f:\n\tmov ecx, [x]\n\tret\ng:\n\tmov ecx, [x]\n\timul eax, ecx\n\tret\n",
+    ", of which the page does not rewrite `imul eax, ecx`.", 6, 2],
+  ["the second of equal instructions", "P0:\n mov eax, 1\n neg eax\n mov [x], eax\nP1:\n mov eax, 1\n neg eax\n je L\n mov [y], eax\nL: mov [z], eax\n",
+    ", of which the page does not rewrite `neg eax`.", 7, 2],
+  ["a statement after others in its line", "P0: mov [x], 1; mov [y], 1\nP1: mov eax, [y]; lock; inc dword ptr [x]; imul eax, ebx ; bsf\n",
+    ", of which the page does not rewrite `imul eax, ebx`.", 2, 44],
+  ["an instruction after a label", "P0:\n mov [x], 1\nP1:\nL: imul eax, ecx\n jne L\n",
+    ", of which the page does not rewrite `imul eax, ecx`.", 4, 4],
+  ["a call that others prepare", "f:\n subq $8, %rsp\n movl $1, x(%rip)\n call g\n addq $8, %rsp\n ret\n",
+    ", of which the page does not rewrite `call g`: a test has no calls", 4, 2],
+  ["an instruction of a disassembly", "0000000000001180 <f>:\n    1180:\tc6 05 a9 2e 00 00 01 \tmovb   $0x1,0x2ea9(%rip)        # 4030 <x>\n    1187:\t0f af c1 \timul   %ecx,%eax\n    118a:\tc3                   \tret\n",
+    ", of which the page does not rewrite `imul %ecx,%eax`.", 3, 21],
+  ["code that returns jump over", "f:\n movl x(%rip), %eax\n testl %eax, %eax\n jne .L2\n.L3:\n movl $1, y(%rip)\n ret\n.L2:\n imull %eax, %eax\n jmp .L3\n",
+    ", of which the page does not rewrite `imull %eax, %eax`.", 9, 2],
+  ["a variable on the stack", "f:\n\tmovl\tx(%rip), %eax\n\tmovl\t$1, -4(%rsp)\n\tret\n",
+    ". `movl $1, -4(%rsp)` accesses the stack", 3, 2],
+  ["an address in a register, after the front of a test", "X86 A\n{ x=1; }\nP0:\n mov [x],1\n mov [rdi], eax\nexists (x=1)\n",
+    ": `mov [rdi], eax` has an address in a register", 5, 2],
+  ["code of a library", "f:\n movl $1, y(%rip)\n movq x@GOTPCREL(%rip), %rax\n ret\n",
+    "These are instructions of a library", 3, 2],
+  ["two variables of one name", "f:\n movl $1,a_4(%rip)\n movl 4+a(%rip),%eax\n ret\n",
+    ", in which `a_4` and `a+4` would have one name.", 3, 2],
+  ["a part of a word", "f:\n movl a(%rip),%eax\n movl $1,a+2(%rip)\n ret\n",
+    ": `a+2` is in the middle of a word.", 3, 2],
+  ["a question on more bits than are known", "P0:\n movb x(%rip), %bl\nexists (0:ebx=1)\n",
+    ", of which the page does not rewrite `0:ebx`", 3, 9],
+  ["too many functions", "a:\n mov [x],1\n ret\nb:\n mov [x],2\n ret\nc:\n mov [x],3\n ret\nd:\n mov [x],4\n ret\ne:\n mov [x],5\n ret\n",
+    ", in 5 parts, as `a` and `b`", 1, 1],
+];
+
 const ONE = "This loop only waits, so one try is enough: its thread can leave it by a jump forward";
 const MORE = "These loops only wait, so one try is enough: threads can leave them by jumps forward";
 const ASKED = ", and the question leaves them out.";
@@ -537,6 +569,14 @@ export async function compareAssemblyTexts(compare) {
     const expected = words.replace(/^(?=[:,.])/, BEGIN);
     compare(`the words on ${name}`, expected, hint.words.slice(0, expected.length));
     compare(`the test of ${name}`, made, applyChange(text, hint));
+  }
+  for (const [name, text, words, row, column] of PLACES) {
+    const fault = makeFault(text);
+    const { words: found, at = fault } = page.faults.explainFault(fault, text);
+    const expected = words.replace(/^(?=[:,.])/, BEGIN);
+    compare(`the words on ${name}`, expected, found.slice(0, expected.length));
+    const index = text.split("\n").slice(0, row - 1).reduce((sum, line) => sum + line.length + 1, 0) + column - 1;
+    compare(`the place of ${name}`, { row, column, index }, { row: at.row, column: at.column, index: at.index });
   }
   for (const [name, text, words, made] of LOOPS) {
     const hint = page.faults.explainFault(makeJumpFault(text), text);
