@@ -6,7 +6,7 @@
 // `locations` that variables are, with the index of the line that first names each (`mentions`), and what `readThreads` returns.
 
 import { alignCells } from "./aligned.js";
-import { findLocations, makeQuestion, REGISTER } from "./assembly_question.js";
+import { findLocations, formatList, guessQuestion, REGISTER } from "./assembly_question.js";
 import { readBlocks, rewriteReturns } from "./assembly_reader.js";
 import { describeUnset, limitTest, lowerText } from "./assembly_test.js";
 import { rewriteListing } from "./disassembly.js";
@@ -78,7 +78,8 @@ const BEGIN = "These are instructions without a test around them";
 const TOO_LARGE = "a test has eight locations at most, and each thread of it 32 instructions";
 const OF_GUESS = "The question is a guess: change it to yours.";
 const OF_TRUE = "The question `true` holds always: look at the list of states.";
-const OF_ENDS = "The question only asks for the ends of loops: change it to yours.";
+// The question of a test of which none is guessed.
+const TRUE = "exists (true)\n";
 const OTHER_BEGIN = "write the initial values as `{ x=1; }`";
 const OTHERWISE = "Write it by `MOV`, `ADD`, `CMP`, jumps forward, `MFENCE`, `XCHG` and `LOCK XADD`, or leave it out";
 
@@ -312,30 +313,51 @@ const formatHead = (front, words) => front || `X86 Mine\n{${words.replace(/.+/, 
 
 /**
  * Returns a test that has the instructions of a text in lw's notation, whether its question asks for something, and what is said of it; null if lw would not
- * read it.
+ * read it. `isLooping` says that its loops only wait, and that they are still to be left.
  */
 function makeWritten({ front, threads, tail, locations, variables }) {
   if (findPartOfWord(threads.flat(), locations)) return null;
-  const { list, question, isAsked } = makeQuestion(threads, /%e?[a-z]{2}\b|\$\w/.test(threads.flat().join("\n")));
-  const made = formatTest(formatHead(front, formatWords(variables, threads.flat())), threads, tail || `${list}exists (${question})\n`);
-  const { text, words } = rewriteWhole(made);
-  return isRead(text) || (threads.length && isRead(leaveAllLoops(text))) ? { text, isAsked, said: [words, !front && describeUnset(threads)] } : null;
+  const head = formatHead(front, formatWords(variables, threads.flat()));
+  const bare = rewriteWhole(formatTest(head, threads, tail || TRUE)).text;
+  const isLooping = !isRead(bare);
+  if (isLooping && !(threads.length && isRead(leaveAllLoops(bare)))) return null;
+  const guess = tail || isLooping ? null : guessQuestion(readTest(bare));
+  const list = formatList(threads, /%e?[a-z]{2}\b|\$\w/.test(threads.flat().join("\n")), guess ?? "");
+  const { text, words } = rewriteWhole(formatTest(head, threads, tail || `${list}${guess ?? TRUE}`));
+  return { text, isAsked: guess !== null, isLooping, said: [words, !front && describeUnset(threads)] };
 }
 
 /**
- * Returns a test that does the same as the instructions of a text, as `makeWritten` does, and whether its question asks only for the ends of loops
- * (`isLimited`); or `why` there is none: the end of a sentence, and the `index` of the place, if that is not the begin.
+ * Returns a test of what `lowerText` returns, and whether its question asks for something, as `makeWritten` does; or `why` there is none. A question that is
+ * guessed asks only for the states in which all loops have ended.
+ */
+function formatLowered({ lines, own, block, isShown, tail, ends, say, isBegin, looping }, front) {
+  const head = formatHead(front, block);
+  const { text: bare } = rewriteWhole(formatTest(head, lines, tail || TRUE));
+  const { text: limited, why } = tail ? limitTest(bare, ends, QUESTION) : { text: bare };
+  if (why) return { why, isOfQuestion: true };
+  if (!isRead(limited)) return { why: `: ${TOO_LARGE}` };
+  const test = readTest(limited);
+  if (!isBegin(test)) return { why: `: ${OTHER_BEGIN}` };
+  if (tail) return { text: limited, said: say(true) };
+  const guess = guessQuestion(test, looping, isShown);
+  const markers = guess ? [] : ends.map((it) => it.name);
+  const list = formatList(own, false, guess ?? "", isShown, markers);
+  const { text } = rewriteWhole(formatTest(head, lines, `${list}${guess ?? TRUE}`));
+  const { text: made } = guess ? limitTest(text, ends, QUESTION) : { text };
+  return isRead(made) ? { text: made, isAsked: guess !== null, said: say(guess !== null) } : { why: `: ${TOO_LARGE}` };
+}
+
+/**
+ * Returns a test that does the same as the instructions of a text, as `makeWritten` does; or `why` there is none: the end of a sentence, and the `index` of
+ * the place, if that is not the begin.
  */
 function makeLowered(source) {
   try {
-    const { part, lines, own, block, isShown, tail, ends, said, isBegin } = lowerText(source);
+    const { part, ...lowered } = lowerText(source);
     if (part) return { why: `: \`${part}\` is in the middle of a word.`, index: source.mentions.get(part.replace(/\+0$/, "")) };
-    const { list, question, isAsked } = makeQuestion(own, false, isShown);
-    const { text } = rewriteWhole(formatTest(formatHead(source.front, block), lines, tail || `${list}exists (${question})\n`));
-    const { text: made, why } = limitTest(text, ends, QUESTION);
-    if (why) return { why, index: source.end };
-    if (!isRead(made)) return { why: `: ${TOO_LARGE}` };
-    return isBegin(readTest(made)) ? { text: made, isAsked, isLimited: ends.length > 0, said } : { why: `: ${OTHER_BEGIN}` };
+    const made = formatLowered(lowered, source.front);
+    return made.isOfQuestion ? { ...made, index: source.end } : made;
   } catch (fault) {
     if (!(fault instanceof Refusal)) throw fault;
     const { message, step } = fault;
@@ -344,6 +366,14 @@ function makeLowered(source) {
     const words = message ? `: ${message}` : `. ${OTHERWISE}`;
     return { why: step ? `, of which the page does not rewrite \`${code}\`${words}` : `: ${message}`, index: step?.index };
   }
+}
+
+/** Returns a test of the instructions of a text, or why there is none, as `makeLowered` does: in its own notation, if lw reads it. */
+function makeTest(source) {
+  const written = makeWritten(source);
+  if (written && (source.tail || !written.isLooping)) return written;
+  const lowered = makeLowered(source);
+  return lowered.why && written ? written : lowered;
 }
 
 /**
@@ -360,7 +390,7 @@ export function explainAssembly(place) {
   const source = readSource(text);
   const { threads, tail, locations } = source;
   const refused = refuseLines(source) ?? refuseVariables(source) ?? refuseAliases(text, source);
-  const { text: made, isAsked, isLimited, said, words, why, index } = refused ?? makeWritten(source) ?? makeLowered(source);
+  const { text: made, isAsked, said, words, why, index } = refused ?? makeTest(source);
   if (index !== undefined) place.markMissing(index);
   if (words !== undefined) return words;
   if (why) return `${BEGIN}${why.replace(/[^.]$/, "$&.")}`;
@@ -368,6 +398,5 @@ export function explainAssembly(place) {
   place.change.title = threads.length > 1 ? `Make ${formatNames(threads.map((_, thread) => `P${thread}`))} of them` : "Make it P0 of a test";
   place.change.done = "Rewritten.";
   place.isOffer = true;
-  const guess = isAsked ? OF_GUESS : isLimited ? OF_ENDS : OF_TRUE;
-  return [`${BEGIN}.`, ...describeThreads(source, locations), !tail && guess, ...said].filter(Boolean).join(" ").trim();
+  return [`${BEGIN}.`, ...describeThreads(source, locations), !tail && (isAsked ? OF_GUESS : OF_TRUE), ...said].filter(Boolean).join(" ").trim();
 }

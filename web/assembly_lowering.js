@@ -175,7 +175,8 @@ class ThreadWriter extends StepWriter {
 
   /**
    * Returns the lines of the thread, with those labels that are used; those of them that are `own`: all except the end of a thread with a loop, in which a
-   * `marker`, a register, is set to 1; and the registers that are `shown`. Throws if no run comes to the end.
+   * `marker`, a register, is set to 1; the registers that are `shown`; and for each line of the code whether it is in a loop (`looping`). Throws if no run
+   * comes to the end.
    */
   finish() {
     if (!this.states.has(this.flow.steps.length)) throw new Refusal(OF_ENDLESS, this.flow.steps[this.flow.loops[0]?.from ?? 0]);
@@ -188,7 +189,10 @@ class ThreadWriter extends StepWriter {
     const isUsed = (label) => this.lines.some((it) => it.code.endsWith(` ${label}`));
     const format = ({ labels, code }) => `${labels.filter(isUsed).map((it) => `${it}: `).join("")}${code}`.trim();
     const lines = [...this.lines, { labels: this.pending, code: "" }].map(format);
-    return { lines: lines.filter(Boolean), own: (marker ? lines.slice(0, ownCount) : lines).filter(Boolean), marker, shown: this.listKnown() };
+    const own = (marker ? lines.slice(0, ownCount) : lines).filter(Boolean);
+    const { steps, loops } = this.flow;
+    const looping = this.lines.slice(0, ownCount).map(({ step }) => loops.some((it) => it.nodes.has(steps.indexOf(step))));
+    return { lines: lines.filter(Boolean), own, marker, shown: this.listKnown(), looping };
   }
 
   /** Returns the registers of which the lowest bits are known at the end, with their names in lw and the number of these bits. */

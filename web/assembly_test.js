@@ -12,6 +12,7 @@ const SITE = /\b(\d)(\s*:\s*)(%?[a-z]\w*)/gi;
 const ENTRY = /(?<!\w)(?:(\d)\s*:\s*)?%?(?<!\w)([A-Za-z_]\w*)\s*=\s*(0x[\da-f]+|\d+)/gi;
 const OF_HALF = "the word at the begin does not fit into the bits that are accessed";
 const OF_PART = "not all of its bits are known at the end of the thread";
+const OF_LIMITED = ", and the question leaves them out.";
 const OF_QUESTION = ": a question is `exists (..)`, `~exists (..)` or `forall (..)`.";
 
 /** Returns the place of a location: the name of its variable, and its first byte in this. */
@@ -68,15 +69,15 @@ export function describeUnset(threads) {
   return sites.length ? `${sites[0]} has no value before it is read: it is 0 here.` : "";
 }
 
-/** Returns sentences on what is in place of bytes, of loops and of compare-exchanges. */
-function describeLowering({ written, widths, pairs }) {
+/** Returns sentences on what is in place of bytes, of loops and of compare-exchanges. `isLimited` says whether the question asks for the ends of loops. */
+function describeLowering({ written, widths, pairs }, isLimited) {
   const other = [...widths].find(([, width]) => width !== 32);
   const ends = written.flatMap(({ marker }, thread) => (marker ? [`\`${thread}:${marker}=1\` says that P${thread} has come to its end`] : []));
   const [pair] = pairs;
   return [
     other && `\`${other[0]}\` has ${other[1]} bits: all its values fit, so a word of lw does the same.`,
     pair && `\`lock cmpxchg\` is an \`XCHG\` here, since \`${pair}\` only has the two words that it expects and writes.`,
-    ends.length && `A loop that waits is one pass here: ${ends.join(", ")}. Other states are in the list, too, and the question leaves them out.`,
+    ends.length && `A loop that waits is one pass here: ${ends.join(", ")}. Other states are in the list, too${isLimited ? OF_LIMITED : "."}`,
   ];
 }
 
@@ -95,9 +96,10 @@ function renameSites(tail, begin, { written, registers }) {
 }
 
 /**
- * Returns what a test of threads in assembly has: their `lines`, the `own` ones of the code, the `block` of words at the begin, whether a site of a register
- * `isShown`, the `tail` of the text, which has a question, with lw's registers, the `ends` to which the question is limited, and what is `said`. `isBegin`
- * says whether a test has the words at the begin that were taken. Throws Refusal.
+ * Returns what a test of threads in assembly has: their `lines`, the `own` ones of the code, and for each of these whether it is in a loop (`looping`); the
+ * `block` of words at the begin, whether a site of a register `isShown`, the `tail` of the text, which has a question, with lw's registers, and the `ends` to
+ * which a question can be limited. `say` returns what is said of the test, given whether it is so. `isBegin` says whether a test has the words at the begin
+ * that were taken. Throws Refusal.
  * @param {Source} source
  * @returns {object}
  */
@@ -121,7 +123,8 @@ export function lowerText({ threads, places, locations, variables, front, tail, 
     isShown: (site) => !site.includes(":") || shown.has(site),
     tail: renameSites(tail, end, lowered),
     ends: written.flatMap(({ marker }, thread) => (marker ? [{ name: `${thread}:${marker}`, word: 1, isEqual: true }] : [])),
-    said: describeLowering(lowered),
+    say: (isLimited) => describeLowering(lowered, isLimited),
+    looping: written.map((it) => it.looping),
     isBegin: (test) => test.locations.every((name, at) => !widths.has(name) || test.words[at] === initial(name, widths.get(name))),
   };
 }

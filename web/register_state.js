@@ -76,7 +76,7 @@ export class RegisterState {
 
   /** Writes an instruction of lw. */
   emit(code) {
-    this.lines.push({ labels: this.pending, code });
+    this.lines.push({ labels: this.pending, code, step: this.step });
     this.pending = [];
   }
 
