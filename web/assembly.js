@@ -33,9 +33,9 @@ const QUESTION = /^[ \t]*(?:locations\b|filter\b|forall\b|(?:(?:[~!]|not\b)[ \t]
 // The row of the threads' names, which a test has.
 const NAMES_ROW = /^[ \t]*P0[ \t]*(?:[|;,]|P1\b)/m;
 // An instruction on a variable in a function's frame on the stack, or that begins the frame.
-const FRAME = /^(?!lock\b).*(?:\[[er]bp\s*[-+]|\d\(%[er]bp\))|^mov\w*\s+(?:[er]bp,\s*[er]sp|%[er]sp,\s*%[er]bp)$/i;
+const FRAME = /^(?!lock\b).*(?:\[[er]bp\s*[-+]|\d\[[er]bp\]|\d\(%[er]bp\))|^mov\w*\s+(?:[er]bp,\s*[er]sp|%[er]sp,\s*%[er]bp)$/i;
 // One on a variable on the stack, as optimized code has it, too.
-const ON_STACK = /^(?!lock\b).*(?:\[[er]sp\s*[-+]|\d\(%[er]sp\))/i;
+const ON_STACK = /^(?!lock\b).*(?:\[[er]sp\s*[-+]|\d\[[er]sp\]|\d\(%[er]sp\))/i;
 // An instruction that loads the address of a variable from a table; and one with an address in a register, other than that of the stack.
 const OF_TABLE = /@GOTPCREL\b/i;
 const ADDRESS = /[[(][^[\]()]*(?<!\w)%?(?:[re](?:[abcd]x|[sd]i)|r(?:[89]|1[0-5])d?)\b/i;

@@ -41,11 +41,17 @@ function parseNumber(text) {
   return written === undefined ? null : sign ? -Number(written) : Number(written);
 }
 
-/** Returns the terms of an address in brackets or in parentheses, each a register with a scale, or a number; null if it is none. */
+/**
+ * Returns the terms of an address in brackets, before which a number may be, or in parentheses, each a register with a scale, or a number; null if it is none.
+ */
 function parseAddress(text) {
   const [, number = "", base = "", index = "", scale = "1"] = /^(-?\w+)?\((%\w+)?(?:,\s*(%\w+)(?:,\s*([1248]))?)?\)$/.exec(text) ?? [];
-  const inner = /^\[([^\][]*)\]$/.exec(text)?.[1].replace(/\s/g, "").replace(/-/g, "+-").replace(/^\+/, "").split("+");
-  const parts = inner ?? [number, base, index && `${index}*${scale}`].filter(Boolean);
+  const [, before, inside] = /^(-?\w+)?\[([^\][]*)\]$/.exec(text) ?? [];
+  const inner = inside?.replace(/\s/g, "").replace(/-/g, "+-").replace(/^\+/, "").split("+");
+  // What gcc prints before the brackets is added.
+  const isAdded = before !== undefined && parseNumber(before) !== null;
+  if (before !== undefined && !isAdded) return null;
+  const parts = inner ? [...inner, ...(isAdded ? [before] : [])] : [number, base, index && `${index}*${scale}`].filter(Boolean);
   const terms = parts.map((it) => {
     const [name, factor = "1"] = /^[1248]\*/.test(it) ? it.split("*").reverse() : it.split("*");
     const register = parseRegister(name)?.register;
