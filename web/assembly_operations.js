@@ -42,7 +42,8 @@ function parseNumber(text) {
 }
 
 /**
- * Returns the terms of an address in brackets, before which a number may be, or in parentheses, each a register with a scale, or a number; null if it is none.
+ * Returns the terms of an address in brackets, perhaps with a number before them, or in parentheses, each a register with a scale, or a number; null if it
+ * is none.
  */
 function parseAddress(text) {
   const [, number = "", base = "", index = "", scale = "1"] = /^(-?\w+)?\((%\w+)?(?:,\s*(%\w+)(?:,\s*([1248]))?)?\)$/.exec(text) ?? [];

@@ -73,8 +73,8 @@ function findAdded(value, location, count) {
 }
 
 /**
- * Changes what is known before a statement to what is known after it. Returns the access that it is: its `location`, whether it is a load (`isLoad`), and the
- * constant that it adds (`added`) or null; null if it is no access.
+ * Changes what is known before a statement to what is known after it. Returns the access that it is: its `location`, whether it is a load (`isLoad`), and
+ * the constant that it adds (`added`) or null; null if it is no access.
  */
 function applyStatement(state, { kind, register, location, value }, position) {
   const { values, counts } = state;
@@ -147,8 +147,8 @@ function listLostAdditions({ locations, words }, threads) {
 }
 
 /**
- * Returns the loads of a thread, except those in loops, each with a `site` that has its word at the end, its `location` and the first `word` of that; null if
- * a run may leave one out, or no register has its word at the end, or a branch may depend on it.
+ * Returns the loads of a thread, except those in loops, each with a `site` that has its word at the end, its `location` and the first `word` of that; null
+ * if a run may leave one out, or no register has its word at the end, or a branch may depend on it.
  */
 function listLoads({ locations, words }, { accesses, values, isBranching }, thread, isShown) {
   const loads = accesses.filter((it) => it.isLoad && !it.isInLoop);

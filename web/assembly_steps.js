@@ -201,13 +201,22 @@ export class StepWriter extends SumWriter {
     this.flags = null;
   }
 
+  /** Returns whether a register has the word that says whether it is not 0: it was compared with 0, and it has no other words than 0 and 1. */
+  isTruth(register, condition) {
+    const { register: compared, constant, isTurned } = this.flags ?? {};
+    const { list } = this.getContent(register);
+    return condition === "ne" && !isTurned && compared === register && constant === 0 && Boolean(list?.every((it) => it === 0 || it === 1));
+  }
+
   writeSet({ condition, operands: [to] }) {
     const found = this.findCondition(condition);
+    if (to.register && this.isTruth(to.register, found)) return this.write(to.register, 8, this.read(to.register, 8));
     const name = to.register ? this.names.get(to.register) : this.takeSpare();
     const words = this.choose(name, found, [1, 0]);
     if (to.register) this.write(to.register, 8, words);
     else if (to.location) this.store(to.location, 8, name, words);
     else throw new Refusal("");
+    return undefined;
   }
 
   writeChoice({ condition, width, operands: [to, from] }) {

@@ -97,9 +97,9 @@ function renameSites(tail, begin, { written, registers }) {
 
 /**
  * Returns what a test of threads in assembly has: their `lines`, the `own` ones of the code, and for each of these whether it is in a loop (`looping`); the
- * `block` of words at the begin, whether a site of a register `isShown`, the `tail` of the text, which has a question, with lw's registers, and the `ends` to
- * which a question can be limited. `say` returns what is said of the test, given whether it is so. `isBegin` says whether a test has the words at the begin
- * that were taken. Throws Refusal.
+ * `block` of words at the begin, whether a site of a register `isShown`, the `tail` of the text, which has a question, with lw's registers, and the `ends`
+ * to which a question can be limited. `say` returns what is said of the test, given whether it is so. `isBegin` says whether a test has the words at the
+ * begin that were taken. Throws Refusal.
  * @param {Source} source
  * @returns {object}
  */
