@@ -134,15 +134,16 @@ function followThread(statements, looping) {
 
 /**
  * Returns the atoms of lost additions: of each location that several threads only add constants to, some of them by a load and a store, and that has another
- * word than their sum.
+ * word than their sum. If a loop loads it, there is none: the question leaves out runs that wait for an addition that is lost.
  */
 function listLostAdditions({ locations, words }, threads) {
   const writes = threads.flatMap(({ accesses }, thread) => accesses.filter((it) => !it.isLoad).map((it) => ({ ...it, thread })));
+  const awaited = new Set(threads.flatMap((it) => it.accesses.filter((access) => access.isInLoop).map((access) => access.location)));
   return locations.flatMap((name, location) => {
     const own = writes.filter((it) => it.location === location);
     const isAdding = own.every((it) => it.isSure && !it.isInLoop && it.added !== null) && own.some((it) => !it.isLocked);
     const isOfThreads = new Set(own.map((it) => it.thread)).size > 1;
-    return isAdding && isOfThreads ? [`~${name}=${own.reduce((sum, it) => (sum + it.added) % WORD, words[location])}`] : [];
+    return isAdding && isOfThreads && !awaited.has(location) ? [`~${name}=${own.reduce((sum, it) => (sum + it.added) % WORD, words[location])}`] : [];
   });
 }
 
