@@ -90,7 +90,8 @@ function applyStatement(state, { kind, register, location, value }, position) {
   const stored = kind === "store" ? getValue(state, value) : values.get(register);
   const added = kind === "store" ? findAdded(stored, location, count) : kind === "xadd" ? stored?.constant ?? null : null;
   counts.set(location, count + 1);
-  if (kind !== "store") values.delete(register);
+  // The old word is in the register, and is no part of a sum.
+  if (kind !== "store") values.set(register, { position, location, added: 0, count: NaN });
   return { location, position, register, added, isLoad: false, isLocked: kind === "xadd" };
 }
 
@@ -149,16 +150,22 @@ function listLostAdditions({ locations, words }, threads) {
 
 /**
  * Returns the loads of a thread, except those in loops, each with a `site` that has its word at the end, its `location` and the first `word` of that; null
- * if a run may leave one out, or no register has its word at the end, or a branch may depend on it.
+ * if a run may leave one out, or no register has its word at the end, or a branch may depend on it; or if only a locked sum loads.
  */
 function listLoads({ locations, words }, { accesses, values, isBranching }, thread, isShown) {
-  const loads = accesses.filter((it) => it.isLoad && !it.isInLoop);
-  const found = loads.map(({ position, location, register, isSure }) => {
+  const listSites = ({ position, register }) => {
     const holding = [...values].filter(([, it]) => it.position === position && !it.added).map(([it]) => it);
-    const sites = holding.sort((it) => (it === register ? -1 : 1)).map((it) => `${thread}:${REGISTERS.X86[it]}`).filter(isShown);
-    return isSure && sites.length ? { site: sites[0], location: locations[location], word: words[location] } : null;
+    return holding.sort((it) => (it === register ? -1 : 1)).map((it) => `${thread}:${REGISTERS.X86[it]}`).filter(isShown);
+  };
+  const own = accesses.filter((it) => !it.isInLoop);
+  const loads = own.filter((it) => it.isLoad);
+  // An exchange may be a store: compilers write those of C++ so.
+  if (!loads.length) return own.some((it) => it.isLocked && listSites(it).length) ? null : [];
+  const found = loads.map((it) => {
+    const [site] = listSites(it);
+    return it.isSure && site ? { site, location: locations[it.location], word: words[it.location] } : null;
   });
-  return found.includes(null) || (loads.length && isBranching) ? null : found;
+  return found.includes(null) || isBranching ? null : found;
 }
 
 /**
