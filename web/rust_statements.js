@@ -15,12 +15,14 @@ export const TYPES = new Map([
   ["u64", "uint64_t"], ["isize", "long"], ["usize", "size_t"],
 ].flatMap(([rust, cpp]) => [[rust, cpp], [`Atomic${rust[0].toUpperCase()}${rust.slice(1)}`, `std::atomic<${cpp}>`]]));
 const ORDERS = { Relaxed: "relaxed", Acquire: "acquire", Release: "release", AcqRel: "acq_rel", SeqCst: "seq_cst" };
-const ORDER = new RegExp(`(?:\\b(?:[\\w:]+::)?Ordering::|(?<=[(,]\\s{0,9}))(${Object.keys(ORDERS).join("|")})\\b`, "g");
+const ORDER = new RegExp(`(?:\\b(?:[\\w:]{1,40}::)?Ordering::|(?<=[(,]\\s{0,9}))(${Object.keys(ORDERS).join("|")})\\b`, "g");
 const WORDS = [
   [ORDER, (_, order) => `std::memory_order_${ORDERS[order]}`],
-  [/(?:\b[a-z_]+::)*\bcompiler_fence\s*\(/g, "std::atomic_signal_fence("],
-  [/(?:\b[a-z_]+::)*\b(?<!atomic_thread_|atomic_signal_)fence\s*\(/g, "std::atomic_thread_fence("],
-  [/(?:\b[a-z_]+::)*\b(?:spin_loop(?:_hint)?|yield_now)\s*\(\)/g, "cpu_relax()"], [/\.swap\(/g, ".exchange("], [/\s+as\s+[iu](?:32|64|size)\b/g, ""],
+  [/(?:\b[a-z_]+::){0,5}\bcompiler_fence\s*\(/g, "std::atomic_signal_fence("],
+  [/(?:\b[a-z_]+::){0,5}\b(?<!atomic_thread_|atomic_signal_)fence\s*\(/g, "std::atomic_thread_fence("],
+  [/(?:\b[a-z_]+::){0,5}\b(?:spin_loop(?:_hint)?|yield_now)\s*\(\)/g, "cpu_relax()"],
+  [/\b(?:std::)?thread::sleep\s*\([\w:]{0,40}\(\w*\)\)|\be?print(?:ln)?!\s*\(\s*"\s*"\s*\)/g, "cpu_relax()"],
+  [/\.swap\(/g, ".exchange("], [/\s+as\s+[iu](?:32|64|size)\b/g, ""],
   [/\b(\d[\d_]*?)_?[iu](?:8|16|32|64|size)\b/g, "$1"], [/(?<=\d)_(?=\d)/g, ""], [/(?<=[(,]\s{0,9})&(?:mut\s+)?(?=[A-Za-z_])/g, ""],
   [/\be?print(?:ln)?!\s*\(/g, "printf("], [/\bdebug_assert/g, "assert"],
 ];
@@ -31,7 +33,7 @@ const OTHER = /(?<!\w)(?:match\s[^{;]{0,200}|(?:if|while)\s+let\s[^{;]{0,200}|(?
 const OF_OTHERS = ": a `match`, an `if let` and the value of an `if` are not rewritten";
 const OF_BITS = ": operators on bits are not rewritten";
 const SWAP = /(?<!\w)([A-Za-z_]\w*(?:\[\w+\])?)\.compare_exchange(?:_weak)?\(/;
-const HEAD = /\b(if|while|loop|for\s+(\w+)\s+in\s+(\w+)\s*\.\.(=?)\s*(\w+))(?!\w)/g;
+const HEAD = /\b(if|while|loop|for\s+(\w+)\s+in\s+(\w+)\s*\.\.(=?)\s*(\w+)(?=\s*\{))(?!\w)/g;
 
 /**
  * Returns the parts of code between commas outside of parentheses, brackets and braces.
@@ -57,6 +59,33 @@ export function splitOutside(code, mark) {
     else parts[parts.length - 1] += letter;
   }
   return parts;
+}
+
+/**
+ * Returns the front of code before a mark outside of parentheses, brackets and braces, or all of it.
+ * @param {string} code
+ * @param {string} mark
+ * @returns {string}
+ */
+export function readFront(code, mark) {
+  let depth = 0;
+  for (let at = 0; at < code.length; at += 1) {
+    depth += "([{".includes(code[at]) - ")]}".includes(code[at]);
+    if (code[at] === mark && depth === 0) return code.slice(0, at);
+  }
+  return code;
+}
+
+/**
+ * Returns the index of what closes the parenthesis or brace at an index. Throws Unread if nothing does.
+ * @param {string} code
+ * @param {number} open
+ * @returns {number}
+ */
+function findEnd(code, open) {
+  const close = findClosing(code, open);
+  if (close < 0) throw new Unread(code.slice(open), ": nothing closes it");
+  return close;
 }
 
 /**
@@ -98,7 +127,7 @@ function rewriteSwaps(code) {
   const found = SWAP.exec(code);
   if (!found) return code;
   const open = found.index + found[0].length - 1;
-  const close = findClosing(code, open);
+  const close = findEnd(code, open);
   const [expected, desired] = splitArguments(code.slice(open + 1, close));
   const [asked = "", negated] = /^\s*\.is_(?:ok|(err))\(\)/.exec(code.slice(close + 1)) ?? [];
   if (!asked) return code;
@@ -106,17 +135,22 @@ function rewriteSwaps(code) {
   return code.slice(0, found.index) + call + rewriteSwaps(code.slice(close + 1 + asked.length));
 }
 
+/** Returns an operand of a comparison, in parentheses if it compares. */
+function group(operand) {
+  return /[=!]=|[<>]|&&|\|\|/.test(operand) ? `(${operand})` : operand;
+}
+
 /** Returns code in which assertions are those of C. */
 function rewriteAssertions(code) {
   const [head, kind = ""] = /\bassert(_eq|_ne)?!\s*\(/.exec(code) ?? [];
   if (!head) return code;
   const open = code.indexOf(head) + head.length - 1;
-  const close = findClosing(code, open);
+  const close = findEnd(code, open);
   const [first = "", second = ""] = splitArguments(code.slice(open + 1, close));
   const [all, others] = [first, second].map((it) => (/^\(/.test(it) ? splitArguments(it.slice(1, -1)) : [it]));
   if (kind && all.length !== others.length) throw new Unread(code.slice(code.indexOf(head), close + 1), ": it compares what has other parts");
-  const equal = all.map((it, at) => `${it} == ${others[at]}`).join(" && ");
-  const condition = !kind ? first : kind === "_eq" ? equal : all.length > 1 ? `!(${equal})` : `${first} != ${second}`;
+  const equal = all.map((it, at) => `${group(it)} == ${group(others[at])}`).join(" && ");
+  const condition = !kind ? first : kind === "_eq" ? equal : all.length > 1 ? `!(${equal})` : `${group(first)} != ${group(second)}`;
   return `${code.slice(0, code.indexOf(head))}assert(${condition})${rewriteAssertions(code.slice(close + 1))}`;
 }
 
@@ -125,7 +159,7 @@ function rewriteUnsafe(code) {
   const found = /\bunsafe\s*(?=\{)/.exec(code);
   if (!found) return code;
   const open = found.index + found[0].length;
-  const close = findClosing(code, open);
+  const close = findEnd(code, open);
   const inner = code.slice(open + 1, close).trim();
   const isValue = /[=(!&|,+<>-]\s*$|\breturn\s*$|\b(?:if|while)\s*$/.test(code.slice(0, found.index)) || /^\s*[=!<>+&|-]/.test(code.slice(close + 1));
   const isLast = !code.slice(close + 1).trim() && !/;$/.test(inner) && !/[^=!<>]=(?!=)/.test(inner);

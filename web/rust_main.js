@@ -1,0 +1,261 @@
+// Reads the function of a program in Rust that makes variables, starts threads, joins them and asserts. Not proved.
+//
+// A `Spawned` thread has the code of its `body`, the name of its `handle` or of the list with it, that of the scope that is its `owner`, and the names
+// of the variables that have its `results`.
+
+import { findClosing } from "./c_code.js";
+import { nameVariables } from "./rust_names.js";
+import { splitArguments, splitStatements, Unread, writeExpression } from "./rust_statements.js";
+
+const ATOMIC = "((?:[\\w:]*::)?Atomic\\w+)::new\\(([^()]*)\\)";
+const SHARED = new RegExp(
+  `^let\\s+(?:mut\\s+)?(\\w+)(?:\\s*:[^=]+)?\\s*=\\s*(?:&\\s*)?(?:\\w+::)*(?:(?:Arc::new|Rc::new|Box::new|Box::leak|CachePadded::new)\\()*${ATOMIC}\\)*$`,
+);
+// A static variable or a constant of the function; and a number that threads of a scope may share, or that is a constant.
+const STATIC = /^(static|const)\s+(?:mut\s+)?(\w+)\s*:\s*([^=]+?)\s*=\s*([^]*)$/;
+const NUMBER = /^let\s+(mut\s+)?(\w+)(?:\s*:\s*(\w+))?\s*=\s*(-?\d+|true|false)$/;
+const CLONE = /^(?:(?:std::sync::)?Arc::clone\(\s*&\s*(\w+)\s*\)|&\s*(?:mut\s+)?(\w+)|(\w+)(?:\.clone\(\))?)$/;
+const SPAWN = /^(?:(?:std::|loom::|shuttle::)?thread::|(\w+)\.)spawn\s*(?=\()/;
+const SCOPE = /^(?:[\w:]+::)?(?:scope|model|check_random)\s*(?=\()/;
+const CLOSURE = /^(?:move\s+)?\|\s*(\w*)[^|]*\|\s*([^]*)$/;
+const UNWRAPPED = "\\.join\\(\\)(?:\\.unwrap\\(\\)|\\.expect\\([^()]*\\))?";
+const JOIN = new RegExp(`^(\\w+)${UNWRAPPED}$`);
+// Joins of a list of threads: the groups are its name and what follows.
+const JOIN_EACH = new RegExp(
+  `^for\\s+(\\w+)\\s+in\\s+(\\w+)(?:\\.into_iter\\(\\)|\\.drain\\(\\.\\.\\))?\\s*\\{\\s*(?:let\\s+_\\s*=\\s*)?\\1${UNWRAPPED};?([^]*)\\}$`,
+);
+const FOR_EACH = new RegExp(`^(\\w+)\\.into_iter\\(\\)\\.for_each\\(\\|(\\w+)\\|\\s*\\{?\\s*\\2${UNWRAPPED};?\\s*\\}?\\)$`);
+// Threads of a loop: the groups are its variable, its first number, that after its last one, and its body; and those of a list.
+const LOOP = /^for\s+(\w+)\s+in\s+(\d)\s*\.\.\s*(\d)\s*\{([^]*)\}$/;
+const MAP = /^\((\d)\s*\.\.\s*(\d)\)\.map\(\|(\w+)\|([^]*)\)\.collect(?:::<[^()]*>)?\(\)$/;
+const LIST = /^(?:vec!\s*)?\[([^]*)\]$/;
+const EMPTY = /^(?:(?:Vec::(?:new\(\)|with_capacity\(\w+\))|vec!\[\]|\(\)|drop\(\w+\)|(?:return\s+)?Ok\(\(\)\)|)|use\s(?![^]*\w\s+as\s)[^]*)$/;
+/** Output that changes nothing. */
+export const OUTPUT = /^(?:e?print(?:ln)?!|drop|dbg!)\s*\((?![^]*\.(?!load\(|get\(|is_\w+\()\w+\()/;
+const ASSERTION = /^(?:debug_)?assert(?:_eq|_ne)?!\s*\(/;
+// A branch that reports: the group is its condition.
+const REPORT = /^if\s+([^{};]+)\{\s*(?:panic!|unreachable!|e?print(?:ln)?!)\s*\([^(){};]*\);?\s*\}$/;
+const MOST_THREADS = 4;
+const DEEPEST = 20;
+export const OF_MAIN = ": `main` only makes variables, starts threads, joins them, and asserts";
+const OF_MOVED = ": a closure that begins with `move` has numbers of its own, so leave out `move`";
+const OF_LATER = ": it starts after others have been joined, or after what `main` does";
+
+/** Returns the parts of a tuple, or the one value. */
+function splitTuple(code) {
+  return splitArguments(code.trim().replace(/^\(([^]*)\)$/, "$1"));
+}
+
+/**
+ * Returns the name that a result of a thread has in C++: no variable of the thread has it.
+ * @param {string} name
+ * @param {number} thread
+ * @returns {string}
+ */
+export function nameResult(name, thread) {
+  return `${name}_of_P${thread}`;
+}
+
+/** Reads what a function does that starts threads. `aliases` has the variables of other names of theirs. */
+export class Starter {
+  constructor(taken) {
+    // `depth` counts blocks. `numbers` has the names of the shared variables that are no atomics, `taken` those of what is outside, and `names` those
+    // of results in C++.
+    Object.assign(this, { depth: 0, taken, shared: [], numbers: new Set(), threads: [], handles: new Map(), names: new Map() });
+    Object.assign(this, { asserted: [], words: [] });
+  }
+
+  /** Returns whether no thread runs. */
+  get isIdle() {
+    return this.threads.every((it) => it.isJoined);
+  }
+
+  /** Returns the names that variables of threads do not have. */
+  get allTaken() {
+    return new Set([...this.taken, ...this.shared.map((it) => it.name)]);
+  }
+
+  /** Reads the statements of code. Throws Unread at another one. */
+  readAll(code, aliases) {
+    for (const it of splitStatements(code)) this.readStatement(it, aliases);
+  }
+
+  /** Reads a statement, which may be in blocks. Throws Unread if those are many. */
+  readStatement(statement, aliases) {
+    this.depth += 1;
+    if (this.depth > DEEPEST) throw new Unread(statement, OF_MAIN);
+    this.readShallow(statement, aliases);
+    this.depth -= 1;
+  }
+
+  /** Reads a statement, by its form. */
+  readShallow(statement, aliases) {
+    const [, names, value] = /^let\s+(?:mut\s+)?([\w\s(),]+?)(?:\s*:[^=]+)?\s*=\s*([^]*)$/.exec(statement) ?? [null, null, statement];
+    if (this.readVariable(statement, aliases) || this.readThreads(value, names, aliases) || this.readJoins(value, names, aliases)) return;
+    const [, condition] = REPORT.exec(value) ?? [];
+    const hasThreads = this.threads.length > 0;
+    if (/^unsafe\s*\{/.test(value) && !names) this.readAll(value.slice(value.indexOf("{") + 1, -1), aliases);
+    else if (names && this.addAliases(names, value, aliases)) return;
+    else if (condition && hasThreads && this.isIdle) this.asserted.push(writeExpression(`assert!(!(${condition}))`, this.renamed(aliases)));
+    else if (ASSERTION.test(value) && hasThreads && this.isIdle) this.asserted.push(writeExpression(value, this.renamed(aliases)));
+    else if (!hasThreads && /^\w+(?:\[\d\])?\.store\(\s*\w+\s*,[^,]*\)$/.test(value)) this.words.push(writeExpression(value, aliases));
+    else if (!(OUTPUT.test(value) && this.isIdle) && !EMPTY.test(value)) this.readOwn(statement, value, names, aliases);
+  }
+
+  /** Reads a declaration of a shared variable or a constant. Returns whether it is one. */
+  readVariable(statement, aliases) {
+    const shared = SHARED.exec(statement) ?? undefined;
+    const [, kind, constant, itsType, itsValue] = STATIC.exec(statement) ?? [];
+    const [, isMutable, number, type = "i32", word] = NUMBER.exec(statement) ?? [];
+    if (this.threads.length && !shared && !kind) return false;
+    if (shared) this.addShared(shared, aliases);
+    else if (kind) this.addShared([statement, constant, itsType, itsValue], aliases, kind);
+    else if (number && isMutable) this.numbers.add(this.addShared([statement, number, type, word], aliases));
+    else if (number) aliases.set(number, word);
+    return Boolean(shared ?? kind ?? number);
+  }
+
+  /** Reads what starts threads. Returns whether it does. */
+  readThreads(value, names, aliases) {
+    const [, list = ""] = LIST.exec(value) ?? [];
+    const [, name, begin, end, body] = LOOP.exec(value) ?? [];
+    const [, first, last, index, made] = MAP.exec(value) ?? [];
+    const isStarting = /\bspawn\s*\(/.test(value);
+    if (SCOPE.test(value)) this.readScope(value, names, aliases);
+    else if (SPAWN.test(value)) this.spawn(value, names, aliases);
+    else if (/^\{/.test(value)) this.readBlock(value, names, aliases);
+    else if (/^\w+\.push\(/.test(value)) this.readStatement(value.replace(/^(\w+)\.push\(([^]*)\)$/, "let $1 = $2"), aliases);
+    else if (list && isStarting) splitArguments(list).forEach((it) => this.readStatement(`let ${names} = ${it}`, aliases));
+    else if (name && isStarting) this.unroll(name, Number(begin), Number(end), body, aliases);
+    else if (index && isStarting) this.unroll(index, Number(first), Number(last), `let ${names} = ${made.trim()}`, aliases);
+    else return false;
+    return true;
+  }
+
+  /** Reads what joins threads. Returns whether it does. */
+  readJoins(value, names, aliases) {
+    const [, , list, rest = ""] = JOIN_EACH.exec(value) ?? [];
+    const [, each] = FOR_EACH.exec(value) ?? [];
+    const parts = names && /^\(/.test(value) ? splitTuple(value) : [];
+    const isTuple = parts.length > 0 && parts.every((it) => JOIN.test(it)) && splitTuple(names).length === parts.length;
+    const isList = list !== undefined && splitStatements(rest).every((it) => OUTPUT.test(it));
+    if (isTuple) parts.forEach((it, at) => this.readStatement(`let ${splitTuple(names)[at]} = ${it}`, aliases));
+    else if (JOIN.test(value)) this.join(JOIN.exec(value)[1], names);
+    else if (isList || each) this.joinAll((it) => it.handle === (each ?? list));
+    return isTuple || JOIN.test(value) || isList || each !== undefined;
+  }
+
+  /** Notes that the threads are joined of which `isOne` holds. */
+  joinAll(isOne) {
+    for (const it of this.threads.filter(isOne)) it.isJoined = true;
+  }
+
+  /** Adds a shared variable that is made here. Returns its name. */
+  addShared([, name, type, value], aliases, kind = "static") {
+    if (this.threads.length || this.allTaken.has(name)) throw new Unread(`let ${name}`, OF_MAIN);
+    this.shared.push({ kind, name, type, value });
+    aliases.delete(name);
+    return name;
+  }
+
+  /** Reads a block that starts a thread, perhaps with other names of variables before. */
+  readBlock(block, names, aliases) {
+    const inner = new Map(aliases);
+    const statements = splitStatements(block.slice(1, -1));
+    statements.slice(0, -1).forEach((it) => this.readStatement(it, inner));
+    this.readStatement(names ? `let ${names} = ${statements.at(-1)}` : statements.at(-1) ?? "", inner);
+  }
+
+  /** Reads the body of a loop that starts threads, for each number of its variable. */
+  unroll(name, begin, end, body, aliases) {
+    if (new RegExp(`\\blet\\s+(?:mut\\s+)?${name}\\b`).test(body)) throw new Unread(`for ${name}`, OF_MAIN);
+    for (let number = begin; number < end; number += 1) {
+      const own = new Map(aliases);
+      this.readAll(body, name === "_" ? own : own.set(name, String(number)));
+    }
+  }
+
+  /** Reads the closure of a scope or of a model checker, whose last expression may join the threads and have the results of `names`. */
+  readScope(value, names, aliases) {
+    const open = value.indexOf("(");
+    const [, owner, body = ""] = CLOSURE.exec(value.slice(open + 1, findClosing(value, open)).trim()) ?? [];
+    const statements = splitStatements(body.trim().replace(/^\{([^]*)\}$/, "$1"));
+    const results = names ? splitTuple(names) : [];
+    const joins = names ? splitTuple(statements.pop() ?? "") : [];
+    const count = this.threads.length;
+    statements.forEach((it) => this.readStatement(it, aliases));
+    if (joins.length !== results.length) throw new Unread(value, OF_MAIN);
+    joins.forEach((it, at) => this.readStatement(`let ${results[at]} = ${it}`, aliases));
+    const own = this.threads.slice(count);
+    if (/scope/.test(value.slice(0, open))) this.joinAll((it) => own.includes(it) && it.owner === owner);
+  }
+
+  /** Adds other names of shared variables. Returns whether these are such. A number has another name by a reference only. */
+  addAliases(names, value, aliases) {
+    const [all, values] = [splitTuple(names), splitTuple(value)];
+    const sources = values.map((it) => CLONE.exec(it)).map((it) => it && (it[1] ?? it[2] ?? (this.numbers.has(it[3]) ? null : it[3])));
+    if (all.length !== sources.length || sources.some((it) => !it || !this.isShared(it, aliases))) return false;
+    const own = sources.map((it) => aliases.get(it) ?? it);
+    all.forEach((name, at) => aliases.set(name, own[at]));
+    return true;
+  }
+
+  /** Returns whether a name is that of a shared variable. */
+  isShared(name, aliases) {
+    return aliases.has(name) || this.shared.some((it) => it.name === name);
+  }
+
+  /** Adds a thread. */
+  spawn(value, handle, aliases) {
+    if (this.threads.some((it) => it.isJoined)) throw new Unread(value, OF_LATER);
+    if (this.threads.length === MOST_THREADS) throw new Unread(value, ": there are more than 4 threads");
+    const [head, owner] = SPAWN.exec(value);
+    const close = findClosing(value, head.length);
+    const inner = value.slice(head.length + 1, close).trim();
+    if (value.slice(close + 1).trim()) throw new Unread(value, OF_MAIN);
+    if (/^\{/.test(inner)) {
+      const own = new Map(aliases);
+      const statements = splitStatements(inner.slice(1, -1));
+      statements.slice(0, -1).forEach((it) => this.readStatement(it, own));
+      return this.spawn(`${head}(${statements.at(-1)})`, handle, own);
+    }
+    const [, , body = `${inner}()`] = CLOSURE.exec(inner) ?? [];
+    const moved = /^move\b/.test(inner) ? [...this.numbers].find((it) => new RegExp(`\\b${it}\\b`).test(body)) : undefined;
+    if (moved) throw new Unread(moved, OF_MOVED);
+    const isBlock = /^\{/.test(body) && findClosing(body, 0) === body.length - 1;
+    const named = nameVariables(isBlock ? body.slice(1, -1) : body, aliases, this.allTaken);
+    const thread = { body: named, handle, owner, results: [], isJoined: false };
+    this.threads.push(thread);
+    if (handle) this.handles.set(handle, thread);
+    return undefined;
+  }
+
+  /** Notes that a thread is joined, and the names that its results have. */
+  join(handle, names) {
+    const thread = this.handles.get(handle);
+    if (!thread || thread.isJoined) throw new Unread(`${handle}.join()`, OF_MAIN);
+    thread.isJoined = true;
+    thread.results = (names ?? "").replace(/[()]/g, "").split(",").map((it) => it.trim()).filter((it) => it && it !== "_");
+    for (const it of thread.results) this.names.set(it, nameResult(it, this.threads.indexOf(thread)));
+  }
+
+  /** Reads what the function does itself while all its threads run: it is the last thread, whose variables are results. */
+  readOwn(statement, value, names, aliases) {
+    const isFirst = !this.own;
+    const isRunning = this.threads.length > 0 && this.threads.every((it) => it === this.own || !it.isJoined);
+    if (!isRunning || /\b(?:spawn|join|scope|return|let)\b/.test(value) || /\W/.test(names ?? "")) throw new Unread(statement, OF_MAIN);
+    this.own ??= { body: "", results: [], isOwn: true, isJoined: true };
+    if (isFirst) this.threads.push(this.own);
+    const code = nameVariables(value, this.renamed(aliases), this.allTaken);
+    const result = names && names !== "_" ? nameResult(names, this.threads.length - 1) : "";
+    if (this.own.results.includes(names)) throw new Unread(statement, ": give it a name that no other variable has");
+    if (result) this.own.results.push(names);
+    if (result) this.names.set(names, result);
+    this.own.body += `${result ? `${result} = ` : ""}${code}${/\}$/.test(code) && !result ? " " : "; "}`;
+  }
+
+  /** Returns the names of results, in C++, beside other names. */
+  renamed(aliases) {
+    return new Map([...aliases, ...this.names]);
+  }
+}
