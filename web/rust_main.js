@@ -94,7 +94,7 @@ export class Starter {
     if (this.readVariable(statement, aliases) || this.readThreads(value, names, aliases) || this.readJoins(value, names, aliases)) return;
     const [, condition] = REPORT.exec(value) ?? [];
     const hasThreads = this.threads.length > 0;
-    if (/^unsafe\s*\{/.test(value) && !names) this.readAll(value.slice(value.indexOf("{") + 1, -1), aliases);
+    if (/^unsafe\s*\{/.test(value) && !names) this.readInside(() => this.readAll(value.slice(value.indexOf("{") + 1, -1), new Map(aliases)));
     else if (names && this.addAliases(names, value, aliases)) return;
     else if (condition && hasThreads && this.isIdle) this.asserted.push(writeExpression(`assert!(!(${condition}))`, this.renamed(aliases)));
     else if (ASSERTION.test(value) && hasThreads && this.isIdle) this.asserted.push(writeExpression(value, this.renamed(aliases)));
@@ -162,8 +162,15 @@ export class Starter {
   readBlock(block, names, aliases) {
     const inner = new Map(aliases);
     const statements = splitStatements(block.slice(1, -1));
-    statements.slice(0, -1).forEach((it) => this.readStatement(it, inner));
-    this.readStatement(names ? `let ${names} = ${statements.at(-1)}` : statements.at(-1) ?? "", inner);
+    const last = names ? `let ${names} = ${statements.at(-1)}` : statements.at(-1) ?? "";
+    this.readInside(() => [...statements.slice(0, -1), last].forEach((it) => this.readStatement(it, inner)));
+  }
+
+  /** Reads what is in a block: results in it have their names there only, except those of a list. */
+  readInside(read, kept = []) {
+    const outer = [...this.names];
+    read();
+    this.names = new Map([...outer, ...kept.map((it) => [it, this.names.get(it)]).filter(([, it]) => it)]);
   }
 
   /** Reads the body of a loop that starts threads, for each number of its variable. */
@@ -183,9 +190,10 @@ export class Starter {
     const results = names ? splitTuple(names) : [];
     const joins = names ? splitTuple(statements.pop() ?? "") : [];
     const count = this.threads.length;
-    statements.forEach((it) => this.readStatement(it, aliases));
     if (joins.length !== results.length) throw new Unread(value, OF_MAIN);
-    joins.forEach((it, at) => this.readStatement(`let ${results[at]} = ${it}`, aliases));
+    const inner = new Map(aliases);
+    const all = [...statements, ...joins.map((it, at) => `let ${results[at]} = ${it}`)];
+    this.readInside(() => all.forEach((it) => this.readStatement(it, inner)), results);
     const own = this.threads.slice(count);
     if (/scope/.test(value.slice(0, open))) this.joinAll((it) => own.includes(it) && it.owner === owner);
   }
@@ -193,8 +201,14 @@ export class Starter {
   /** Adds other names of shared variables. Returns whether these are such. A number has another name by a reference only. */
   addAliases(names, value, aliases) {
     const [all, values] = [splitTuple(names), splitTuple(value)];
-    const sources = values.map((it) => CLONE.exec(it)).map((it) => it && (it[1] ?? it[2] ?? (this.numbers.has(it[3]) ? null : it[3])));
-    if (all.length !== sources.length || sources.some((it) => !it || !this.isShared(it, aliases))) return false;
+    const isPlain = (name) => this.shared.some((it) => it.name === name && it.kind === "static" && !/Atomic/.test(it.type));
+    const readSource = ([, cloned, referred, moved]) => {
+      const name = cloned ?? referred ?? moved;
+      const isRead = this.isShared(name, aliases) ? !moved || !isPlain(moved) : referred && /^[A-Z]/.test(referred) && this.taken.has(referred);
+      return isRead ? name : "";
+    };
+    const sources = values.map((it) => CLONE.exec(it) ?? []).map(readSource);
+    if (all.length !== sources.length || sources.includes("")) return false;
     const own = sources.map((it) => aliases.get(it) ?? it);
     all.forEach((name, at) => aliases.set(name, own[at]));
     return true;

@@ -14,7 +14,7 @@ const ATTRIBUTES = /^(?:\s|#!?\[[^\]]*\])*/;
 // What is left out; and a static variable, a constant, a function and a module: the groups are the names, types, values and parameters.
 const SKIPPED = /^(?:pub(?:\([^)]*\))?\s+)?(?:(?:use|extern\s+crate)\b[^;]*|mod\s+\w+\s*);/;
 const STATIC = /^(?:pub(?:\([^)]*\))?\s+)?(static|const)\s+(?:mut\s+)?(\w+)\s*:\s*([^=]+?)\s*=\s*/;
-const FUNCTION = /^(?:pub(?:\([^)]*\))?\s+)?(?:const\s+)?(?:unsafe\s+)?(?:extern\s+"C"\s+)?fn\s+(\w+)\s*(?=\()/;
+const FUNCTION = /^(?:pub(?:\([^)]*\))?\s+)?(?:const\s+)?(?:unsafe\s+)?(?:extern\s+"C"\s+)?fn\s+(\w+)\s*(?:<'[\s\w',]*>\s*)?(?=\()/;
 const MODULE = /^(?:pub\s+)?mod\s+\w+\s*(?=\{)/;
 const DEEPEST = 4;
 const LONGEST = 20000;

@@ -135,6 +135,20 @@ function rewriteSwaps(code) {
   return code.slice(0, found.index) + call + rewriteSwaps(code.slice(close + 1 + asked.length));
 }
 
+/** Returns code in which each compare-exchange whose result has a pattern, or is compared with a success, is asked for that by a method. */
+function rewritePatterns(code) {
+  const found = SWAP.exec(code);
+  if (!found) return code;
+  const open = found.index + found[0].length - 1;
+  const close = findEnd(code, open);
+  const [before, call, after] = [code.slice(0, found.index), code.slice(found.index, close + 1), code.slice(close + 1)];
+  const [pattern = "", word = "", kind] = (/^\s*\{/.test(after) && /\b((?:if|while)\s+)let\s+(Ok|Err)\(_\)\s*=\s*$/.exec(before.slice(-60))) || [];
+  const [equal = "", sign, value] = (!pattern && /^\s*([=!])=\s*Ok\((\w+)\)/.exec(after)) || [];
+  const isSame = equal && value === splitArguments(code.slice(open + 1, close))[0];
+  const asked = pattern ? (kind === "Ok" ? ".is_ok()" : ".is_err()") : !isSame ? "" : sign === "=" ? ".is_ok()" : ".is_err()";
+  return before.slice(0, before.length - pattern.length) + word + call + asked + rewritePatterns(after.slice(isSame ? equal.length : 0));
+}
+
 /** Returns an operand of a comparison, in parentheses if it compares. */
 function group(operand) {
   return /[=!]=|[<>]|&&|\|\|/.test(operand) ? `(${operand})` : operand;
@@ -208,10 +222,11 @@ function rewriteDeclarations(code) {
  * @returns {string}
  */
 export function writeExpression(code, names) {
-  const renamed = names.size ? code.replace(/(?<![\w.])[A-Za-z_]\w*/g, (it) => names.get(it) ?? it) : code;
+  const asked = rewritePatterns(code);
+  const renamed = names.size ? asked.replace(/(?<![\w.])[A-Za-z_]\w*/g, (it) => names.get(it) ?? it) : asked;
   const words = WORDS.reduce((all, [pattern, word]) => all.replace(pattern, word), rewriteAssertions(rewriteUnsafe(renamed)));
   if (ON_BITS.test(words)) throw new Unread(ON_BITS.exec(words)[0].slice(1), OF_BITS);
-  if (OTHER.test(code)) throw new Unread(OTHER.exec(code)[0], OF_OTHERS);
+  if (OTHER.test(asked)) throw new Unread(OTHER.exec(asked)[0], OF_OTHERS);
   return rewriteSwaps(rewriteDeclarations(rewriteHeads(words)));
 }
 
