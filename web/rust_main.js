@@ -11,8 +11,9 @@ const ATOMIC = "((?:[\\w:]*::)?Atomic\\w+)::new\\(([^()]*)\\)";
 const SHARED = new RegExp(
   `^let\\s+(?:mut\\s+)?(\\w+)(?:\\s*:[^=]+)?\\s*=\\s*(?:&\\s*)?(?:\\w+::)*(?:(?:Arc::new|Rc::new|Box::new|Box::leak|CachePadded::new)\\()*${ATOMIC}\\)*$`,
 );
-// A static variable or a constant of the function; and a number that threads of a scope may share, or that is a constant.
+// A static variable or a constant of the function; an object; and a number that threads of a scope may share, or that is a constant.
 const STATIC = /^(static|const)\s+(?:mut\s+)?(\w+)\s*:\s*([^=]+?)\s*=\s*([^]*)$/;
+const OBJECT = /^let\s+(\w+)\s*=\s*(?:&\s*)?(?:Arc::new\()?((\w+)::\w+\(\))\)?$/;
 const NUMBER = /^let\s+(mut\s+)?(\w+)(?:\s*:\s*(\w+))?\s*=\s*(-?\d+|true|false)$/;
 const CLONE = /^(?:(?:std::sync::)?Arc::clone\(\s*&\s*(\w+)\s*\)|&\s*(?:mut\s+)?(\w+)|(\w+)(?:\.clone\(\))?)$/;
 const SPAWN = /^(?:(?:std::|loom::|shuttle::)?thread::|(\w+)\.)spawn\s*(?=\()/;
@@ -58,11 +59,11 @@ export function nameResult(name, thread) {
 
 /** Reads what a function does that starts threads. `aliases` has the variables of other names of theirs. */
 export class Starter {
-  constructor(taken) {
+  constructor(taken, structs) {
     // `depth` counts blocks. `numbers` has the names of the shared variables that are no atomics, `taken` those of what is outside, and `names` those
-    // of results in C++.
+    // of results in C++. `structs` has the names of structures.
     Object.assign(this, { depth: 0, taken, shared: [], numbers: new Set(), threads: [], handles: new Map(), names: new Map() });
-    Object.assign(this, { asserted: [], words: [] });
+    Object.assign(this, { structs, asserted: [], words: [] });
   }
 
   /** Returns whether no thread runs. */
@@ -107,12 +108,15 @@ export class Starter {
     const shared = SHARED.exec(statement) ?? undefined;
     const [, kind, constant, itsType, itsValue] = STATIC.exec(statement) ?? [];
     const [, isMutable, number, type = "i32", word] = NUMBER.exec(statement) ?? [];
-    if (this.threads.length && !shared && !kind) return false;
-    if (shared) this.addShared(shared, aliases);
+    const [, object, made, struct] = OBJECT.exec(statement) ?? [];
+    const isObject = this.structs.includes(struct);
+    if (this.threads.length && !shared && !kind && !isObject) return false;
+    if (isObject) this.addShared([statement, object, struct, made], aliases);
+    else if (shared) this.addShared(shared, aliases);
     else if (kind) this.addShared([statement, constant, itsType, itsValue], aliases, kind);
     else if (number && isMutable) this.numbers.add(this.addShared([statement, number, type, word], aliases));
     else if (number) aliases.set(number, word);
-    return Boolean(shared ?? kind ?? number);
+    return isObject || Boolean(shared ?? kind ?? number);
   }
 
   /** Reads what starts threads. Returns whether it does. */
@@ -201,7 +205,7 @@ export class Starter {
   /** Adds other names of shared variables. Returns whether these are such. A number has another name by a reference only. */
   addAliases(names, value, aliases) {
     const [all, values] = [splitTuple(names), splitTuple(value)];
-    const isPlain = (name) => this.shared.some((it) => it.name === name && it.kind === "static" && !/Atomic/.test(it.type));
+    const isPlain = (name) => this.shared.some((it) => it.name === name && it.kind === "static" && /^(?:bool|[iu](?:\d+|size))$/.test(it.type));
     const readSource = ([, cloned, referred, moved]) => {
       const name = cloned ?? referred ?? moved;
       const isRead = this.isShared(name, aliases) ? !moved || !isPlain(moved) : referred && /^[A-Z]/.test(referred) && this.taken.has(referred);

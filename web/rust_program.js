@@ -11,11 +11,17 @@ import { blankText, checkNegations } from "./rust_text.js";
 
 const QUESTION = /\/\/ ?lw:.*/;
 const ATTRIBUTES = /^(?:\s|#!?\[[^\]]*\])*/;
-// What is left out; and a static variable, a constant, a function and a module: the groups are the names, types, values and parameters.
-const SKIPPED = /^(?:pub(?:\([^)]*\))?\s+)?(?:(?:use|extern\s+crate)\b[^;]*|mod\s+\w+\s*);/;
+// What is left out; and a static variable, a constant, a function, a module, a structure and its methods: the groups are the names, types, values and
+// parameters.
+const SKIPPED = /^(?:pub(?:\([^)]*\))?\s+)?(?:(?:use|extern\s+crate)\b[^;]*|mod\s+\w+\s*);|^unsafe\s+impl\s+(?:Send|Sync)\s+for\s+\w+\s*\{\s*\}/;
 const STATIC = /^(?:pub(?:\([^)]*\))?\s+)?(static|const)\s+(?:mut\s+)?(\w+)\s*:\s*([^=]+?)\s*=\s*/;
 const FUNCTION = /^(?:pub(?:\([^)]*\))?\s+)?(?:const\s+)?(?:unsafe\s+)?(?:extern\s+"C"\s+)?fn\s+(\w+)\s*(?:<'[\s\w',]*>\s*)?(?=\()/;
 const MODULE = /^(?:pub\s+)?mod\s+\w+\s*(?=\{)/;
+const STRUCT = /^(?:pub(?:\([^)]*\))?\s+)?struct\s+(\w+)\s*(?=\{)/;
+const METHODS = /^impl\s+(\w+)\s*(?=\{)/;
+const BLOCKS = [["fn", FUNCTION], ["mod", MODULE], ["struct", STRUCT], ["impl", METHODS]];
+const PARAMETER = /^(?:mut\s+)?(\w+)\s*:\s*(&?)\s*(?:'\w+\s+)?(?:mut\s+)?(?:\w+::)*(Arc<)?(?:\w+::)*(\w+)>?$/;
+const OF_LIBRARY = /^(?:(?:compiler_)?fence|spin_loop(?:_hint)?|yield_now|sleep)$/;
 const DEEPEST = 4;
 const LONGEST = 20000;
 const OF_ITEMS = ": outside of functions are only `use`, constants and static variables of integers and atomics";
@@ -35,24 +41,53 @@ function readItems(code, depth = 0) {
   let [attributes] = ATTRIBUTES.exec(code);
   let rest = code.slice(attributes.length);
   while (rest) {
-    const [head, name] = FUNCTION.exec(rest) ?? MODULE.exec(rest) ?? [];
+    const [block, [head, name] = []] = BLOCKS.map(([word, it]) => [word, it.exec(rest) ?? undefined]).find(([, it]) => it) ?? [];
     const [skipped] = SKIPPED.exec(rest) ?? [];
     const [begin, kind, variable, type] = skipped ? [] : STATIC.exec(rest) ?? [];
     const value = begin && readFront(rest.slice(begin.length), ";");
     const whole = begin && rest.slice(0, begin.length + value.length + 1);
-    const open = head === undefined ? -1 : name ? rest.indexOf("{", findClosing(rest, head.length)) : rest.indexOf("{");
+    const open = head === undefined ? -1 : block === "fn" ? rest.indexOf("{", findClosing(rest, head.length)) : rest.indexOf("{");
     const close = open < 0 ? -1 : findClosing(rest, open);
     checkItem(attributes, skipped);
     if (!skipped && !whole && close < 0) throw new Unread(/^[^;{]*/.exec(rest)[0], OF_ITEMS);
     if (whole) items.push({ kind, name: variable, type, value });
-    else if (!skipped && !name && depth < DEEPEST) items.push(...readItems(rest.slice(open + 1, close), depth + 1));
-    else if (!skipped && !name) throw new Unread(head, OF_ITEMS);
-    else if (!skipped) items.push({ kind: "fn", name, signature: rest.slice(head.length, open), body: rest.slice(open + 1, close) });
+    else if (!skipped) items.push(...readBlock(block, name, rest.slice(head.length, open), rest.slice(open + 1, close), depth));
     rest = rest.slice(skipped?.length ?? whole?.length ?? close + 1);
     [attributes] = ATTRIBUTES.exec(rest);
     rest = rest.slice(attributes.length);
   }
   return items;
+}
+
+/** Returns the items of a block: of a module those that it has. */
+function readBlock(kind, name, signature, body, depth) {
+  if (kind === "fn" || kind === "struct") return [{ kind, name, signature, body }];
+  if (depth === DEEPEST) throw new Unread(`${kind} ${name ?? ""}`, OF_ITEMS);
+  const items = readItems(body, depth + 1);
+  return kind === "mod" ? items : [{ kind, name, items }];
+}
+
+/** Returns the class in C++ of a structure, whose object is a variable with initial words, and that object. Throws Unread if it has more than atomics. */
+function writeObject({ name, type, value }, items, taken) {
+  const fault = new Unread(`static ${name}: ${type}`, ": a structure has atomics, methods with `&self`, and one object, which a function `new()` makes");
+  const struct = items.find((it) => it.kind === "struct" && it.name === type);
+  const methods = items.filter((it) => it.kind === "impl" && it.name === type).flatMap((it) => it.items);
+  const [, , made] = /^(\w+)::(\w+)\(\)$/.exec(value.trim()) ?? [];
+  const maker = methods.find((it) => it.name === made && /^\(\s*\)/.test(it.signature));
+  const [, literal] = /^(?:Self|[A-Z]\w*)\s*\{([^]*)\}$/.exec((maker?.body ?? value).trim()) ?? [];
+  if (literal === undefined) throw fault;
+  const readPart = (it) => /^(?:pub(?:\([^)]*\))?\s+)?(\w+)\s*:\s*([^]+)$/.exec(it)?.slice(1) ?? [];
+  const words = new Map(splitArguments(literal).map(readPart));
+  const parts = splitArguments(struct.body).map(readPart);
+  const fields = parts.map(([field, of = ""]) => ({ kind: "static", name: field, type: of, value: words.get(field) ?? "" }));
+  if (fields.some((it) => !/Atomic/.test(it.type) || !it.value)) throw fault;
+  const all = new Set([...taken, ...fields.map((it) => it.name)]);
+  const written = methods.filter((it) => it !== maker).map(({ signature, ...others }) => {
+    if (!/^\(\s*&\s*self\b/.test(signature)) throw fault;
+    return writeFunction({ ...others, signature: signature.replace(/&\s*self\s*,?/, "") }, all).replace(/\bself\s*\.\s*/g, "");
+  });
+  if (/\bself\b/.test(written.join(""))) throw fault;
+  return `struct ${type} { ${[...fields.map((it) => declare(it, items)), ...written].join(" ")} };\n${type} ${name};`;
 }
 
 /** Returns the declaration of a static variable or a constant in C++. Throws Unread if it is of another type. */
@@ -73,9 +108,9 @@ function writeFunction({ name, signature, body }, taken) {
   const close = findClosing(signature, 0);
   const [, result] = /->\s*([\w:]+)/.exec(signature.slice(close)) ?? [];
   const parameters = splitArguments(signature.slice(1, close)).map((it) => {
-    const [, parameter, reference, type] = /^(?:mut\s+)?(\w+)\s*:\s*(&?)\s*(?:'\w+\s+)?(?:mut\s+)?(?:[\w]+::)*(\w+)$/.exec(it.trim()) ?? [];
+    const [, parameter, reference, counted, type] = PARAMETER.exec(it.trim()) ?? [];
     if (!TYPES.has(type)) throw new Unread(`fn ${name}${signature}`, ": its parameters are integers, `bool`, and references to atomics");
-    return `${TYPES.get(type)}${reference} ${parameter}`;
+    return `${TYPES.get(type)}${counted ? "&" : reference} ${parameter}`;
   });
   if (result && !TYPES.has(result)) throw new Unread(`fn ${name}${signature}`, ": it returns an integer or a `bool`");
   const all = new Set([...taken, ...parameters.map((it) => /\w+$/.exec(it)[0])]);
@@ -114,11 +149,24 @@ function checkMain(functions, starting) {
   throw new Unread(`fn ${starting.name}${starting.signature}`, ": what starts threads has no parameters");
 }
 
-/** Throws Unread for a name that two variables have. */
-function checkNames(variables) {
+/** Throws Unread for a name that two variables or their words have in a test, and for that of a function of the library. */
+function checkNames(variables, functions, structs) {
   const names = variables.map((it) => it.name);
   const twice = names.find((it, at) => names.indexOf(it) !== at);
-  if (twice) throw new Unread(twice, ": give it a name that no other variable has");
+  const isPart = (rest, type) => (/^\[/.test(type) && /^\d+$/.test(rest)) || structs.some((it) => it.name === type);
+  const part = names.find((it) => variables.some(({ name, type }) => it.startsWith(`${name}_`) && isPart(it.slice(name.length + 1), type)));
+  if (twice ?? part) throw new Unread(twice ?? part, ": give it a name that no other variable has");
+  const known = functions.find((it) => OF_LIBRARY.test(it.name));
+  if (known) throw new Unread(`fn ${known.name}`, ": a function of the library has its name");
+}
+
+/** Returns the declarations of variables in C++. Throws Unread for a structure that has not one object. */
+function declareAll(variables, items, structs, taken) {
+  const counts = structs.map(({ name }) => [name, variables.filter((it) => it.type === name).length]);
+  const [other] = counts.find(([, count]) => count !== 1) ?? [];
+  if (other) throw new Unread(`struct ${other}`, ": a structure has one object here");
+  const isObject = (it) => structs.some(({ name }) => name === it.type);
+  return variables.map((it) => (isObject(it) ? writeObject(it, items, taken) : declare(it, [...items, ...variables])));
 }
 
 /** Returns a program in C++ that does what one in Rust does; null if it starts no threads and has no functions. */
@@ -130,18 +178,19 @@ function translate(text) {
   const functions = items.filter((it) => it.kind === "fn");
   const [starting, second] = functions.filter((it) => /\bspawn\s*\(/.test(it.body));
   if (second) throw new Unread(`fn ${second.name}`, ": another function starts threads, so leave out one");
-  const variables = items.filter((it) => it.kind !== "fn");
-  const starter = new Starter(new Set(items.map((it) => it.name)));
+  const variables = items.filter((it) => it.kind === "static" || it.kind === "const");
+  const structs = items.filter((it) => it.kind === "struct");
+  const starter = new Starter(new Set(items.map((it) => it.name)), structs.map((it) => it.name));
   if (starting) starter.readAll(starting.body, new Map());
   const all = [...variables, ...starter.shared];
-  checkNames(all);
+  checkNames(all, functions, structs);
   checkMain(functions, starting);
   checkNegations(code, all.filter((it) => /bool/i.test(it.type)).map((it) => it.name));
-  const declared = all.map((it) => declare(it, all));
-  const others = functions.filter((it) => it !== starting && it.name !== "main").map((it) => writeFunction(it, starter.allTaken));
-  if (!starter.threads.length && !others.length) return null;
+  const declared = declareAll(all, items, structs, starter.allTaken);
+  const called = functions.filter((it) => it !== starting && it.name !== "main").map((it) => writeFunction(it, starter.allTaken));
+  if (!starter.threads.length && !called.length) return null;
   const results = starter.threads.flatMap((it, at) => it.results.map((name) => `int ${nameResult(name, at)};`));
-  return [...declared, ...results, ...others, ...writeThreads(starter), question].filter(Boolean).join("\n");
+  return [...declared, ...results, ...called, ...writeThreads(starter), question].filter(Boolean).join("\n");
 }
 
 /** Returns the threads in C++, and what starts them, if there are some. */
