@@ -160,6 +160,13 @@ function checkNames(variables, functions, structs) {
   if (known) throw new Unread(`fn ${known.name}`, ": a function of the library has its name");
 }
 
+/** Throws Unread for a question of a variable whose name a later one has, too. */
+function checkQuestion(question, program) {
+  const names = [...question.matchAll(/\d:([A-Za-z_]\w*)/g)].map(([, name]) => name);
+  const twice = names.find((it) => new RegExp(`\\b${it}_\\d+\\b`).test(program));
+  if (twice) throw new Unread(twice, ": ask of a variable whose name no other has");
+}
+
 /** Returns the declarations of variables in C++. Throws Unread for a structure that has not one object. */
 function declareAll(variables, items, structs, taken) {
   const counts = structs.map(({ name }) => [name, variables.filter((it) => it.type === name).length]);
@@ -190,7 +197,9 @@ function translate(text) {
   const called = functions.filter((it) => it !== starting && it.name !== "main").map((it) => writeFunction(it, starter.allTaken));
   if (!starter.threads.length && !called.length) return null;
   const results = starter.threads.flatMap((it, at) => it.results.map((name) => `int ${nameResult(name, at)};`));
-  return [...declared, ...results, ...called, ...writeThreads(starter), question].filter(Boolean).join("\n");
+  const program = [...declared, ...results, ...called, ...writeThreads(starter)].filter(Boolean).join("\n");
+  checkQuestion(question, program);
+  return question ? `${program}\n${question}` : program;
 }
 
 /** Returns the threads in C++, and what starts them, if there are some. */

@@ -33,6 +33,8 @@ const OTHER = /(?<!\w)(?:match\s[^{;]{0,200}|(?:if|while)\s+let\s[^{;]{0,200}|(?
 const OF_OTHERS = ": a `match`, an `if let` and the value of an `if` are not rewritten";
 const OF_BITS = ": operators on bits are not rewritten";
 const SWAP = /(?<!\w)([A-Za-z_]\w*(?:\[\w+\])?)\.compare_exchange(?:_weak)?\(/;
+// A store, an assignment or a jump at the end of a block, without its semicolon.
+const LAST = /(\b(?:break|continue|return)|\.store\([^(){};]*\)|[\w\]]\s{0,9}[+-]?=(?!=)[^=;{}()]*)(?=\s{0,99}\})/g;
 const HEAD = /\b(if|while|loop|for\s+(\w+)\s+in\s+(\w+)\s*\.\.(=?)\s*(\w+)(?=\s*\{))(?!\w)/g;
 
 /**
@@ -222,7 +224,7 @@ function rewriteDeclarations(code) {
  * @returns {string}
  */
 export function writeExpression(code, names) {
-  const asked = rewritePatterns(code);
+  const asked = rewritePatterns(code.replace(LAST, "$1;"));
   const renamed = names.size ? asked.replace(/(?<![\w.])[A-Za-z_]\w*/g, (it) => names.get(it) ?? it) : asked;
   const words = WORDS.reduce((all, [pattern, word]) => all.replace(pattern, word), rewriteAssertions(rewriteUnsafe(renamed)));
   if (ON_BITS.test(words)) throw new Unread(ON_BITS.exec(words)[0].slice(1), OF_BITS);
