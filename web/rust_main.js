@@ -23,19 +23,21 @@ const UNWRAPPED = "\\.join\\(\\)(?:\\.unwrap\\(\\)|\\.expect\\([^()]*\\))?";
 const JOIN = new RegExp(`^(\\w+)${UNWRAPPED}$`);
 // Joins of a list of threads: the groups are its name and what follows.
 const JOIN_EACH = new RegExp(
-  `^for\\s+(\\w+)\\s+in\\s+(\\w+)(?:\\.into_iter\\(\\)|\\.drain\\(\\.\\.\\))?\\s*\\{\\s*(?:let\\s+_\\s*=\\s*)?\\1${UNWRAPPED};?([^]*)\\}$`,
+  `^for\\s+(\\w+)\\s+in\\s+(\\w+|\\[[\\w\\s,]+\\])(?:\\.into_iter\\(\\)|\\.drain\\(\\.\\.\\))?\\s*\\{\\s*(?:let\\s+_\\s*=\\s*)?\\1${UNWRAPPED};?([^]*)\\}$`,
 );
 const FOR_EACH = new RegExp(`^(\\w+)\\.into_iter\\(\\)\\.for_each\\(\\|(\\w+)\\|\\s*\\{?\\s*\\2${UNWRAPPED};?\\s*\\}?\\)$`);
 // Threads of a loop: the groups are its variable, its first number, that after its last one, and its body; and those of a list.
 const LOOP = /^for\s+(\w+)\s+in\s+(\d)\s*\.\.\s*(\d)\s*\{([^]*)\}$/;
 const MAP = /^\((\d)\s*\.\.\s*(\d)\)\.map\(\|(\w+)\|([^]*)\)\.collect(?:::<[^()]*>)?\(\)$/;
+const PUSH = /^(\w+)\.push\(([^]*)\)$/;
 const LIST = /^(?:vec!\s*)?\[([^]*)\]$/;
 const EMPTY = /^(?:(?:Vec::(?:new\(\)|with_capacity\(\w+\))|vec!\[\]|\(\)|drop\(\w+\)|(?:return\s+)?Ok\(\(\)\)|)|use\s(?![^]*\w\s+as\s)[^]*)$/;
 /** Output that changes nothing. */
 export const OUTPUT = /^(?:e?print(?:ln)?!|drop|dbg!)\s*\((?![^]*\.(?!load\(|get\(|is_\w+\()\w+\()/;
 const ASSERTION = /^(?:debug_)?assert(?:_eq|_ne)?!\s*\(/;
-// A branch that reports: the group is its condition.
+// A branch that reports: the group is its condition. And one that ends the program.
 const REPORT = /^if\s+([^{};]+)\{\s*(?:panic!|unreachable!|e?print(?:ln)?!)\s*\([^(){};]*\);?\s*\}$/;
+const IS_FAULT = /\{\s*(?:panic|unreachable)!/;
 const MOST_THREADS = 4;
 const DEEPEST = 20;
 export const OF_MAIN = ": `main` only makes variables, starts threads, joins them, and asserts";
@@ -61,9 +63,10 @@ export function nameResult(name, thread) {
 export class Starter {
   constructor(taken, structs) {
     // `depth` counts blocks. `numbers` has the names of the shared variables that are no atomics, `taken` those of what is outside, and `names` those
-    // of results in C++. `structs` has the names of structures.
+    // of results in C++. `structs` has the names of structures, and `reported`
+    // has what is asked if nothing is asserted.
     Object.assign(this, { depth: 0, taken, shared: [], numbers: new Set(), threads: [], handles: new Map(), names: new Map() });
-    Object.assign(this, { structs, asserted: [], words: [] });
+    Object.assign(this, { structs, asserted: [], reported: [], words: [] });
   }
 
   /** Returns whether no thread runs. */
@@ -92,15 +95,21 @@ export class Starter {
   /** Reads a statement, by its form. */
   readShallow(statement, aliases) {
     const [, names, value] = /^let\s+(?:mut\s+)?([\w\s(),]+?)(?:\s*:[^=]+)?\s*=\s*([^]*)$/.exec(statement) ?? [null, null, statement];
+    if (names && (/\bspawn\s*\(/.test(value) || EMPTY.test(value))) this.forget(names);
     if (this.readVariable(statement, aliases) || this.readThreads(value, names, aliases) || this.readJoins(value, names, aliases)) return;
     const [, condition] = REPORT.exec(value) ?? [];
     const hasThreads = this.threads.length > 0;
     if (/^unsafe\s*\{/.test(value) && !names) this.readInside(() => this.readAll(value.slice(value.indexOf("{") + 1, -1), new Map(aliases)));
     else if (names && this.addAliases(names, value, aliases)) return;
-    else if (condition && hasThreads && this.isIdle) this.asserted.push(writeExpression(`assert!(!(${condition}))`, this.renamed(aliases)));
-    else if (ASSERTION.test(value) && hasThreads && this.isIdle) this.asserted.push(writeExpression(value, this.renamed(aliases)));
+    else if ((condition || ASSERTION.test(value)) && hasThreads && this.isIdle) this.addQuestion(condition, value, aliases);
     else if (!hasThreads && /^\w+(?:\[\d\])?\.store\(\s*\w+\s*,[^,]*\)$/.test(value)) this.words.push(writeExpression(value, aliases));
     else if (!(OUTPUT.test(value) && this.isIdle) && !EMPTY.test(value)) this.readOwn(statement, value, names, aliases);
+  }
+
+  /** Adds what the program asks at its end: an assertion, or a branch that reports if a condition holds. */
+  addQuestion(condition, value, aliases) {
+    const list = condition && !IS_FAULT.test(value) ? this.reported : this.asserted;
+    list.push(writeExpression(condition ? `assert!(!(${condition}))` : value, this.renamed(aliases)));
   }
 
   /** Reads a declaration of a shared variable or a constant. Returns whether it is one. */
@@ -124,14 +133,15 @@ export class Starter {
     const [, list = ""] = LIST.exec(value) ?? [];
     const [, name, begin, end, body] = LOOP.exec(value) ?? [];
     const [, first, last, index, made] = MAP.exec(value) ?? [];
+    const [, pushing, pushed] = PUSH.exec(value) ?? [];
     const isStarting = /\bspawn\s*\(/.test(value);
     if (SCOPE.test(value)) this.readScope(value, names, aliases);
     else if (SPAWN.test(value)) this.spawn(value, names, aliases);
     else if (/^\{/.test(value)) this.readBlock(value, names, aliases);
-    else if (/^\w+\.push\(/.test(value)) this.readStatement(value.replace(/^(\w+)\.push\(([^]*)\)$/, "let $1 = $2"), aliases);
-    else if (list && isStarting) splitArguments(list).forEach((it) => this.readStatement(`let ${names} = ${it}`, aliases));
+    else if (pushed && isStarting) return this.readThreads(pushed.trim(), pushing, aliases);
+    else if (list && isStarting) return splitArguments(list).every((it) => this.readThreads(it, names, aliases));
     else if (name && isStarting) this.unroll(name, Number(begin), Number(end), body, aliases);
-    else if (index && isStarting) this.unroll(index, Number(first), Number(last), `let ${names} = ${made.trim()}`, aliases);
+    else if (index && isStarting) this.unroll(index, Number(first), Number(last), `${names}.push(${made.trim()})`, aliases);
     else return false;
     return true;
   }
@@ -142,11 +152,21 @@ export class Starter {
     const [, each] = FOR_EACH.exec(value) ?? [];
     const parts = names && /^\(/.test(value) ? splitTuple(value) : [];
     const isTuple = parts.length > 0 && parts.every((it) => JOIN.test(it)) && splitTuple(names).length === parts.length;
+    const moved = names ? splitArguments(LIST.exec(value)?.[1] ?? "") : [];
+    const isMoved = moved.length > 0 && moved.every((it) => this.handles.has(it));
+    const lists = [each ?? list?.replace(/^\[|\]$/g, "") ?? []].flat().flatMap(splitArguments);
     const isList = list !== undefined && splitStatements(rest).every((it) => OUTPUT.test(it));
     if (isTuple) parts.forEach((it, at) => this.readStatement(`let ${splitTuple(names)[at]} = ${it}`, aliases));
     else if (JOIN.test(value)) this.join(JOIN.exec(value)[1], names);
-    else if (isList || each) this.joinAll((it) => it.handle === (each ?? list));
-    return isTuple || JOIN.test(value) || isList || each !== undefined;
+    else if (isList || each) this.joinAll((it) => lists.includes(it.handle));
+    else if (isMoved) moved.forEach((it) => Object.assign(this.handles.get(it), { handle: names }));
+    return isTuple || JOIN.test(value) || isList || each !== undefined || isMoved;
+  }
+
+  /** Notes that a name of threads is that of others from here. */
+  forget(name) {
+    this.handles.delete(name);
+    for (const it of this.threads.filter(({ handle }) => handle === name)) it.handle = undefined;
   }
 
   /** Notes that the threads are joined of which `isOne` holds. */
@@ -166,8 +186,11 @@ export class Starter {
   readBlock(block, names, aliases) {
     const inner = new Map(aliases);
     const statements = splitStatements(block.slice(1, -1));
-    const last = names ? `let ${names} = ${statements.at(-1)}` : statements.at(-1) ?? "";
-    this.readInside(() => [...statements.slice(0, -1), last].forEach((it) => this.readStatement(it, inner)));
+    const last = statements.pop() ?? "";
+    this.readInside(() => {
+      statements.forEach((it) => this.readStatement(it, inner));
+      if (!this.readThreads(last, names, inner)) this.readStatement(names ? `let ${names} = ${last}` : last, inner);
+    });
   }
 
   /** Reads what is in a block: results in it have their names there only, except those of a list. */
@@ -214,7 +237,7 @@ export class Starter {
     const sources = values.map((it) => CLONE.exec(it) ?? []).map(readSource);
     if (all.length !== sources.length || sources.includes("")) return false;
     const own = sources.map((it) => aliases.get(it) ?? it);
-    all.forEach((name, at) => aliases.set(name, own[at]));
+    all.forEach((name, at) => aliases.set(name, own[at]) && this.names.delete(name));
     return true;
   }
 

@@ -203,9 +203,9 @@ function translate(text) {
 }
 
 /** Returns the threads in C++, and what starts them, if there are some. */
-function writeThreads({ threads, words, asserted }) {
+function writeThreads({ threads, words, asserted, reported }) {
   const started = threads.map((_, at) => `std::thread t${at}(P${at}); `).join("") + threads.map((_, at) => `t${at}.join(); `).join("");
-  const [before, after] = [words, asserted].map((all) => all.map((it) => `${it}; `).join(""));
+  const [before, after] = [words, asserted.length ? asserted : reported].map((all) => all.map((it) => `${it}; `).join(""));
   return threads.length ? [...threads.map(writeThread), `int main() { ${before}${started}${after}}`] : [];
 }
 

@@ -158,11 +158,14 @@ function group(operand) {
 
 /** Returns code in which assertions are those of C. */
 function rewriteAssertions(code) {
-  const [head, kind = ""] = /\bassert(_eq|_ne)?!\s*\(/.exec(code) ?? [];
+  const [head, macro = ""] = /\bassert(_eq|_ne)?!\s*\(/.exec(code) ?? [];
   if (!head) return code;
   const open = code.indexOf(head) + head.length - 1;
   const close = findEnd(code, open);
-  const [first = "", second = ""] = splitArguments(code.slice(open + 1, close));
+  const operands = splitArguments(code.slice(open + 1, close));
+  const [, left, sign, right] = (!macro && /^(\([\w\s,]+\))\s*([=!]=)\s*(\([\w\s,]+\))$/.exec(operands[0] ?? "")) || [];
+  const kind = !sign ? macro : sign === "==" ? "_eq" : "_ne";
+  const [first = "", second = ""] = sign ? [left, right] : operands;
   const [all, others] = [first, second].map((it) => (/^\(/.test(it) ? splitArguments(it.slice(1, -1)) : [it]));
   if (kind && all.length !== others.length) throw new Unread(code.slice(code.indexOf(head), close + 1), ": it compares what has other parts");
   const equal = all.map((it, at) => `${group(it)} == ${group(others[at])}`).join(" && ");

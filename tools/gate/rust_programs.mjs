@@ -238,6 +238,21 @@ const PROGRAMS = [
   ["a thread that is never joined", "use std::sync::atomic::{fence, AtomicBool, AtomicU64, Ordering::*}; use std::thread;\nstatic DATA: AtomicU64 = AtomicU64::new(0); static READY: AtomicBool = AtomicBool::new(false);\nfn main() { thread::spawn(|| { DATA.store(123, Relaxed); fence(Release); READY.store(true, Relaxed); }); if READY.load(Relaxed) { fence(Acquire); println!(\"{}\", DATA.load(Relaxed)); } }\n",
     `${BEGIN} Words of 64 bits are words of 32 bits here, which no sum of this program exceeds. The question is a guess: change it to yours.`,
     "X86 Mine\n(* 1:EAX is READY in its condition, 1:EBX is DATA as printed *)\n{ DATA=0; READY=0; }\n P0              | P1              ;\n MOV [DATA],$123 | MOV EAX,[READY] ;\n MOV [READY],$1  | CMP EAX,$0      ;\n                 | JE END          ;\n                 | MOV EBX,[DATA]  ;\n                 | END:            ;\nexists (~1:EAX=0 /\\ 1:EBX=0)\n"],
+  ["a list of threads that has the name of another", "use std::sync::atomic::{*, Ordering::*};\nuse std::sync::Arc;\nuse std::thread;\nstatic X: AtomicU32 = AtomicU32::new(0);\nstatic Y: AtomicU32 = AtomicU32::new(0);\nfn main() { let mut hs = vec![]; hs.push(thread::spawn(|| X.store(1, Relaxed))); let mut hs = vec![]; hs.push(thread::spawn(|| Y.store(1, Relaxed))); for h in hs { h.join().unwrap(); } assert_eq!(X.load(Relaxed), 1); }\n",
+    `${REFUSED}\`assert_eq!(X.load(Relaxed), 1)\`: \`main\` only makes variables, starts threads, joins them, and asserts.`,
+    null],
+  ["threads that are moved to a list", "use std::sync::atomic::{*, Ordering::*};\nuse std::sync::Arc;\nuse std::thread;\nstatic X: AtomicU32 = AtomicU32::new(0);\nstatic Y: AtomicU32 = AtomicU32::new(0);\nfn main() { let t = thread::spawn(|| X.store(1, Relaxed)); let u = thread::spawn(|| Y.store(1, Relaxed)); let hs = vec![t, u]; for h in hs { h.join().unwrap(); } assert_eq!(X.load(Relaxed), 1); }\n",
+    BEGIN,
+    "X86 Mine\n{ X=0; Y=0; }\n P0         | P1         ;\n MOV [X],$1 | MOV [Y],$1 ;\nlocations [Y]\nforall (X=1)\n"],
+  ["an assertion that compares tuples", "use std::sync::atomic::{*, Ordering::*};\nuse std::sync::Arc;\nuse std::thread;\nstatic X: AtomicU32 = AtomicU32::new(0);\nstatic Y: AtomicU32 = AtomicU32::new(0);\nfn main() { let t = thread::spawn(|| { X.store(1, Relaxed); Y.load(Relaxed) }); let u = thread::spawn(|| { Y.store(1, Relaxed); X.load(Relaxed) }); let (b, a) = (u.join().unwrap(), t.join().unwrap()); assert!((a, b) != (0, 0)); }\n",
+    BEGIN,
+    "X86 Mine\n(* 0:EAX is a, 1:EAX is b *)\n{ X=0; Y=0; }\n P0          | P1          ;\n MOV [X],$1  | MOV [Y],$1  ;\n MOV EAX,[Y] | MOV EAX,[X] ;\n~exists (0:EAX=0 /\\ 1:EAX=0)\n"],
+  ["a branch that reports beside an assertion", "use std::sync::atomic::{*, Ordering::*};\nuse std::sync::Arc;\nuse std::thread;\nstatic X: AtomicU32 = AtomicU32::new(0);\nstatic Y: AtomicU32 = AtomicU32::new(0);\nfn main() { let t = thread::spawn(|| { X.store(1, Relaxed); Y.load(Relaxed) }); let u = thread::spawn(|| { Y.store(1, Relaxed); X.load(Relaxed) }); let a = t.join().unwrap(); let b = u.join().unwrap(); if a == 0 { println!(\"a\"); } assert!(a == 1 || b == 1); }\n",
+    BEGIN,
+    "X86 Mine\n(* 0:EAX is a, 1:EAX is b *)\n{ X=0; Y=0; }\n P0          | P1          ;\n MOV [X],$1  | MOV [Y],$1  ;\n MOV EAX,[Y] | MOV EAX,[X] ;\nforall (0:EAX=1 \\/ 1:EAX=1)\n"],
+  ["a result whose name a clone has later", "use std::sync::atomic::{*, Ordering::*};\nuse std::sync::Arc;\nuse std::thread;\nstatic X: AtomicU32 = AtomicU32::new(0);\nstatic Y: AtomicU32 = AtomicU32::new(0);\nfn main() { let x = Arc::new(AtomicU32::new(0)); let x2 = x.clone(); let h = thread::spawn(move || x2.load(Relaxed)); let r = h.join().unwrap(); let r = x.clone(); assert_eq!(r.load(Relaxed), 1); }\n",
+    BEGIN,
+    "X86 Mine\n(* 0:EAX is r *)\n{ x=0; }\n P0          ;\n MOV EAX,[x] ;\nforall (x=1)\n"],
 ];
 const LONG = 60000;
 const LONG_TEXTS = [
