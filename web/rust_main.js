@@ -212,7 +212,7 @@ export class Starter {
   /** Reads the closure of a scope or of a model checker, whose last expression may join the threads and have the results of `names`. */
   readScope(value, names, aliases) {
     const open = value.indexOf("(");
-    const [, owner, body = ""] = CLOSURE.exec(value.slice(open + 1, findClosing(value, open)).trim()) ?? [];
+    const [, owner, body = ""] = CLOSURE.exec(splitArguments(value.slice(open + 1, findClosing(value, open)))[0] ?? "") ?? [];
     const statements = splitStatements(body.trim().replace(/^\{([^]*)\}$/, "$1"));
     const results = names ? splitTuple(names) : [];
     const joins = names ? splitTuple(statements.pop() ?? "") : [];

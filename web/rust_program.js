@@ -176,9 +176,17 @@ function declareAll(variables, items, structs, taken) {
   return variables.map((it) => (isObject(it) ? writeObject(it, items, taken) : declare(it, [...items, ...variables])));
 }
 
+/** Returns code without the paths of its own modules before functions and names in capitals: no two of these have one name. */
+function shortenPaths(code) {
+  const modules = [...code.matchAll(/\bmod\s{1,9}(\w{1,40})\s{0,9}\{/g)].map(([, name]) => name).slice(0, DEEPEST);
+  const functions = new Set([...code.matchAll(/\bfn\s{1,9}(\w{1,40})/g)].map(([, name]) => name));
+  const path = new RegExp(`(?<!::)\\b(?:(?:${["crate", "super", ...modules].join("|")})::)+([A-Za-z]\\w*)`, "g");
+  return code.replace(path, (whole, name) => (/^[A-Z]/.test(name) || functions.has(name) ? name : whole));
+}
+
 /** Returns a program in C++ that does what one in Rust does; null if it starts no threads and has no functions. */
 function translate(text) {
-  const code = blankText(text);
+  const code = shortenPaths(blankText(text));
   if (code.replace(/\s+/g, " ").length > LONGEST) throw new Unread(code.trim(), ": the program is long");
   const items = readItems(code.replace(QUESTION, ""));
   const [question = ""] = QUESTION.exec(code) ?? [];

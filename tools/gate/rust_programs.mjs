@@ -253,6 +253,21 @@ const PROGRAMS = [
   ["a result whose name a clone has later", "use std::sync::atomic::{*, Ordering::*};\nuse std::sync::Arc;\nuse std::thread;\nstatic X: AtomicU32 = AtomicU32::new(0);\nstatic Y: AtomicU32 = AtomicU32::new(0);\nfn main() { let x = Arc::new(AtomicU32::new(0)); let x2 = x.clone(); let h = thread::spawn(move || x2.load(Relaxed)); let r = h.join().unwrap(); let r = x.clone(); assert_eq!(r.load(Relaxed), 1); }\n",
     BEGIN,
     "X86 Mine\n(* 0:EAX is r *)\n{ x=0; }\n P0          ;\n MOV EAX,[x] ;\nforall (x=1)\n"],
+  ["paths of modules", "use std::sync::atomic::{*, Ordering::*};\nuse std::sync::Arc;\nuse std::thread;\nstatic X: AtomicU32 = AtomicU32::new(0);\nstatic Y: AtomicU32 = AtomicU32::new(0);\nmod p { use std::sync::atomic::*; pub static Z: AtomicU32 = AtomicU32::new(0); pub fn set(v: u32) { Z.store(v, Ordering::Relaxed); crate::Y.store(v, Ordering::Relaxed); } }\nfn main() { let t = thread::spawn(|| { p::set(1); crate::p::Z.store(2, Relaxed); }); let u = thread::spawn(|| p::Z.load(Relaxed)); t.join().unwrap(); let r = u.join().unwrap(); assert_ne!(r, 2); }\n",
+    BEGIN,
+    "X86 Mine\n(* 1:EAX is r *)\n{ Y=0; Z=0; }\n P0         | P1          ;\n MOV [Z],$1 | MOV EAX,[Z] ;\n MOV [Y],$1 |             ;\n MOV [Z],$2 |             ;\nlocations [Y]\n~exists (1:EAX=2)\n"],
+  ["functions of one name in two modules", "use std::sync::atomic::{*, Ordering::*};\nuse std::sync::Arc;\nuse std::thread;\nstatic X: AtomicU32 = AtomicU32::new(0);\nstatic Y: AtomicU32 = AtomicU32::new(0);\nmod p { pub fn go() { super::X.store(1, super::Relaxed); } }\nmod q { pub fn go() { super::X.store(2, super::Relaxed); } }\nfn main() { let t = thread::spawn(p::go); let u = thread::spawn(q::go); t.join().unwrap(); u.join().unwrap(); }\n",
+    `${REFUSED}\`go\`: give each function a name of its own.`,
+    null],
+  ["a structure that `main` uses beside a thread", "use std::sync::atomic::{*, Ordering::*};\nuse std::sync::Arc;\nuse std::thread;\nstatic X: AtomicU32 = AtomicU32::new(0);\nstatic Y: AtomicU32 = AtomicU32::new(0);\nstruct S { a: AtomicU32 }\nimpl S { fn new() -> S { S { a: AtomicU32::new(0) } } fn put(&self, v: u32) { self.a.store(v, Relaxed); } fn get(&self) -> u32 { self.a.load(Relaxed) } }\nfn main() { let s = Arc::new(S::new()); let s2 = Arc::clone(&s); let t = thread::spawn(move || s2.put(1)); let r = s.get(); t.join().unwrap(); assert_eq!(r, 1); }\n",
+    BEGIN,
+    "X86 Mine\n(* 1:EAX is r *)\n{ s_a=0; }\n P0           | P1            ;\n MOV [s_a],$1 | MOV EAX,[s_a] ;\nforall (1:EAX=1)\n"],
+  ["a model checker with a number of runs", "use shuttle::sync::atomic::{AtomicU32, Ordering::*}; use shuttle::sync::Arc; use shuttle::thread;\nfn main() { shuttle::check_random(|| { let x = Arc::new(AtomicU32::new(0)); let y = x.clone(); let t = thread::spawn(move || { x.store(1, Relaxed); }); let r = y.load(Relaxed); t.join().unwrap(); assert_eq!(r, 1); }, 100); }\n",
+    BEGIN,
+    "X86 Mine\n(* 1:EAX is r *)\n{ x=0; }\n P0         | P1          ;\n MOV [x],$1 | MOV EAX,[x] ;\nforall (1:EAX=1)\n"],
+  ["variables of branches with one name", "use std::sync::atomic::{*, Ordering::*};\nuse std::sync::Arc;\nuse std::thread;\nstatic X: AtomicU32 = AtomicU32::new(0);\nstatic Y: AtomicU32 = AtomicU32::new(0);\nfn a() { if X.load(Relaxed) == 1 { let v = Y.load(Relaxed); Y.store(v, Relaxed); } else { let v = Y.load(Relaxed); X.store(v, Relaxed); } }\nfn b() { X.store(1, Relaxed); }\n",
+    `${BEGIN} The question is a guess: change it to yours.`,
+    "X86 Mine\n(* 0:EAX is X in its condition, 0:EBX is v, 0:ECX is v_2 *)\n{ X=0; Y=0; }\n P0              | P1         ;\n MOV EAX,[X]     | MOV [X],$1 ;\n CMP EAX,$1      |            ;\n JNE L1          |            ;\n MOV EBX,[Y]     |            ;\n MOV [Y],EBX     |            ;\n JMP END         |            ;\n L1: MOV ECX,[Y] |            ;\n MOV [X],ECX     |            ;\n END:            |            ;\nlocations [0:EBX; X]\nexists (~0:EAX=1 /\\ 0:ECX=0)\n"],
 ];
 const LONG = 60000;
 const LONG_TEXTS = [
