@@ -18,7 +18,7 @@ const NUMBER = /^let\s+(mut\s+)?(\w+)(?:\s*:\s*(\w+))?\s*=\s*(-?\d+|true|false)$
 const CLONE = /^(?:(?:std::sync::)?Arc::clone\(\s*&\s*(\w+)\s*\)|&\s*(?:mut\s+)?(\w+)|(\w+)(?:\.clone\(\))?)$/;
 const SPAWN = /^(?:(?:std::|loom::|shuttle::)?thread::|(\w+)\.)spawn\s*(?=\()/;
 const SCOPE = /^(?:[\w:]+::)?(?:scope|model|check_random)\s*(?=\()/;
-const CLOSURE = /^(?:move\s+)?\|\s*(\w*)[^|]*\|\s*([^]*)$/;
+const CLOSURE = /^(?:move\s+)?\|\s*(\w*)[^|]*\|\s*(?:->[^{]*)?([^]*)$/;
 const UNWRAPPED = "\\.join\\(\\)(?:\\.unwrap\\(\\)|\\.expect\\([^()]*\\))?";
 const JOIN = new RegExp(`^(\\w+)${UNWRAPPED}$`);
 // Joins of a list of threads: the groups are its name and what follows.

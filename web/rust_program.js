@@ -186,7 +186,7 @@ function shortenPaths(code) {
 
 /** Returns a program in C++ that does what one in Rust does; null if it starts no threads and has no functions. */
 function translate(text) {
-  const code = shortenPaths(blankText(text));
+  const code = shortenPaths(blankText(text)).replace(/(?<!\s)\s+(?=\.\w)/g, "");
   if (code.replace(/\s+/g, " ").length > LONGEST) throw new Unread(code.trim(), ": the program is long");
   const items = readItems(code.replace(QUESTION, ""));
   const [question = ""] = QUESTION.exec(code) ?? [];
