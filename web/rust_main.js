@@ -63,8 +63,7 @@ export function nameResult(name, thread) {
 export class Starter {
   constructor(taken, structs) {
     // `depth` counts blocks. `numbers` has the names of the shared variables that are no atomics, `taken` those of what is outside, and `names` those
-    // of results in C++. `structs` has the names of structures, and `reported`
-    // has what is asked if nothing is asserted.
+    // of results in C++. `structs` has the names of structures, and `reported` what is asked if nothing is asserted.
     Object.assign(this, { depth: 0, taken, shared: [], numbers: new Set(), threads: [], handles: new Map(), names: new Map() });
     Object.assign(this, { structs, asserted: [], reported: [], words: [] });
   }
@@ -92,7 +91,7 @@ export class Starter {
     this.depth -= 1;
   }
 
-  /** Reads a statement, by its form. */
+  /** Reads a statement by its form. */
   readShallow(statement, aliases) {
     const [, names, value] = /^let\s+(?:mut\s+)?([\w\s(),]+?)(?:\s*:[^=]+)?\s*=\s*([^]*)$/.exec(statement) ?? [null, null, statement];
     if (names && (/\bspawn\s*\(/.test(value) || EMPTY.test(value))) this.forget(names);
@@ -276,7 +275,8 @@ export class Starter {
     const thread = this.handles.get(handle);
     if (!thread || thread.isJoined) throw new Unread(`${handle}.join()`, OF_MAIN);
     thread.isJoined = true;
-    thread.results = (names ?? "").replace(/[()]/g, "").split(",").map((it) => it.trim()).filter((it) => it && it !== "_");
+    const all = names === "_" ? [] : splitTuple(names ?? "");
+    thread.results = all.map((it, at) => (it === "_" ? `unused${at}` : it));
     for (const it of thread.results) this.names.set(it, nameResult(it, this.threads.indexOf(thread)));
   }
 

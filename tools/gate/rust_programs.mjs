@@ -274,6 +274,12 @@ const PROGRAMS = [
   ["closures with types of their results", "use std::sync::atomic::{*, Ordering::*};\nuse std::sync::Arc;\nuse std::thread;\nstatic X: AtomicU32 = AtomicU32::new(0);\nstatic Y: AtomicU32 = AtomicU32::new(0);\nfn main() { let t = thread::spawn(move || -> u32 { X.store(1, Relaxed); Y.load(Relaxed) }); let u = thread::spawn(|| -> u32 { Y.store(1, Relaxed); X.load(Relaxed) }); let a: u32 = t.join().unwrap(); let b: u32 = u.join().unwrap(); assert!(a == 1 || b == 1); }\n",
     BEGIN,
     "X86 Mine\n(* 0:EAX is a, 1:EAX is b *)\n{ X=0; Y=0; }\n P0          | P1          ;\n MOV [X],$1  | MOV [Y],$1  ;\n MOV EAX,[Y] | MOV EAX,[X] ;\nforall (0:EAX=1 \\/ 1:EAX=1)\n"],
+  ["a result that is not used", "use std::sync::atomic::{*, Ordering::*};\nuse std::sync::Arc;\nuse std::thread;\nstatic X: AtomicU32 = AtomicU32::new(0);\nstatic Y: AtomicU32 = AtomicU32::new(0);\nfn main() { let t = thread::spawn(|| { let r = X.load(Relaxed); let q = Y.load(Relaxed); (r, q) }); let u = thread::spawn(|| X.store(1, Relaxed)); let (a, _) = t.join().unwrap(); u.join().unwrap(); assert_eq!(a, 0); }\n",
+    BEGIN,
+    "X86 Mine\n(* 0:EAX is r, 0:EBX is q, 0:ECX is a, 0:EDX is unused1 *)\n{ X=0; Y=0; }\n P0          | P1         ;\n MOV EAX,[X] | MOV [X],$1 ;\n MOV EBX,[Y] |            ;\n MOV ECX,EAX |            ;\n MOV EDX,EBX |            ;\nforall (0:ECX=0)\n"],
+  ["results of which one is not used", "use std::sync::atomic::{*, Ordering::*};\nuse std::sync::Arc;\nuse std::thread;\nstatic X: AtomicU32 = AtomicU32::new(0);\nstatic Y: AtomicU32 = AtomicU32::new(0);\nfn main() { let t = thread::spawn(|| { (X.load(Relaxed), Y.load(Relaxed)) }); let u = thread::spawn(|| X.store(1, Relaxed)); let (_, b) = t.join().unwrap(); u.join().unwrap(); assert_eq!(b, 0); }\n",
+    BEGIN,
+    "X86 Mine\n(* 0:EAX is unused0, 0:EBX is b *)\n{ X=0; Y=0; }\n P0          | P1         ;\n MOV EAX,[X] | MOV [X],$1 ;\n MOV EBX,[Y] |            ;\nforall (0:EBX=0)\n"],
 ];
 const LONG = 60000;
 const LONG_TEXTS = [
