@@ -129,8 +129,18 @@ export class Why {
     if (!answer) return null;
     this.answers.replaceChildren();
     if (!answer.lines) return showError(answer, this.answers, this.editor);
+    const other = state === this.missing && answer.lines[0].startsWith(NO_CANDIDATE) ? await this.findTelling(text) : null;
+    if (other !== null) return this.set(other);
     this.answers.append(...this.makeParts(answer, parseHeading(text).language === "SRC"));
     return this.bringIntoSight();
+  }
+
+  /** Returns a state that the condition asks about and that some candidate execution has, in place of the proposed one, which none has; null if there is none. */
+  async findTelling(text) {
+    const { isAsked } = parseQuestion(text);
+    const answer = await ask(this.editor, "why not", { text, state: "all" }, { place: this.answers });
+    const states = answer?.lines?.filter((it) => it.startsWith(FORBIDS)).map((it) => it.slice(FORBIDS.length)) ?? [];
+    return states.find((it) => /;$/.test(it) && !it.includes("=?;") && isAsked(it)) ?? null;
   }
 
   /** Draws the first cycle, or a run, as large as the column of the answers has room for, in a window in which the column is scrolled by itself. */

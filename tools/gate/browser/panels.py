@@ -20,6 +20,11 @@ OWN_LOADS = (
     "X86 3.SB+own\n{}\n P0 | P1 | P2 ;\n MOV [x],$1 | MOV [y],$1 | MOV [z],$1 ;\n MOV EAX,[x] | MOV EAX,[y] | MOV EAX,[z] ;\n"
     " MOV EBX,[y] | MOV EBX,[z] | MOV EBX,[x] ;\nexists (0:EBX=0 /\\ 1:EBX=0 /\\ 2:EBX=0)\n"
 )
+# A test that asks about two states, of which the first is that of no path.
+TWO_STATES = (
+    "X86 Two\n{}\n P0 | P1 ;\n MOV [x],$1 | MOV EAX,[y] ;\n MOV [y],$1 | CMP EAX,$1 ;\n | JNE L ;\n | MOV EBX,[x] ;\n | L: ;\n"
+    "exists (1:EAX=0 /\\ 1:EBX=1 \\/ 1:EAX=1 /\\ 1:EBX=0)\n"
+)
 
 
 def threads_of_run(user: User, panel: str) -> tuple[int, list[str]]:
@@ -112,6 +117,14 @@ class WhyNot(PageCase):
         user.click("#why .why-not")
         self.assertSays("No choice of paths and reads gives these values together.", "#why .why-head")
         self.assertSays("The list is complete (proved), so no run ends there.", "#why .why-head")
+
+    def test_telling(self) -> None:
+        """If no candidate execution has the state that the condition asks about first, another one that it asks about is explained."""
+        user = self.user
+        user.open_listed(f"#text={quote(TWO_STATES)}&view=why")
+        self.assertSays("x86-TSO forbids 1:EAX=1; 1:EBX=0;", "#why .why-head")
+        self.assertSoon(["1", "0"], lambda: [it.get_attribute("value") for it in user.all("#why input")])
+        user.find("#why figure svg.graph")
 
     def test_source(self) -> None:
         """The question about a source test is in its own names, and the proposed state is answered."""
