@@ -8,6 +8,8 @@
 //
 // How well a word fits a test is a number, its fit: the less, the better.
 
+import { findNearest } from "./nearest.js";
+
 // Of a word that readers look for the words that the examples have for it, the best first.
 const SYNONYMS = {
   acquire: ["mp", "publication", "seqlock"], relaxed: ["sb", "mp"], release: ["mp", "publication", "seqlock"], seq_cst: ["sb"],
@@ -53,6 +55,8 @@ const NOTES = [
 // How well a word fits, the best first; a synonym fits less than the word itself.
 const [WHOLE, OTHER_LANGUAGE, BEGIN, IN_NAME, IN_FAMILY, IN_WORDS, BEGINS_WORD] = [0, 0.5, 1, 2, 4, 6, 8];
 const FOR_SYNONYM = 3;
+// The least number of letters of a word that may be misspelt.
+const MIN_MEANT = 5;
 // The addition to the fit of a test whose full name is written, and the fit of one whose whole name is: the test comes before all others.
 const FULL_NAME = -20;
 const EXACT = -40;
@@ -154,7 +158,7 @@ export function listNotes(text) {
 
 /**
  * Returns the tests of families that all words of a text fit, the best first: before all others the test of which the text is the name. Of the tests
- * that have a name in both languages those of x86 are first if `isX86` is set.
+ * that have a name in both languages those of x86 are first if `isX86` is set. If no test fits, words that are misspelt names are taken for these.
  * @param {Family[]} families
  * @param {string} text
  * @param {boolean} isOnlyNames
@@ -173,5 +177,14 @@ export function findTests(families, text, isOnlyNames, isX86 = false) {
     const fits = words.map((it) => measureBestFit(it, test, family, { isOnlyNames, isX86 }));
     return fits.includes(null) ? [] : [{ test, fit: fits.reduce((sum, it) => sum + it, 0) }];
   });
-  return words.length ? fitting.sort((one, other) => one.fit - other.fit).map((it) => it.test) : [];
+  if (fitting.length || !words.length) return words.length ? fitting.sort((one, other) => one.fit - other.fit).map((it) => it.test) : [];
+  const meant = isOnlyNames ? phrase : correctWords(words, candidates);
+  return meant === phrase ? [] : findTests(families, meant, isOnlyNames, isX86);
+}
+
+/** Returns words in which each that begins no name has the nearest word of a name in its place. */
+function correctWords(words, candidates) {
+  const names = [...new Set(candidates.flatMap(({ test }) => listNameWords(test.name)))].filter((it) => it.length >= MIN_MEANT);
+  const correct = (word) => (word.length < MIN_MEANT || names.some((it) => it.startsWith(word)) ? word : (findNearest(word, names) ?? word));
+  return words.map(correct).join(" ");
 }

@@ -102,7 +102,8 @@ function findLocationSlips(test, text, askedSites) {
     const begin = isInQuestion ? `The question names \`${name}\`` : `A thread loads \`${name}\``;
     const words = `${begin}, but no thread writes ${name}: it is ${test.words[location]} in every run.`;
     const names = OTHER_WIDTH.test(name) ? [] : stored.filter((it) => !OTHER_WIDTH.test(it));
-    return [makeSlip(words, name, findNearest(name, names), isInQuestion)];
+    const namesake = names.find((it) => it.toLowerCase() === name.toLowerCase()) ?? null;
+    return [makeSlip(words, name, namesake ?? findNearest(name, names), isInQuestion)];
   });
 }
 
