@@ -23,7 +23,7 @@ import { REGISTERS, WORD } from "./token_reader.js";
 const ASSEMBLY = "(?:__)?asm(?:__)? (?:__)?volatile(?:__)?";
 const FENCE = new RegExp(
   "^(?:atomic_thread_fence\\(memory_order_seq_cst\\)|(?:smp_mb|__sync_synchronize|_mm_mfence|__builtin_ia32_mfence)\\(\\)|" +
-    `${ASSEMBLY}\\("mfence":::"memory"\\))$`,
+    `${ASSEMBLY}\\("(?:mfence|lock ?(?:add|or)[lq]?\\$0x?0? ?-?\\d* ?%%[re]sp)":::"memory"(?:,"cc")?\\))$`,
 );
 const NO_FENCE = new RegExp(
   "^(?:atomic_thread_fence\\(memory_order_(?:relaxed|consume|acquire|release|acq_rel)\\)|atomic_signal_fence\\(memory_order_\\w+\\)|" +

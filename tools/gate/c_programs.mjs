@@ -159,6 +159,8 @@ const STATEMENTS = [
   ["atomic_thread_fence(memory_order_acq_rel); std::atomic_thread_fence(std::memory_order_release); smp_wmb(); smp_rmb();", "", "smp_wmb();"],
   ["asm volatile (\"mfence\" ::: \"memory\"); __asm__ __volatile__(\"\" : : : \"memory\"); _mm_mfence(); std::atomic_signal_fence(std::memory_order_seq_cst);",
     "MFENCE; MFENCE", "asm volatile(\"mfence\":::\"memory\"); barrier(); _mm_mfence();"],
+  ["asm volatile(\"lock; addl $0,0(%%rsp)\" ::: \"memory\", \"cc\"); __asm__ __volatile__(\"lock orq $0x0, -8(%%rsp)\" : : : \"memory\");", "MFENCE; MFENCE",
+    "asm volatile(\"lock addl $0, (%%esp)\":::\"memory\"); smp_mb();"],
   ["_mm_sfence(); v = 1; _mm_lfence(); _mm_pause(); std::this_thread::yield(); asm volatile(\"pause\" ::: \"memory\"); __asm__ __volatile__(\"sfence\" ::: \"memory\");",
     "MOV [v],$1", "_mm_sfence(); *v = 1; _mm_lfence(); cpu_relax(); sched_yield();"],
   // What gcc and clang have besides.
