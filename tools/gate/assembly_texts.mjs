@@ -5,9 +5,8 @@
 //
 // tools/gate/check_site.mjs compares this too. It needs neither a browser nor the module.
 
-import { fileURLToPath } from "node:url";
-import { isDeepStrictEqual } from "node:util";
 import { loadModules } from "./c_programs.mjs";
+import { runAlone } from "./typed_texts.mjs";
 
 const PARTS = ["faults", "other_tools"];
 const BEGIN = "These are instructions without a test around them";
@@ -654,14 +653,4 @@ export async function compareAssemblyTexts(compare) {
   compareTimes(page, compare);
 }
 
-if (process.argv[1] === fileURLToPath(import.meta.url)) {
-  const counts = [0, 0];
-  const compare = (what, expected, found) => {
-    const isSame = isDeepStrictEqual(expected, found);
-    counts[Number(!isSame)] += 1;
-    if (!isSame) console.log(`${what}\n  wanted: ${JSON.stringify(expected)}\n  found:  ${JSON.stringify(found)}`);
-  };
-  await compareAssemblyTexts(compare);
-  console.log(`${counts[0]} passed, ${counts[1]} failed`);
-  process.exitCode = counts[1] ? 1 : 0;
-}
+await runAlone(import.meta.url, compareAssemblyTexts);

@@ -4,9 +4,8 @@
 //
 // tools/gate/check_site.mjs compares this too. It needs neither a browser nor the module.
 
-import { fileURLToPath } from "node:url";
-import { isDeepStrictEqual } from "node:util";
 import { loadModules } from "./c_programs.mjs";
+import { compareTexts, compareTimes, runAlone } from "./typed_texts.mjs";
 
 const PARTS = ["faults", "other_tools"];
 const BEGIN =
@@ -288,38 +287,14 @@ const LONG_TEXTS = [
 ];
 const SLOWEST = 1500;
 
-/** Returns the fault that lw reports of a text that does not begin as a test. */
-function makeFault(text) {
-  return { kind: "text", number: 4, name: "Unexpected", row: 1, column: 1, index: text.search(/\S/) };
-}
-
 /**
  * Compares what the page makes of programs in Rust, by its own modules.
  * @param {function(string, any, any)} compare
  */
 export async function compareRustPrograms(compare) {
-  const { faults, other_tools } = await loadModules(PARTS);
-  for (const [name, text, words, made] of PROGRAMS) {
-    const { words: found, change } = faults.explainFault(makeFault(text), text);
-    compare(`the words on ${name}`, words, found);
-    compare(`the test of ${name}`, [made, made !== null], [change?.text ?? null, change !== null && other_tools.isRead(change.text)]);
-  }
-  for (const [name, text] of LONG_TEXTS) {
-    const begin = performance.now();
-    faults.explainFault(makeFault(text), text);
-    const took = performance.now() - begin;
-    compare(`the time for a long text of ${name}`, true, took < SLOWEST || took);
-  }
+  const page = await loadModules(PARTS);
+  compareTexts(page, compare, PROGRAMS);
+  compareTimes(page, compare, LONG_TEXTS, SLOWEST);
 }
 
-if (process.argv[1] === fileURLToPath(import.meta.url)) {
-  const counts = [0, 0];
-  const compare = (what, expected, found) => {
-    const isSame = isDeepStrictEqual(expected, found);
-    counts[Number(!isSame)] += 1;
-    if (!isSame) console.log(`${what}\n  wanted: ${JSON.stringify(expected)}\n  found:  ${JSON.stringify(found)}`);
-  };
-  await compareRustPrograms(compare);
-  console.log(`${counts[0]} passed, ${counts[1]} failed`);
-  process.exitCode = counts[1] ? 1 : 0;
-}
+await runAlone(import.meta.url, compareRustPrograms);
