@@ -68,7 +68,7 @@ const INDIRECT = /^(?:jmp|call)q?\s+(?:\*|\[|qword\b)/i;
 // The sentence on code that is not optimized.
 const UNOPTIMIZED = "These are instructions of a compiler without optimization, which keep variables on the stack: compile with `-O2`.";
 // The sentence on code of a library.
-const POSITION_INDEPENDENT = "These are instructions of a library, which loads the address of each variable from a table: compile without `-fPIC`.";
+const POSITION_INDEPENDENT = "These are instructions of a library, which loads the address of each variable from a table: compile without `-fPIC`, or by rustc with `-C relocation-model=static`.";
 // A second name of a variable.
 const ALIAS = /^[ \t]*\.(?:set|equ)[ \t]+([\w.$]+)[ \t]*,/gm;
 // An address that the linker has not put in yet, and the sentence on it.

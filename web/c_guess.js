@@ -19,9 +19,12 @@ export function areEntering(program, writers) {
   return isOfBranch && (!isTakenBack(accesses) || listLostAdditions(program, accesses, false).length === 1);
 }
 
-/** Returns whether a thread stores in a branch what another one loads before it. */
+/** Returns whether a thread stores in a branch, or once more, what another one loads outside of branches. */
 function isTakenBack(accesses) {
-  return accesses.some((it) => it.isWrite && !it.isSure && accesses.some((other) => other.isRead && other.isSure && other.name === it.name));
+  const writes = accesses.filter((it) => it.isWrite);
+  const isAgain = (it) => writes.some((other) => other !== it && other.thread === it.thread && other.name === it.name);
+  const isLoaded = (it) => accesses.some((other) => other.isRead && other.isSure && other.name === it.name && other.thread !== it.thread);
+  return writes.some((it) => (!it.isSure || isAgain(it)) && isLoaded(it));
 }
 
 /**

@@ -22,6 +22,8 @@ const C = new RegExp(
     "(?:atomic_\\w+|int|void|(?:un)?signed|long|short|char|s?size_t|bool|auto|struct|u?int(?:\\d+|ptr)_t|pthread_\\w+_t|mtx_t)\\s|" +
     "atomic<|std::|_Atomic\\())",
 );
+// A procedure in a listing of Microsoft's compiler.
+const LISTING = /^[^\n]*\bPROC\b[^]*^[^\n]*\bENDP\b/m;
 const OF_C = "`tools/from_c.py` compiles programs in C, C++ and Rust, and herd's tests in C";
 const OF_PROGRAM = " For that its threads are functions `P0`, `P1` and so on without parameters, and its last line asks, as `// lw: exists (0:r0=0)` does.";
 const OF_FIRST_LINE = " Its first line is `C mine` then.";
@@ -140,7 +142,7 @@ export function findOtherLanguage(place) {
   const code = rest.replace(C_COMMENTS, "");
   const [other] = [["Java", JAVA], ["Go", GO]].find(([, pattern]) => pattern.test(code) && !CPP.test(code)) ?? [];
   if (other) return { words: `This begins as a program in ${other} does. ${IS_READ}`, document: "your-code.html" };
-  if (C.test(code)) return explainProgram("This begins as a program or a test in C does.", rest, place);
+  if (C.test(code) && !LISTING.test(code)) return explainProgram("This begins as a program or a test in C does.", rest, place);
   if (RUST.test(code)) return explainProgram("This begins as a program in Rust does.", rest, place);
   if (OTHERS.test(token)) return { words: `\`${token}\` is the language of another processor in herd's tests. ${OF_OTHERS}`, document: "from-herd.html" };
   if (/^X86_64$/i.test(token) && !isRead(rest.replace(/^\w+/, "X86"))) {

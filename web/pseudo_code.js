@@ -29,7 +29,8 @@ const FENCE = /^(?:mfence|fence|smp_mb|atomic_thread_fence|__sync_synchronize)\b
 const ASSIGNMENT = /^([A-Za-z_]\w*)\s*:?=\s*(\w+)$/;
 // A line below the names of threads, as manuals of Linux have it.
 const RULE = /^[=\-\s]{3,}$/;
-const BESIDE = /\t|\|\|?| {2,}/;
+const BARS = /\|{1,3}/;
+const BESIDE = /\t| {2,}/;
 
 /** Returns the statements of a part of a line; null if it has something else. */
 function parseStatements(code) {
@@ -53,7 +54,7 @@ function readBelow(lines) {
 
 /** Returns the same of threads side by side, with their names above or without them; null if lines are something else. */
 function readBeside(lines) {
-  const rows = lines.map((line) => line.replace(/;$/, "").split(BESIDE).map((it) => it.trim()));
+  const rows = lines.map((line) => line.replace(/;$/, "").split(line.includes("|") ? BARS : BESIDE).map((it) => it.trim()));
   const numbers = rows[0]?.map((it) => ONLY_NAME.exec(it)?.[1]) ?? [];
   const first = numbers.includes(undefined) ? 0 : Number(numbers[0]);
   const code = numbers.includes(undefined) ? rows : rows.slice(1);

@@ -78,6 +78,11 @@ function findFirst(numbers) {
   return numbers.every((it, at) => it === undefined || Number(it) === first + at) ? first : NaN;
 }
 
+/** Returns the letter of a thread of a name. */
+function findLetter(code) {
+  return (ONLY_NAME.exec(code.trim())?.[2] ?? BEGIN.exec(code)?.[2] ?? "").toLowerCase();
+}
+
 /** Returns the pieces of a line that are apart, each with the index at which it begins. */
 function listPieces(line) {
   return [...line.matchAll(PIECE)].map(({ 0: code, index }) => ({ code, index }));
@@ -174,12 +179,14 @@ function readBeside(lines, at, isNamed) {
 /** Returns a text of threads below their names. */
 function readBelow(lines) {
   const [before, after, threads, numbers] = [[], [], [], []];
+  let last = null;
   for (const line of lines.filter((it) => !UNDERLINE.test(it))) {
     const [label] = BEGIN.exec(line) ?? [];
     const isHead = label !== undefined || (listPieces(line).length === 1 && ONLY_NAME.test(line.trim()));
     // A label of a line may begin as the name of its thread.
-    const isNew = isHead && !(label !== undefined && threads.length && numbers.at(-1) === findNumber(line));
-    if (isNew) [threads.push([]), numbers.push(findNumber(line))];
+    const name = isHead ? findNumber(line) ?? findLetter(line) : null;
+    if (isHead && (label === undefined || name !== last)) [threads.push([]), numbers.push(findNumber(line))];
+    last = name ?? last;
     if (isHead && label === undefined) continue;
     const code = dropComment(label === undefined ? line : " ".repeat(label.length) + line.slice(label.length));
     if (!threads.length || INITIAL.test(line)) before.push(line);

@@ -121,7 +121,7 @@ const TEXTS = [
     `. ${GUESS}`,
     "X86 Mine\n{}\n P0        | P1          ;\n mov [x],1 | mov eax,[y] ;\n mov [y],1 | mov ebx,[x] ;\nexists (~1:EAX=0 /\\ 1:EBX=0)\n"],
   ["code of a library", "f:\n movq x@GOTPCREL(%rip), %rax\n movl $1, (%rax)\n ret\n",
-    "These are instructions of a library, which loads the address of each variable from a table: compile without `-fPIC`.",
+    "These are instructions of a library, which loads the address of each variable from a table: compile without `-fPIC`, or by rustc with `-C relocation-model=static`.",
     null],
   ["an address in a register", "f:\n mov eax, DWORD PTR x[rip]\n mov DWORD PTR [rdi], eax\n ret\n",
     ": `mov DWORD PTR [rdi], eax` has an address in a register, and lw has locations by their names only.",

@@ -984,6 +984,25 @@ void P1() { y.store(1, std::memory_order_relaxed); if (!x.load()) { n += 1; y.st
  END:        | END:        ;
 ~exists (0:EAX=0 /\\ 1:EAX=0 /\\ ~n=2)
 `],
+  ["no question, and threads that take back after their branches", `std::atomic<bool> a{false}, b{false}; int n = 0;
+void f() { a = true; if (!b) { n++; } a = false; }
+void g() { b = true; if (!a) { n++; } b = false; }
+`, `X86 Mine
+(* 0:EAX is b in its condition, 1:EAX is a in its condition *)
+{ a=0; b=0; n=0; }
+ P0             | P1             ;
+ MOV EBX,$1     | MOV EBX,$1     ;
+ XCHG [a],EBX   | XCHG [b],EBX   ;
+ MOV EAX,[b]    | MOV EAX,[a]    ;
+ CMP EAX,$0     | CMP EAX,$0     ;
+ JNE L1         | JNE L1         ;
+ MOV EBX,[n]    | MOV EBX,[n]    ;
+ ADD EBX,$1     | ADD EBX,$1     ;
+ MOV [n],EBX    | MOV [n],EBX    ;
+ L1: MOV EBX,$0 | L1: MOV EBX,$0 ;
+ XCHG [a],EBX   | XCHG [b],EBX   ;
+~exists (0:EAX=0 /\\ 1:EAX=0 /\\ ~n=2)
+`],
   ["no question, and branches that only take back", `volatile int x, y;
 void P0() { x = 1; if (!y) x = 0; }
 void P1() { y = 1; if (!x) y = 0; }
