@@ -36,7 +36,7 @@ function readSteps(lines, isAtt, places = []) {
   const steps = all.at(-1)?.code === "" ? all.slice(0, -1) : all;
   const isUnread = ({ code, operation: { name, label } }) => (!name && !OF_MEANING.test(code)) || (label && !indices.has(label));
   const unread = steps.find(isUnread);
-  // What is before a call prepares it.
+  // The steps before a call prepare it.
   const call = unread && steps.find((it) => /^call/i.test(it.code) || (it.operation.label && isUnread(it)));
   if (unread) throw new Refusal(call ? OF_CALL : "", call ?? unread);
   return { steps, indices };
