@@ -8,7 +8,7 @@ import { computeConstant, foldConstants } from "./c_constants.js";
 import { readStatements } from "./c_loop_reader.js";
 import { ArgumentBinder, isChanged, parseParameters } from "./c_parameters.js";
 import { resolvePlaces } from "./c_places.js";
-import { isCondition, OF_FUNCTIONS, removeOuterParentheses, splitOutside } from "./c_statements.js";
+import { isCondition, OF_FUNCTIONS, parseChoice, removeOuterParentheses, splitEither, splitOutside } from "./c_statements.js";
 import { SwapWriter } from "./c_swaps.js";
 import { joinPaths } from "./c_thread.js";
 import { OF_LOADS, OF_STEPS, SPARE } from "./c_values.js";
@@ -36,11 +36,12 @@ const OF_ARGUMENTS = ": its arguments are constants, variables of the thread, an
 const OF_HOISTED = ": call a function in a statement of its own, as `int r = f();`";
 const OF_EXITS = ": only the function of the thread itself ends the thread";
 const OF_VALUES = ": this function returns no integer";
+const OF_OBJECTS = ": an object of a class is declared outside of functions";
 
 /** Returns whether a value is a truth, which is 0 or 1. */
 function isTruth(code) {
   const inner = removeOuterParentheses(code);
-  return isCondition(inner) || splitOutside(inner, "||").length > 1 || /^(?:[01]|true|false)$/.test(inner);
+  return isCondition(inner) || (!parseChoice(inner) && splitOutside(inner, "||").length > 1) || /^(?:[01]|true|false)$/.test(inner);
 }
 
 /** Writes the instructions of a thread, in which functions are in place of their calls. */
@@ -92,6 +93,12 @@ export class CallWriter extends SwapWriter {
   }
 
   // Code.
+
+  /** Throws NoTest for the statement, with the end of a sentence. */
+  refuseStatement(why) {
+    const [, type] = /^\s*(?:(?:const|struct)\s+)?(\w+)\s+\w+/.exec(this.statement.code) ?? [];
+    super.refuseStatement(why ?? (this.program.types?.has(type) ? OF_OBJECTS : undefined));
+  }
 
   /** Returns squeezed code with the values of names in place of these, and values of functions in place of those that only return them. */
   squeeze(code) {
@@ -235,7 +242,9 @@ export class CallWriter extends SwapWriter {
   writeBranch(statement, isLast) {
     const code = this.squeeze(statement.condition);
     const number = this.hasConstants ? computeConstant(code) : null;
-    if (number === null) super.writeBranch(statement, isLast);
+    const either = number === null ? splitEither(statement, code) : null;
+    if (either) this.writeBranch(either, isLast);
+    else if (number === null) super.writeBranch(statement, isLast);
     else {
       this.writeBlock(number ? statement.then : statement.otherwise, isLast);
       this.isOver = !this.known;
@@ -313,7 +322,7 @@ export class CallWriter extends SwapWriter {
       this.hasConstants = true;
       return;
     }
-    const free = this.frames.length ? this.nameLocal(name) : name;
+    const free = this.frames.length || (this.fixed.has(name) && !this.isAsked(name)) ? this.nameLocal(name) : name;
     if (free !== name) this.names.set(name, free);
     super.declareLocal({ ...variable, name: free }, value);
   }
@@ -324,9 +333,13 @@ export class CallWriter extends SwapWriter {
     const isIndex = new RegExp(`\\[[^\\][]{0,40}\\b${name}\\b`).test(code);
     const isArgument = [...code.matchAll(new RegExp(`\\b(\\w+)\\s{0,9}\\([^;(){}]{0,80}\\b${name}\\b`, "g"))].some(([, it]) => this.isCalled(it));
     const [, ...after] = code.split(new RegExp(`\\b${name}\\b\\s{0,9}(?:=(?!=)|\\{)`));
-    const isAsked = new RegExp(`\\b${name}\\b`).test(this.program.question.code);
     const isKept = after.length === 1 && !isChanged(name, after[0], this.changing);
-    return (isIndex || isArgument || this.hasConstants) && isKept && !isAsked && !this.variables.has(name);
+    return (isIndex || isArgument || this.hasConstants) && isKept && !this.isAsked(name) && !this.variables.has(name);
+  }
+
+  /** Returns whether the question of the program has a name. */
+  isAsked(name) {
+    return new RegExp(`\\b${name}\\b`).test(this.program.question.code);
   }
 
   /** Returns the names of its shared variables with registers that it changes, and whose initial words it or its functions may have used before. */
@@ -360,9 +373,9 @@ export class CallWriter extends SwapWriter {
     return super.isUseOfParameter(statement) || (!this.isHerd && USED.test(statement) && this.isNameOfParameter());
   }
 
-  /** Returns whether the statement names a parameter after `(void)`. */
+  /** Returns whether the statement names a parameter after `(void)`, or in the parentheses of a macro that does the same. */
   isNameOfParameter() {
-    const name = /(\w+)\s*$/.exec(this.statement.code)?.[1];
+    const name = /(\w+)\s*\)?\s*$/.exec(this.statement.code)?.[1];
     return parseParameters((this.frames.at(-1) ?? this.called).parameters).some((it) => it.name === name);
   }
 }

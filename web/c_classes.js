@@ -4,6 +4,7 @@
 // A `Class` has the declarations of its `members`, which have their initial words as their values, and its `methods`, which are functions.
 
 import { blank, findClosing, OF_LONE, OF_VALUES, parseConstant, parseDeclaration, refusePart, replaceNames, squeezeCode } from "./c_code.js";
+import { explainType } from "./c_reasons.js";
 
 const ACCESS = /^(?:public|private|protected)\s*:(?!:)/;
 // What a class may have that does not matter here, and what needs no code: a method that has none, or that of the compiler.
@@ -20,7 +21,7 @@ const OBJECTS = /^(?:(?:static|inline|extern) )*(?:(?:struct|class) )?(\w+) (\w+
 /** Why a function with the name of another one is refused, as the end of a sentence. */
 export const OF_OVERLOADS = ": give each function a name of its own";
 const OF_MEMBERS = ": a class has integers, `bool`, mutexes, arrays of these, and functions";
-const OF_CONSTRUCTORS = ": a constructor has no parameters, and only sets variables to constants";
+const OF_CONSTRUCTORS = ": a constructor has no parameters, and only sets variables of its object to constants";
 
 /** Reads the code of a class from its begin to its end. `rest` is what is not read yet. */
 class ClassReader {
@@ -39,14 +40,21 @@ class ClassReader {
     this.rest = this.rest.slice(length).replace(/^[\s;]+/, "");
   }
 
-  /** Returns the class. Throws NoTest at what an object here has not. */
-  readClass() {
+  /** Returns the class, some methods of which are outside of it. Throws NoTest at what an object here has not. */
+  readClass(others) {
     while (this.rest) this.readMember();
+    for (const { code, index } of others) {
+      Object.assign(this, { rest: code, end: index + code.length });
+      this.skipPart(0);
+      while (this.rest) this.readMember();
+    }
     for (const member of this.members) {
       const place = member.element ?? member.name;
       if (this.words.has(place)) member.value = this.words.get(place);
       this.words.delete(place);
     }
+    // A word that is left over is one of a variable outside of the class.
+    if (this.words.size) refusePart(this.constructed, OF_CONSTRUCTORS);
     return { members: this.members, methods: this.methods };
   }
 
@@ -55,7 +63,8 @@ class ClassReader {
     const [skipped] = ACCESS.exec(this.rest) ?? DESTRUCTOR.exec(this.rest) ?? WITHOUT_CODE.exec(this.rest) ?? [];
     const constructor = CONSTRUCTOR.exec(this.rest);
     const method = METHOD.exec(this.rest);
-    if (skipped && !parseDeclaration(squeezeCode(skipped.slice(0, -1))).length) this.skipPart(skipped.length);
+    const isDeclaration = skipped?.split("(")[0].includes("=") && parseDeclaration(squeezeCode(skipped.slice(0, -1))).length;
+    if (skipped && !isDeclaration) this.skipPart(skipped.length);
     else if (constructor && constructor[1] === this.name) this.readConstructor(constructor);
     else if (method) this.readMethod(method);
     else this.readVariables();
@@ -84,6 +93,7 @@ class ClassReader {
     const assigned = code.code.split(";").map((it) => squeezeCode(convert(it)));
     const found = assigned.filter(Boolean).map((it) => ASSIGNED.exec(it));
     if (parameters.trim() || found.includes(null)) refusePart(whole, OF_CONSTRUCTORS);
+    this.constructed = whole;
     for (const [, name, inner, other] of values.matchAll(INITIAL)) this.words.set(name, squeezeCode(inner ?? other) || "0");
     for (const [, name, value] of found) this.words.set(name, value);
   }
@@ -94,21 +104,24 @@ class ClassReader {
     const code = squeezeCode(replaceNames(part.code.replace(/\bmutable\b/, blank).replace(/;$/, ""), this.names));
     const declared = parseDeclaration(code);
     const isStatic = /^(?:inline )?static\b/.test(code);
-    if (!declared.length || isStatic || CONSTANT.test(code) || declared.some((it) => it.isPointer)) refusePart(part, OF_MEMBERS);
+    if (!declared.length || isStatic || CONSTANT.test(code) || declared.some((it) => it.isPointer)) {
+      refusePart(part, explainType(code) ?? OF_MEMBERS);
+    }
     this.members.push(...declared);
     this.skipPart(part.code.length);
   }
 }
 
 /**
- * Returns a class, given its name, the part between its braces, and the values of names.
+ * Returns a class, given its name, the part between its braces, the values of names, and its methods outside of the braces, without its name in them.
  * @param {string} name
  * @param {Part} code
  * @param {Map<string, string>} names
+ * @param {Part[]} [others]
  * @returns {Class}
  */
-export function readClass(name, code, names) {
-  return new ClassReader(name, code, names).readClass();
+export function readClass(name, code, names, others = []) {
+  return new ClassReader(name, code, names).readClass(others);
 }
 
 /**

@@ -3,6 +3,7 @@
 //
 // The records `Part`, `Program` and `Declaration` are those of c_reader.js.
 
+import { convertWindows } from "./c_windows.js";
 import { WORD } from "./token_reader.js";
 import { NoTest } from "./tokens.js";
 
@@ -32,16 +33,20 @@ const DECLARATOR = /^(\w+(?:\[\d\](?==))?)(?:=(?!\{)(.+)|=?[{(](.*)[})])?$/;
 // A declaration of mutexes in squeezed code: the groups are a `*` and their names. And an array in a declaration: the groups are its name, the number of
 // its words, and their initial values.
 const MUTEXES = new RegExp(
-  "^(?:(?:static|extern|inline|mutable) )*(?:mutex|mtx_t|spinlock_t|pthread_(?:mutex_t|spinlock_t))(?: |(\\*))" +
-    "(\\w+(?:,\\w+)*)(?:=PTHREAD_MUTEX_INITIALIZER|\\{\\})?$",
+  "^(?:(?:static|extern|inline|mutable) )*(?:mutex|mtx_t|spinlock_t|CRITICAL_SECTION|SRWLOCK|pthread_(?:mutex_t|spinlock_t))(?: |(\\*))" +
+    "(\\w+(?:,\\w+)*)(?:=PTHREAD_MUTEX_INITIALIZER|=SRWLOCK_INIT|\\{\\})?$",
 );
 const ARRAY = /^(\w+)\[([1-9])\](?:=?\{(.*)\})?$/;
 // A constant of C that is in base 10 or 16. (One in base 8 is none here.)
 const CONSTANT_OF_C = /^(-?[1-9]\d*|0|0x[\da-f]+)(?:ul{0,2}|l{1,2}u?)?$/i;
 // A part that is long: the group is what is shown of it.
 const LONG = /^(.{40}).+/;
+// A string, a letter or a comment; and what in a string might be taken for code.
+const NO_CODE = /"(?:[^"\\\n]|\\.)*"|'(?:[^'\\\n]|\\.)'|\/\/.*|\/\*[^]*?\*\//g;
+const MARK = /[(){};,*&<>-]/g;
 /** Why the value of a declaration is refused, as the end of a sentence. */
 export const OF_VALUES = ": an initial value is one constant, as in `x = 1` or `x{1}`, and of a `bool` 0 or 1";
+const OF_SMALL_VALUES = ": a variable of 8 or 16 bits has a constant from 0 to 127 here";
 /** Why a name is refused that another variable has, as the end of a sentence. */
 export const OF_LONE = ": give it a name that no other variable has";
 
@@ -95,6 +100,15 @@ export function blank(text) {
 }
 
 /**
+ * Returns a program in which comments are blank, and strings have no marks of code.
+ * @param {string} text
+ * @returns {string}
+ */
+export function blankComments(text) {
+  return text.replace(NO_CODE, (it) => (it.startsWith("/") ? blank(it) : it.replace(MARK, "_")));
+}
+
+/**
  * Returns code with few blanks and no `std::`, in which methods and macros that access a variable are calls of functions of C. The order of a macro
  * is in the name of its function. Between two signs of which blanks make no operator is a `@`.
  * @param {string} code
@@ -104,9 +118,9 @@ export function squeezeCode(code) {
   const short = code.replace(/([+-])\s+(?=[+-]|=(?!=))|([=!])\s+(?==)/g, "$&@").replace(/\s+/g, " ").replace(/ ?([^\w ]) ?/g, "$1").trim();
   const words = short.replace(/\bstd::/g, "").replace(/\bmemory_order::/g, "memory_order_").replace(/\bATOMIC_FLAG_INIT\b/g, "0");
   if (!words.includes("(")) return words;
-  return convertBuiltins(words)
+  return convertKernel(convertBuiltins(convertWindows(words)))
     .replace(/\batomic_ref(?:<[\w ]{0,40}>)?[({](\w+)[)}](?=\.)/g, "$1")
-    .replace(/\bATOMIC_VAR_INIT\((\w+)\)/g, "$1")
+    .replace(/\bATOMIC_(?:VAR_)?INIT\((-?\w+)\)/g, "$1")
     .replace(/\b(\w+)(\.|->)(load|store|exchange|fetch_\w+)\(/g, (_, name, sign, method) => `atomic_${method}(${sign === "." ? "&" : ""}${name},`)
     .replace(/\b(\w+)(\.|->)(test_and_set|clear|test)\((\)?)/g, (_, name, sign, method, end) => convertFlag(method, sign === "." ? `&${name}` : name, end))
     .replace(/\batomic_flag_(test_and_set|clear|test)(?:_explicit)?\((&?\w+)([,)])/g, (_, method, name, end) => convertFlag(method, name, end))
@@ -129,6 +143,32 @@ function convertBuiltins(code) {
     .replace(/\b__sync_lock_test_and_set\(/g, "atomic_exchange_acquire(")
     .replace(/\b__sync_lock_release\((&?\w+)\)/g, "atomic_store_release($1,0)")
     .replace(/\b__sync_fetch_and_(add|sub)\(/g, "atomic_fetch_$1(");
+}
+
+/**
+ * Returns squeezed code in which functions of C are in place of those of the Linux kernel, as this is compiled for x86: `lock inc` and its like, and
+ * `lock bts` of bit 0, which is a compare-exchange of a word that is only 0 or 1.
+ */
+function convertKernel(code) {
+  if (!/\batomic_|_bit/.test(code)) return code;
+  const convertReturned = (whole, verb, value, name) => {
+    const [sign, call] = /^(?:add|inc)/.test(verb) ? ["+", "add"] : ["-", "sub"];
+    const called = `atomic_fetch_${call}(${name},${value})`;
+    return whole === code ? called : `(${called}${sign}@${value})`;
+  };
+  return code
+    .replace(/\batomic_xchg(?:_relaxed|_acquire|_release)?\(/g, "atomic_exchange(")
+    .replace(/\batomic_(?:fetch_)?(add|sub)(?:_relaxed|_acquire|_release)?\((\d+),(&?[A-Za-z_]\w*)\)/g, "atomic_fetch_$1($3,$2)")
+    .replace(/\batomic_(add|sub)_return(?:_relaxed|_acquire|_release)?\((\d+),(&?\w+)\)/g, convertReturned)
+    .replace(/\batomic_(inc|dec)_return(?:_relaxed|_acquire|_release)?\((&?\w+)\)/g, (whole, verb, name) => convertReturned(whole, verb, "1", name))
+    .replace(/\batomic_dec_and_test\((&?\w+)\)/g, "((atomic_fetch_sub($1,1)-@1)==0)")
+    .replace(/\btest_and_(set|clear)_bit(?:_lock)?\(0,(&?\w+)\)/g, (_, verb, name) => `(${convertBit(verb, name)}!=0)`)
+    .replace(/(?<![\w])(set|clear)_bit(?:_unlock)?\(0,(&?\w+)\)/g, (_, verb, name) => convertBit(verb, name));
+}
+
+/** Returns the compare-exchange that sets or clears a word that is only 0 or 1. */
+function convertBit(verb, name) {
+  return `__sync_val_compare_and_swap(${name},${verb === "set" ? "0,1" : "1,0"})`;
 }
 
 /** Returns the begin of a call that does to a flag what one of its methods does, up to the mark after the flag. */
@@ -206,7 +246,8 @@ export function parseConstant(code) {
  */
 export function parseDeclaration(code) {
   const [, pointer, mutexes] = MUTEXES.exec(code) ?? [];
-  const ofMutex = { value: undefined, isPointer: pointer !== undefined, limit: 2, isWide: false, order: "mutex" };
+  const isRecursive = /\bCRITICAL_SECTION\b/.test(code);
+  const ofMutex = { value: undefined, isPointer: pointer !== undefined, limit: 2, isWide: false, order: "mutex", isRecursive };
   if (mutexes) return mutexes.split(",").map((name) => ({ name, ...ofMutex }));
   const [, type, star, variables = ""] = DECLARATION.exec(code) ?? [];
   const declarators = splitDeclarators(variables).flatMap(listElements).map((it) => DECLARATOR.exec(it));
@@ -255,7 +296,7 @@ export function declareVariables({ words, names, arrays, isHerd, hasSpaces }, va
   for (const variable of declared) {
     const { name, element, value, limit } = variable;
     const word = value ? parseConstant(value) : words.get(name) ?? 0;
-    if (word === null || word >= limit) refusePart(shown, OF_VALUES);
+    if (word === null || word >= limit) refusePart(shown, word !== null && limit === SMALL_LIMIT ? OF_SMALL_VALUES : OF_VALUES);
     const former = variables.get(name);
     if (former && (element || former.element || former.object || hasSpaces)) refusePart(shown, OF_LONE);
     if (element) names.set(element, name) && arrays.add(element.split("[")[0]);

@@ -15,8 +15,9 @@ const LEVELS = [
   { "*": (a, b) => a * b, "/": (a, b) => Math.trunc(a / b), "%": (a, b) => a % b },
 ];
 const BEFORE = { "-": (a) => -a, "+": (a) => a, "!": (a) => Number(a === 0), "~": (a) => ~a };
-// Those whose result depends on the sign of a word, or on its bits.
+// Those whose result depends on the sign of a word, or on its bits; and those that compare words with a sign.
 const OF_POSITIVES = /^(?:[<>/%&|^~]|<=|>=|<<|>>)$/;
+const OF_SIGNS = /^[<>]=?$/;
 // A greater word may be one without a sign.
 const GREATEST = 2 ** 31;
 // A cast of a constant to a type that has it. And parentheses, in which there are no others, which are those of no call.
@@ -29,8 +30,8 @@ const MOST = 20;
 
 /** Reads an expression of constants. `at` is how far it is read. */
 class ConstantReader {
-  constructor(code) {
-    Object.assign(this, { code, at: 0, constant: null, operator: null });
+  constructor(code, isSigned) {
+    Object.assign(this, { code, isSigned, at: 0, constant: null, operator: null });
     this.readToken();
   }
 
@@ -49,7 +50,8 @@ class ConstantReader {
       const { operator } = this;
       this.readToken();
       const other = this.readLevel(level + 1);
-      const isUnknown = OF_POSITIVES.test(operator) && (number < 0 || other < 0);
+      const isOfPositives = OF_POSITIVES.test(operator) && !(this.isSigned && OF_SIGNS.test(operator));
+      const isUnknown = isOfPositives && (number < 0 || other < 0);
       number = isUnknown ? NaN : checkSize(LEVELS[level][operator](number, other), number, other);
     }
     return number;
@@ -78,14 +80,16 @@ function checkSize(number, ...operands) {
 }
 
 /**
- * Returns the number of an expression of constants; null if it has more than these, or if its result depends on its type.
+ * Returns the number of an expression of constants; null if it has more than these, or if its result depends on its type. `isSigned` says that its
+ * words have signs.
  * @param {string} code squeezed
+ * @param {boolean} [isSigned]
  * @returns {number | null}
  */
-export function computeConstant(code) {
+export function computeConstant(code, isSigned = false) {
   const plain = code.replaceAll("@", "");
   if (plain.length > LONGEST || !/\d|true|false/.test(plain)) return null;
-  const reader = new ConstantReader(plain);
+  const reader = new ConstantReader(plain, isSigned);
   const number = reader.readLevel(0);
   return Number.isInteger(number) && reader.isEnd && !plain.slice(reader.at).trim() ? number : null;
 }

@@ -2,21 +2,40 @@
 //
 // A `ThreadWriter` is that of c_thread.js, with the accesses of its thread.
 
-import { formatFormula } from "./c_question.js";
+import { formatFormula, negateFormula } from "./c_question.js";
 import { guessProposition } from "./guess_question.js";
 import { WORD } from "./token_reader.js";
 
 /**
- * Returns whether a guessed question may ask whether all threads enter a branch: each of several has one `if`, without `else`, and waits for nothing; and if
- * one takes back in it what keeps others out, they add to a location there.
+ * Returns the branches that a thread enters by its only `if`: the statements of this, or those of its `else` or those that follow it if it returns, if only
+ * they access shared variables, or add to one. Those of a thread with several are around all its additions, and say of each `return` before these that it
+ * is not taken. Null if it has no such branches.
+ * @param {ThreadWriter} writer
+ * @returns {object[] | null}
+ */
+export function findEntry({ entered, accesses }) {
+  const isIn = (it, branches) => it.around?.at(-1) === branches.at(-1);
+  const isWhole = ({ around, exitCount }) => around.filter((it) => it.isLeft).length === exitCount;
+  const added = accesses.filter((it) => !it.isSure && it.isWrite && it.added !== null);
+  if (entered.length > 1) return added.some((it) => it.around.length) && added.every((it) => isIn(it, added[0].around) && isWhole(it)) ? added[0].around : null;
+  const [branches = []] = entered;
+  const accessing = branches.filter((it) => accesses.some((access) => isIn(access, it)));
+  const adding = branches.filter((it) => added.some((access) => isIn(access, it)));
+  return [branches, accessing, adding].find((it) => it.length === 1)?.[0] ?? null;
+}
+
+/**
+ * Returns whether a guessed question may ask whether all threads enter a branch: each of several has one, and waits for nothing; and if one takes back
+ * what keeps others out, or has several branches, they add to a location there.
  * @param {Program} program
  * @param {ThreadWriter[]} writers
  * @returns {boolean}
  */
 export function areEntering(program, writers) {
-  const isOfBranch = writers.length > 1 && writers.every(({ entered, waits }) => entered.length === 1 && entered[0].length && !waits.length);
+  if (writers.length < 2 || !writers.every((it) => findEntry(it) && !it.waits.length)) return false;
   const accesses = writers.flatMap((it) => it.accesses);
-  return isOfBranch && (!isTakenBack(accesses) || listLostAdditions(program, accesses, false).length === 1);
+  const isOfAdditions = isTakenBack(accesses) || writers.some((it) => it.entered.length > 1);
+  return !isOfAdditions || listLostAdditions(program, accesses, false).length === 1;
 }
 
 /** Returns whether a thread stores in a branch, or once more, what another one loads outside of branches. */
@@ -28,16 +47,34 @@ function isTakenBack(accesses) {
 }
 
 /**
- * Returns the proposition that all threads enter the only branch that they have, and lose an addition in it if a thread takes back what keeps others out;
- * null if that is not all that they do, or if a condition has no register.
+ * Returns the phrases that all threads enter the only branch that they have, and lose an addition in it if a thread takes back what keeps others out; none
+ * if that is not all that they do, or if a condition has no register that still has its word at the end.
  */
-function askOfEntered(program, writers, accesses) {
-  if (!areEntering(program, writers)) return null;
-  const atoms = writers.flatMap((writer) => writer.entered[0].flatMap((it) => it.comparisons).map((it) => ({ ...it, writer })));
-  if (atoms.some(({ variable, word }) => variable === null || word === null)) return null;
-  const parts = atoms.map(({ writer, variable, word, isEqual }) => ({ name: writer.makeSite(variable), word, isEqual }));
-  const lost = isTakenBack(accesses) ? listLostAdditions(program, accesses, false) : [];
-  return formatFormula({ sign: "/\\", parts: [...parts, ...lost] });
+function sayEntered(program, writers, accesses) {
+  if (!areEntering(program, writers)) return [];
+  const parts = writers.flatMap((writer) => findEntry(writer).map((it) => makeEntered(writer, it)));
+  if (parts.includes(null)) return [];
+  const places = new Set(writers.map((it) => it.entries.length ? "loop" : "if"));
+  const place = [...places].sort().join(" or ");
+  const isPast = writers.some((it) => findEntry(it).some((branch) => branch.isNegated));
+  const tries = places.has("loop") ? " at the first try" : "";
+  const words = `${writers.length === 2 ? "both" : "all"} threads ${isPast ? "get past" : "enter"} their ${place}${tries}`;
+  return [{ words, formula: { sign: "/\\", parts } }, ...sayLost(isTakenBack(accesses) ? listLostAdditions(program, accesses, false) : [])];
+}
+
+/** Returns the formula that says of final states whether a thread has entered a branch; null if no words of registers say it. */
+function makeEntered(writer, { whole, isNegated, settingCounts }) {
+  const isUnknown = ({ variable, word }, at) => variable === null || word === null || writer.countSettings(variable) !== settingCounts[at];
+  if (whole.some(isUnknown)) return null;
+  const parts = whole.map(({ variable, word, isEqual }) => ({ name: writer.makeSite(variable), word, isEqual }));
+  const formula = parts.length > 1 ? { sign: "/\\", parts } : parts[0];
+  return isNegated ? negateFormula(formula) : formula;
+}
+
+/** Returns the phrase of formulas of lost additions, of which one holds; none if there are no formulas. */
+function sayLost(lost) {
+  const names = lost.map((it) => it.name).join(" or ");
+  return lost.length ? [{ words: `an addition to ${names} is lost`, formula: lost.length === 1 ? lost[0] : { sign: "\\/", parts: lost } }] : [];
 }
 
 /**
@@ -57,18 +94,21 @@ function listLostAdditions({ words }, accesses, isSure = true) {
 /**
  * Returns a question for a test that has none: whether an addition can be lost, if a load and a store make one; or whether all threads can enter their
  * branches at once; and otherwise whether all variables that threads loaded last can have their first words, if these loads are reached, and if what a
- * thread loaded before has another one. It is `true` if a thread loads otherwise, or none loads.
+ * thread loaded before has another one. It is `true` if a thread loads otherwise, or none loads. The question of a defect has `phrases`, which say what it is.
  * @param {Program} program
  * @param {ThreadWriter[]} writers
  * @param {object[]} accesses
- * @returns {string}
+ * @returns {{question: string, phrases: {words: string, formula: Formula}[]}}
  */
 export function guessQuestion(program, writers, accesses) {
-  const lost = listLostAdditions(program, accesses);
-  // These are defects.
-  if (lost.length) return `~exists (${formatFormula({ sign: "\\/", parts: lost })})`;
-  const entered = askOfEntered(program, writers, accesses);
-  if (entered) return `~exists (${entered})`;
+  const lost = sayLost(listLostAdditions(program, accesses));
+  const phrases = lost.length ? lost : sayEntered(program, writers, accesses);
+  if (!phrases.length) return { question: guessFirstWords(program, writers), phrases };
+  return { question: `~exists (${formatFormula({ sign: "/\\", parts: phrases.map((it) => it.formula) })})`, phrases };
+}
+
+/** Returns the question whether variables that threads loaded last can have their first words, as `guessQuestion` says. */
+function guessFirstWords(program, writers) {
   if (!writers.some((it) => it.loadedBranches.length)) {
     const loads = writers.map((writer) => {
       const awaited = writer.waits.flatMap(listNames);

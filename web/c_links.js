@@ -7,7 +7,7 @@ import { isChanged, parseParameters } from "./c_parameters.js";
 import { WORD } from "./token_reader.js";
 
 // Functions that are read as others.
-const CONVERTED = /^(?:xchg|smp_|atomic_|READ_ONCE$|WRITE_ONCE$|__)/;
+const CONVERTED = /^(?:xchg|smp_|atomic_|READ_ONCE$|WRITE_ONCE$|__|(?:test_and_)?(?:set|clear)_bit)/;
 
 /** Returns the code of a function, and of those that it calls or may call, by their names. */
 function findReached(program, { code, values = [], name }) {

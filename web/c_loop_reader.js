@@ -37,12 +37,52 @@ const DO = /^do\b/;
 const ELSE = /^\s*else\b/;
 const LONGEST_HEAD = 40;
 const WHILE = /^\s*while\s*(?=\()/;
+// A store of a constant in the body of a loop.
+const STORES = /\bstore\w*\s*\(|WRITE_ONCE\s*\(|[\w\]]\s*=\s*(?:\d|true|false)/g;
+// What ends such a loop otherwise than by its condition, and an addition, which may be what the loop is for.
+const OTHER_END = /\b(?:break|return|goto|continue|throw|exit|abort)\b|\+\+|--|[+-]=|fetch_/;
+/** Why a loop that stores is refused, as the end of a sentence. */
+export const OF_STORING = ": a loop that stores before it looks again is not rewritten, so write only the entry, as `flag[0] = 1; if (flag[1] == 0) { n++; }`";
+
+/**
+ * Returns whether the last store in the body of a loop, and what follows this, is as at the end of the code before the loop, so that a thread looks again as it
+ * looks first.
+ * @param {string} before
+ * @param {string} body
+ * @returns {boolean}
+ */
+export function isStoredAlike(before, body) {
+  const squeeze = (code) => code.replace(/\b(?:const|auto|int|bool|unsigned)\s+(?=\w+\s*=)/g, "").replace(/\s+/g, "");
+  const { index } = [...body.matchAll(STORES)].at(-1) ?? {};
+  if (index === undefined) return false;
+  const begin = Math.max(...[";", "{", "}"].map((it) => body.lastIndexOf(it, index))) + 1;
+  return squeeze(before).endsWith(squeeze(body.slice(begin)).replace(/\}+$/, ""));
+}
 
 /** Reads the statements of a thread. */
 class ThreadReader extends StatementReader {
   /** Returns the loop here, if it counts, or only waits or loads. Throws NoTest at another one, at a `switch`, and at an `else`. */
   readLoop() {
-    return this.readCounted() ?? this.readWaiting() ?? this.readEndless() ?? this.readPass() ?? super.readLoop();
+    return this.readCounted() ?? this.readWaiting() ?? this.readEndless() ?? this.readPass() ?? this.readStoring() ?? super.readLoop();
+  }
+
+  /**
+   * Returns an `if` that ends the thread in place of the loop here, if that takes back and stores again what keeps others out, as in Dekker's lock: a
+   * thread that would begin it ends there. Null if it does not. Throws NoTest if such a loop has another end, or stores otherwise than the code before it.
+   */
+  readStoring() {
+    const { rest } = this;
+    const head = WHILE.exec(rest)?.[0].length;
+    const close = head ? findClosing(rest, head) : -1;
+    const stores = close < 0 ? [] : findBody(rest, close + 1).code.match(STORES) ?? [];
+    const isLooking = /[a-z_]/i.test(rest.slice(head, Math.max(close, head)).replace(/\btrue\b/g, ""));
+    if (stores.length < 2 || !isLooking) return null;
+    const { code: body, end } = findBody(rest, close + 1);
+    const isEntry = !OTHER_END.test(body) && isStoredAlike(this.code.slice(0, this.at), body);
+    const { code, index } = this.takePart(isEntry ? end : close + 1);
+    const part = { code: code.slice(0, close + 1), index };
+    const ending = { code: "return", index: index + close };
+    return isEntry ? { ...part, condition: part.code.slice(head + 1, -1), then: [ending], otherwise: [], isEntry } : refusePart(part, OF_STORING);
   }
 
   /** Returns the passes of the loop here, each as a block, if it counts to a constant and nothing else changes its variable; null if it does not. */

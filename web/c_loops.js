@@ -6,6 +6,7 @@
 
 import { findClosing, parseConstant } from "./c_code.js";
 import { computeConstant } from "./c_constants.js";
+import { parseTry } from "./c_locks.js";
 import { parseFormula } from "./c_question.js";
 import { OF_LOOPS, parseCondition, removeOuterParentheses, splitOutside, splitTerms } from "./c_statements.js";
 import { hasName, OF_BRANCHES, OF_PLAIN_LOOPS, ThreadWriter } from "./c_thread.js";
@@ -85,6 +86,8 @@ export class LoopWriter extends ThreadWriter {
   writeWaiting(statement) {
     if (statement.body) return this.writeLoadingPass(statement);
     const code = this.squeeze(statement.condition);
+    const lock = parseTry(code);
+    if (lock) return this.writeTries(lock, statement);
     const swap = parseSwap(code);
     if (statement.isInnerFirst) this.checkInner(statement, swap, code);
     if (!swap && this.isOfWords(statement, code)) return this.writeLoadingPass({ ...statement, body: this.listAssigned(statement) });
@@ -94,6 +97,12 @@ export class LoopWriter extends ThreadWriter {
     if (statement.assigns && !place) this.refuseStatement(OF_LOOPS);
     if (!this.writeAddition(swap, place, value, statement.isLate)) this.writeSwaps(swap, place, value, statement);
     return Object.assign(this, { loaded, loadedBranches });
+  }
+
+  /** Writes the lock of a mutex in place of a loop that tries to lock it. Throws NoTest if it does more. */
+  writeTries({ name, isSuccess }, { assigns, inner, calls }) {
+    if (isSuccess || assigns || inner.length || calls.some((it) => this.isCalled(it))) this.refuseStatement(OF_LOOPS);
+    this.writeLock(name);
   }
 
   /** Returns whether a loop of loads compares words of the thread, or otherwise than by `==` and `!=`. */

@@ -6,29 +6,37 @@
 // this, unless it has only one `argument`. It `isJoining` if its handle joins it at the end of a block, or not.
 
 import { declareObjects } from "./c_classes.js";
-import { formatAssertion, formatFormula, parseFormula } from "./c_question.js";
+import { parseFormula } from "./c_question.js";
+import { parseRelation } from "./c_relations.js";
 import { declareVariables, defineName, findClosing, parseConstant, parseDeclaration, refusePart, replaceNames, squeezeCode } from "./c_code.js";
 import { foldConstants } from "./c_constants.js";
 import { MainReader, OF_RUNS } from "./c_main_reader.js";
 import { parseParameters } from "./c_parameters.js";
-import { OUTPUT, removeStrings, splitOutside } from "./c_statements.js";
+import { explainType } from "./c_reasons.js";
+import { isCondition, OUTPUT, removeStrings, splitOutside } from "./c_statements.js";
+import { explainWindows, parseHandles, parseWindowsStarts, parseWindowsWait } from "./c_windows.js";
 
 // A lambda up to its code: the groups are what it captures, its parameters, and its type.
 const LAMBDA = /(?<![\w\])])\[([^\][]*)\]\s*(?:\(([^(){};]*)\)\s*)?(?:mutable\b\s*)?(?:noexcept\b\s*)?(?:->\s*(\w{1,20})\b\s*)?\{/;
 // The patterns that follow are of squeezed code. What changes nothing that threads share, as output does, unless it has an effect.
 const HARMLESS = new RegExp(
-  "^(?:(?:(?:pthread_(?:mutex|spin)|mtx)_(?:init|destroy)|static_assert|\\w*sleep\\w*|this_thread::\\w+|exit|abort|pthread_exit)\\(|return\\b|" +
+  "^(?:(?:(?:pthread_(?:mutex|spin)|mtx)_(?:init|destroy)|(?:Initialize|Delete)(?:CriticalSection|SRWLock)|CloseHandle|_mm_pause|" +
+    "static_assert|\\w*sleep\\w*|this_thread::\\w+|exit|abort|pthread_exit)\\(|return\\b|" +
     "\\(void\\)\\w+$|\\w+\\.(?:reserve|request_stop)\\(|break$|$)",
 );
 // What counts runs: the groups are what it adds to.
 const COUNTED = /^(?:\+\+(\w+)|(\w+)(?:\+\+|\+=1))$/;
 const ENDING = /^(?:return\b|exit\(|abort\()/;
+const FAILURE = /^(?:abort\(|(?:_|quick_)?exit\((?!0\)|EXIT_SUCCESS)|__builtin_trap\()/;
+const LEAVING = /^(?:return\b|break$|(?:exit|abort|pthread_exit)\()/;
+// A variable with a value that may be asked: the groups are its type, its name, and its value.
+const NAMED_VALUE = /^(?:const )?(bool|int|auto) (\w+)=([^=].*)$/;
 const EFFECT = /(?<![=!<>])=(?!=)|\+\+|--|exchange|store|fetch_|lambda/;
 const JOIN = /^(?:(\w+(?:\[\d+\])?)\.join\(\)|(?:pthread|thrd)_join\((\w+(?:\[\d+\])?),[^,]*\))$/;
 // A call that starts or joins a thread, in a condition: the group is the call. And what its result is assigned to.
 const CHECKED = /^((?:pthread|thrd)_(?:create|join)\s*\([^()]*\))\s*(?:[!=<>]=?\s*\w+)?$/;
 const RESULT = /^(?:int )?\w+=(?=(?:pthread|thrd)_(?:create|join)\()/;
-const HANDLES = /^(?:pthread_t|thrd_t) \w/;
+const HANDLES = /^(?:pthread_t|thrd_t|HANDLE) \w+(?:\[\w+\])?(?:,\w+)*(?:=NULL)?$/;
 const CONTAINER = /^(?:vector<(j?)thread>|array<(j?)thread,\w+>) ?(\w+)(?:\(\w*\)|\{\})?$/;
 const THREADS = /^(j?)thread (.*)$/;
 const DECLARATOR = /^(\w+(?:\[\w*\])?)(?:=?(?:j?thread)?[({](.+)[)}])?$/;
@@ -60,7 +68,8 @@ const OF_UNJOINED = ": `main` joins all threads before";
 const OF_HANDLES = ": no thread that runs has this name";
 const OF_CAPTURES = ": a lambda has its variables by reference, as `[&]`";
 const OF_ASKED = ": `main` asks only once";
-const OF_FORMULAS = ": what `main` asks compares variables with constants by `==` or `!=`, joined by `&&` and `||`";
+const OF_FORMULAS = ": what `main` asks compares variables, constants and sums of them, joined by `&&` and `||`";
+const OF_LEFT = ": an assertion follows no `return` in a branch";
 const OF_NAMES = ": give it a name that no other variable has";
 const OF_UNREACHED = ": no run comes here after a `return`";
 const OF_CODE = ": a thread begins with a function or a lambda, and has an argument for each parameter";
@@ -81,11 +90,14 @@ class MainFollower {
     this.numbers = new Set();
     // Of handles and arrays of them, whether they join threads at the end of their block.
     this.containers = new Map();
+    // The handles of which there are arrays.
+    this.arrays = new Map();
     // The loop whose passes are runs, with the names of variables that it sets before its threads.
     this.repeated = null;
-    // What is asserted, whose parts are all of it, and the question.
-    this.asserted = [];
+    // Of the variables that `main` sets after the joins, their values. The question, and whether a `return` in a branch may leave out what follows.
+    this.values = new Map();
     this.question = null;
+    this.isLeft = false;
   }
 
   /** Follows statements. Throws NoTest at one that does more than what is rewritten, and at one that no run comes to. */
@@ -139,13 +151,32 @@ class MainFollower {
     for (const it of [...statement.then, ...statement.otherwise]) this.checkHarmless(it);
     const [, call] = CHECKED.exec(statement.condition.trim()) ?? [];
     if (call) this.followSimple({ code: call, index: statement.index + statement.code.indexOf(call) });
-    else this.ask(statement, (formula) => `exists (${formatFormula(formula)})`, joinConditions(statement));
+    else if (hasAssertion(statement) || statement.otherwise.some(isFailing)) this.followAssertions([statement], []);
+    else if (statement.otherwise.some((it) => it.then)) refusePart(statement.otherwise.find((it) => it.then), OF_ASKED);
+    else this.ask(statement, joinConditions(statement));
+  }
+
+  /** Asks what statements assert, unless one of some conditions holds: then no run comes to them. */
+  followAssertions(statements, conditions) {
+    for (const statement of statements) {
+      const { code, condition, block, then, otherwise } = statement;
+      if (block) this.followAssertions(block, conditions);
+      if (then) this.followAssertions(then, [...conditions, `!(${condition})`]);
+      if (otherwise) this.followAssertions(otherwise, [...conditions, `(${condition})`]);
+      if (block || then) continue;
+      const squeezed = squeezeCode(removeStrings(code));
+      const [, asserted] = ASSERTION.exec(squeezed) ?? [];
+      if (asserted) this.ask(statement, [...conditions, `(${asserted})`].join("||"), true);
+      else if (FAILURE.test(squeezed) && conditions.length) this.ask(statement, conditions.join("||"), true);
+      this.isLeft ||= LEAVING.test(squeezed);
+    }
   }
 
   /** Throws NoTest unless a statement, and all statements in it, change nothing that threads share. */
   checkHarmless(statement) {
     for (const it of statement.block ?? [...(statement.then ?? []), ...(statement.otherwise ?? [])]) this.checkHarmless(it);
-    if (!statement.block && !statement.then && !this.isHarmless(squeezeCode(removeStrings(statement.code)))) refusePart(statement, OF_AFTER);
+    const code = statement.block || statement.then ? "" : squeezeCode(removeStrings(statement.code));
+    if (!ASSERTION.test(code) && !this.isHarmless(code)) refusePart(statement, OF_AFTER);
   }
 
   /** Returns whether squeezed code without strings changes nothing that threads share. A function of the program may do so. */
@@ -163,22 +194,39 @@ class MainFollower {
     return [...this.functions.values()].some((it) => pattern.test(it.code.code));
   }
 
-  /** Sets the question to what `format` makes of a condition in a statement. Throws NoTest if threads run, or `main` has asked something else. */
-  ask(statement, format, condition, isAsserted = false) {
+  /** Sets the question to a condition in a statement, or adds it to what is asserted. Throws NoTest if threads run, or `main` asks something else. */
+  ask(statement, condition, isAsserted = false) {
     if (!this.threads.length) refusePart(statement, OF_BEFORE);
     if (this.running.size) refusePart(statement, OF_UNJOINED);
-    if (this.question && !(isAsserted && this.asserted.length)) refusePart(statement, OF_ASKED);
-    const formula = parseFormula(this.squeeze(condition)) ?? refusePart(statement, OF_FORMULAS);
-    if (isAsserted) this.asserted.push(formula);
-    const { index } = this.question?.source ?? statement;
+    if (this.isLeft) refusePart(statement, OF_LEFT);
+    if (this.question && !(isAsserted && this.question.isAsserted)) refusePart(statement, OF_ASKED);
+    const code = this.replaceValues(this.squeeze(condition));
+    const formula = parseFormula(code, parseRelation) ?? refusePart(statement, OF_FORMULAS);
+    const { formulas = [], source: { index } = statement } = this.question ?? {};
     const source = { code: this.program.text.slice(index, statement.index + statement.code.length), index };
-    this.question = { code: format(formula), index: statement.index, source };
+    this.question = { code: `${this.question?.code ?? ""} ${code}`, index: statement.index, source, formulas: [...formulas, formula], isAsserted };
+  }
+
+  /** Returns squeezed code with the values of variables in place of these. */
+  replaceValues(code) {
+    return code.replace(/(?<![\w.])[A-Za-z_]\w*/g, (name) => this.values.get(name) ?? name);
+  }
+
+  /** Gives a variable of `main` its value after the joins, in squeezed code. Returns whether the code does this. */
+  nameValue(code) {
+    const [, type, name, value] = NAMED_VALUE.exec(code) ?? [];
+    if (!name || this.running.size || !this.threads.length || this.program.globals.has(name) || this.values.has(name)) return false;
+    const replaced = this.replaceValues(value);
+    if (EFFECT.test(value) || parseFormula(replaced, parseRelation) === null) return false;
+    this.values.set(name, type === "bool" && !isCondition(replaced) ? `((${replaced})!=0)` : `(${replaced})`);
+    return true;
   }
 
   /** Follows a statement that has no statements in it, except in lambdas. */
   followSimple(statement) {
     const code = this.squeeze(this.takeLambdas({ code: removeStrings(statement.code), index: statement.index }));
     if (ENDING.test(code) && [...this.running.values()].includes(false)) refusePart(statement, OF_RUNNING);
+    if (FAILURE.test(code) && this.question) refusePart(statement, OF_ASKED);
     if (this.isHarmless(code)) return;
     this.followCode(code.replace(RESULT, ""), statement);
   }
@@ -189,13 +237,18 @@ class MainFollower {
     const [, lambdaName, lambda] = NAMED_LAMBDA.exec(code) ?? [];
     const [, handle, other] = JOIN.exec(code) ?? [];
     const [, condition] = ASSERTION.exec(code) ?? [];
-    if (starts) starts.forEach((it) => this.startThread(it, statement));
+    const [awaited, array] = [parseWindowsWait(code), parseHandles(code)];
+    if (array && array.handles.every((it) => this.running.has(it))) this.arrays.set(array.name, array.handles);
+    else if (awaited) this.awaitHandles(awaited, statement);
+    else if (starts) starts.forEach((it) => this.startThread(it, statement));
     else if (lambda) this.nameLambda(lambdaName, this.functions.get(lambda));
     else if (handle ?? other) this.joinThread(handle ?? other, statement);
-    else if (condition) this.ask(statement, () => formatAssertion(this.asserted), condition, true);
+    else if (condition) this.ask(statement, condition, true);
+    else if (this.nameValue(code)) return;
+    else if (explainWindows(code)) refusePart(statement, explainWindows(code));
     else if (!this.threads.length && this.followCall(code)) return;
     else if (!this.threads.length || this.isUnread(code)) this.setWords(code, statement);
-    else refusePart(statement, this.running.size ? OF_RUNNING : OF_AFTER);
+    else refusePart(statement, explainType(code) ?? (this.running.size ? OF_RUNNING : OF_AFTER));
   }
 
   /** Follows the statements of a function that squeezed code calls without arguments, before threads run. Returns whether it is such a call. */
@@ -270,6 +323,8 @@ class MainFollower {
     const [, appended, first] = APPENDED.exec(code) ?? [];
     if (appended) return [makeStart(`${appended}[${this.threads.length}]`, this.containers.get(appended), MADE.exec(first)?.[1] ?? first)];
     const [, words] = CREATED.exec(code) ?? [];
+    const ofWindows = parseWindowsStarts(code);
+    if (ofWindows) return ofWindows.map(({ handle, started, argument }) => makeStart(handle, false, started, argument));
     const [created, ...others] = splitOutside(words ?? "", ",");
     return others.length > 1 ? [makeStart(created.replace(/^&/, "").replace(/^(\w+)\+(\d+)$/, "$1[$2]"), false, others.at(-2), others.at(-1))] : null;
   }
@@ -308,6 +363,15 @@ class MainFollower {
     this.hasJoined = true;
   }
 
+  /** Joins the threads of a handle, of handles in an array, or of an array, for which `main` waits. */
+  awaitHandles({ handle, joined, count }, statement) {
+    const handles = this.arrays.get(joined);
+    const number = parseConstant(count ?? "");
+    if (!handle && (number === null || number !== (handles?.length ?? number))) refusePart(statement, OF_HANDLES);
+    if (handles ?? handle) for (const it of handles ?? [handle]) this.joinThread(it, statement);
+    else this.joinAll({ ...statement, joined, count: number });
+  }
+
   /** Joins the threads of an array, or the first ones of it. */
   joinAll(statement) {
     const { joined, count } = statement;
@@ -333,12 +397,25 @@ class MainFollower {
       declareVariables(this.program, globals, statement.code, statement, OF_BEFORE);
       return;
     }
-    const [, name, value] = ASSIGNMENT.exec(code) ?? INITIAL_STORE.exec(code) ?? refusePart(statement, OF_BEFORE);
+    const [, name, value] = ASSIGNMENT.exec(code) ?? INITIAL_STORE.exec(code) ?? refusePart(statement, explainType(code) ?? OF_BEFORE);
     const word = parseConstant(value);
+    if (!globals.has(name) && explainType(code)) refusePart(statement, explainType(code));
     if (!globals.has(name) || word === null || word >= globals.get(name).limit) refusePart(statement, OF_BEFORE);
     words.set(name, word);
     this.repeated?.names.add(name);
   }
+}
+
+/** Returns whether a statement asserts something, or one in it does. */
+function hasAssertion({ code, block, then, otherwise }) {
+  const inner = block ?? (then && [...then, ...otherwise]);
+  return inner ? inner.some(hasAssertion) : ASSERTION.test(squeezeCode(removeStrings(code)));
+}
+
+/** Returns whether a statement, or one in it, ends the program since something is wrong. */
+function isFailing({ code, block, then, otherwise }) {
+  const inner = block ?? (then && [...then, ...otherwise]);
+  return inner ? inner.some(isFailing) : FAILURE.test(squeezeCode(removeStrings(code)));
 }
 
 /** Returns the condition of an `if`, with that of an `if` that is all of its branch. */

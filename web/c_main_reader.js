@@ -18,10 +18,16 @@ const COUNTING = /^for\((?:int|size_t|unsigned|long|auto) (\w+)=0;\1(?:<|!=)(\w+
 // The head of a loop whose passes are runs.
 const REPEATING = /^(?:for\((?:\w+ )+(\w+)=\d+;(?:\1(?:<=?|!=)[\w']+)?;(?:\1\+\+|\+\+\1|\1\+=1)\)|while\((?:1|true)\)|for\(;;\))$/;
 const SETTING = /\[\s*\w+\s*\]\s*=/;
-const STARTING = /\bthread\b|_create\b|_back\b/;
-const JOINING = /\.\s{0,9}join\b|_join\b|\bjthread\b/;
+const SETTING_WORD = /^\{?\s*\w+\s*(?:=(?!=)|\.\s*store\b)/;
+const STARTING = /\bthread\b|_create\b|_back\b|\bCreateThread\b|\b_beginthreadex\b/;
+const JOINING = /\.\s{0,9}join\b|_join\b|\bjthread\b|\bWaitFor\w/;
+// The body of a loop that only closes handles.
+const CLOSING = /^\{?CloseHandle\(\w+\[\w+\]\);\}?$/;
 /** Why a loop is refused, as the end of a sentence. */
 export const OF_RUNS = ": one run is enough, since the page lists all final states";
+const OF_WORDS = ": set the words of an array by their indices, as `for (int i = 0; i < 2; i++) flag[i] = 0;`";
+// The head of a loop over all words of an array.
+const OF_ARRAY = /^for\s*\([^;:]*[^:]:(?!:)[^;]*\)/;
 
 /** Reads the statements of `main`. */
 export class MainReader extends StatementReader {
@@ -48,8 +54,9 @@ export class MainReader extends StatementReader {
     const code = { code: rest.slice(body, end), index: head.index + body };
     this.takePart(end);
     if (found) return { ...head, joined: range ?? called ?? other, count: parseConstant(count ?? "") };
+    if (CLOSING.test(squeezeCode(code.code))) return { ...head, block: [] };
     const isStarting = STARTING.test(code.code);
-    if (!isStarting && !(index && SETTING.test(code.code))) refusePart(head, OF_RUNS);
+    if (!isStarting && !(index && SETTING.test(code.code))) refusePart(head, OF_ARRAY.test(head.code) && SETTING_WORD.test(code.code) ? OF_WORDS : OF_RUNS);
     if (index && !JOINING.test(code.code)) return { ...head, repeat: (count) => repeatCode(code, index, count), times, isStarting };
     if (!REPEATING.test(squeezeCode(head.code)) || !JOINING.test(code.code)) refusePart(head, OF_RUNS);
     return { ...head, block: new MainReader(code).readAll(), isRepeated: true };

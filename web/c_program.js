@@ -6,11 +6,21 @@
 import { alignCells } from "./aligned.js";
 import { CallWriter } from "./c_calls.js";
 import { parseConstant, refusePart } from "./c_code.js";
-import { areEntering, formatList, guessQuestion } from "./c_guess.js";
+import { areEntering, findEntry, formatList, guessQuestion } from "./c_guess.js";
 import { linkThreads } from "./c_links.js";
+import { addUsers, refuseUsers } from "./c_lone_lock.js";
+import { blankDelays } from "./c_delays.js";
+import { OF_STORING } from "./c_loop_reader.js";
 import { startThreads } from "./c_main.js";
-import { formatAssertion, limitQuestion } from "./c_question.js";
+import { separateMainPart } from "./c_main_part.js";
+import { OF_RUNS } from "./c_main_reader.js";
+import { addEnds, addPhrase, formatAssertion, formatFormula, limitQuestion, readProposition } from "./c_question.js";
+import { rewritePointers } from "./c_pointers.js";
 import { checkThreads, readProgram } from "./c_reader.js";
+import { expandRelations, mapSites } from "./c_relations.js";
+import { rewriteRounds } from "./c_rounds.js";
+import { BITS, OF_BITS } from "./c_statements.js";
+import { rewriteTemplates } from "./c_templates.js";
 import { RESULT } from "./c_thread.js";
 import { findAllWords } from "./c_words.js";
 import { readTest } from "./tests.js";
@@ -26,8 +36,8 @@ const OF_OTHERS = ": another thread may still wait then, in a loop or for a lock
 const OF_QUESTION = ": a question is `exists (..)`, `~exists (..)` or `forall (..)`";
 const OF_WIDE = ": the page takes words of 64 bits as words of 32, which sums or constants of this program may exceed";
 // A type of 64 bits, which is the group, and one of 32 without a sign.
-const WIDE_TYPE = /\b((?:atomic_)?(?:u?l?long|s?size_t|u?int(?:64|ptr)_t))\b/;
-const UNSIGNED = /\bunsigned\b(?!\s+(?:long|char|short))|\b(?:atomic_)?uint(?:32_t)?\b/;
+const WIDE_TYPE = /\b((?:atomic_)?(?:u?l?long|s?size_t|u?int(?:64|ptr)_t)|LONG64|LONGLONG|INT64|\w+_PTR|SIZE_T)\b/;
+const UNSIGNED = /\bunsigned\b(?!\s+(?:long|char|short))|\b(?:atomic_)?uint(?:32_t)?\b|\b(?:DWORD|UINT|ULONG)/;
 const OF_SWAPS = ": a compare-exchange is rewritten if its variable is only ever set to the two constants that it names";
 const OF_PAIRS = ": a loop that exchanges needs a variable that is only set to the constant that it writes, and to the one at which it ends";
 // A name in a question: the groups are the number of a thread before it, and the name. And those that are words of the question itself.
@@ -48,7 +58,7 @@ function listRaces(accesses) {
 function checkPairs({ words }, writers, accesses) {
   for (const { statement, name, words: pair, isSingle } of writers.flatMap((it) => it.pairs)) {
     const written = accesses.filter((it) => it.isWrite && it.name === name).map((it) => it.word);
-    if ([words.get(name), ...written].some((it) => !pair.includes(it))) refusePart(statement, isSingle ? OF_SWAPS : OF_PAIRS);
+    if ([words.get(name), ...written].some((it) => !pair.includes(it))) refusePart(statement, BITS.test(statement.code) ? OF_BITS : isSingle ? OF_SWAPS : OF_PAIRS);
   }
 }
 
@@ -91,14 +101,13 @@ function locateName({ code, index }, name) {
 }
 
 /**
- * Returns a question with its connectives and registers as lw writes them, and adds its locations to the names in `used`. Throws NoTest if it names a
- * variable that neither has a register nor is shared.
+ * Returns a function of the name of a variable in the question, the number of its thread, if it is said, and its index in the code of the question,
+ * that returns its site, and adds it to the names in `used` if it is a location. It throws NoTest if the variable has no register and is not shared.
  */
-function translateQuestion({ words, question: { code, index, source } }, writers, used) {
+function makeSiteFinder({ words, question: { code, index, source } }, writers, used) {
   const begin = index + code.search(/\S|$/);
   const findPart = (site, offset) => (source ? locateName(source, site) : { code: site, index: begin + offset });
-  const translateSite = (site, number, variable, offset) => {
-    if (WORD_OF_QUESTION.test(site)) return site;
+  return (site, number, variable, offset) => {
     const writer = number ? writers[number] : writers.find((it) => it.own.some(({ name }) => name === variable));
     if (writer?.known.has(variable)) return writer.makeSite(variable);
     const why = !writer?.registers.includes(variable) ? OF_NOTHING : variable === RESULT ? OF_RESULT : OF_PATHS;
@@ -106,23 +115,51 @@ function translateQuestion({ words, question: { code, index, source } }, writers
     used.add(site);
     return site;
   };
-  const named = code.trim().replace(NAME, translateSite).replace(/&&/g, "/\\").replace(/\|\|/g, "\\/").replace(/==/g, "=");
-  return named.replace(/= ?(-\d{1,10})\b/g, (whole, constant) => `=${parseConstant(constant) ?? constant}`);
 }
 
 /**
- * Returns the question of what threads assert, or "" if they assert nothing. Throws NoTest if the program asks besides, or if a loop waits that need not
- * end before an assertion.
+ * Returns a question with its connectives and registers as lw writes them, and adds its locations to the names in `used`. Throws NoTest if it names a
+ * variable that neither has a register nor is shared.
  */
-function askAssertions({ question }, writers) {
+function translateQuestion(program, writers, used) {
+  const findSite = makeSiteFinder(program, writers, used);
+  const { formulas, code, isAsserted } = program.question;
+  if (formulas) {
+    const expanded = listAsked(program, writers, used);
+    return isAsserted ? formatAssertion(expanded) : `exists (${formatFormula(expanded[0])})`;
+  }
+  const named = code.trim().replace(NAME, (site, ...groups) => (WORD_OF_QUESTION.test(site) ? site : findSite(site, ...groups)));
+  const question = named.replace(/&&/g, "/\\").replace(/\|\|/g, "\\/").replace(/==/g, "=");
+  return question.replace(/= ?(-\d{1,10})\b/g, (whole, constant) => `=${parseConstant(constant) ?? constant}`);
+}
+
+/** Returns the formulas that `main` asserts or asks, of sites. Throws NoTest if they have a relation that is no formula of words. */
+function listAsked(program, writers, used) {
+  const { text, words, question: { formulas, isAsserted, source } } = program;
+  const findSite = makeSiteFinder(program, writers, used);
+  const findWords = findAllWords(writers, words);
+  const expand = (formula) => expandRelations(formula, findWords, text, isAsserted, (why) => refusePart(source, why));
+  return formulas.map((it) => expand(mapSites(it, (name) => findSite(name, undefined, name))));
+}
+
+/**
+ * Returns the question of what threads assert, with what `main` asserts, or "" if threads assert nothing. Throws NoTest if the program asks besides,
+ * or if a loop waits that need not end before an assertion.
+ */
+function askAssertions(program, writers, used) {
+  const { text, words, question } = program;
   const asserting = writers.filter((it) => it.assertion);
   for (const writer of asserting) {
-    if (question.code) refusePart(writer.assertion, OF_ASKED);
+    if (question.code && !question.isAsserted) refusePart(writer.assertion, OF_ASKED);
     const others = writers.filter((it) => it !== writer && it.waits.length);
     if (others.length) refusePart(writer.assertion, OF_OTHERS);
     if (writer.waitCount < writer.waits.length) refusePart(writer.assertion, OF_ENDLESS);
   }
-  return asserting.length ? formatAssertion(asserting.flatMap((it) => it.asserted)) : "";
+  if (!asserting.length) return "";
+  const findWords = findAllWords(writers, words);
+  const expand = (writer, formula) => expandRelations(formula, findWords, text, true, (why) => refusePart(writer.assertion, why));
+  const ofMain = question.isAsserted ? listAsked(program, writers, used) : [];
+  return formatAssertion([...asserting.flatMap((writer) => writer.asserted.map((it) => expand(writer, it))), ...ofMain]);
 }
 
 /** Returns the header of threads, and their instructions in rows. */
@@ -132,14 +169,26 @@ function formatRows(writers) {
   return Array.from({ length: count }, (_, row) => ` ${columns.map((it) => it[row] ?? "").join(" | ")} ;\n`).join("");
 }
 
+/** Returns the writer of a thread, in which the conditions around assertions have registers, as those at some indices have. */
+function writeAsserting(program, number, kept = []) {
+  const writer = new CallWriter(program, number, kept);
+  try {
+    return writer.writeThread();
+  } catch (error) {
+    const others = writer.unkept.filter((it) => !kept.includes(it));
+    if (!others.length) throw error;
+    return writeAsserting(program, number, [...kept, ...others]);
+  }
+}
+
 /**
  * Returns the writer of a thread, in which the conditions that a guessed question asks of have registers, if there are enough: that of its only branch if
  * all threads are entering one, and those before its last load.
  */
 function writeThread(program, number, isEntering = false) {
-  const writer = new CallWriter(program, number).writeThread();
-  const branches = isEntering ? writer.entered[0] : writer.loadedBranches;
-  if (program.question.code || !branches.length) return writer;
+  const writer = writeAsserting(program, number);
+  const branches = (isEntering && findEntry(writer)) || writer.loadedBranches;
+  if (program.question.code || writer.assertion || !branches.length) return writer;
   try {
     return new CallWriter(program, number, branches.map((it) => it.index)).writeThread();
   } catch {
@@ -166,8 +215,22 @@ function writeThreads(program) {
   }
 }
 
-/** Returns the record of `rewriteProgram` of a text. Throws NoTest if it is not rewritten. */
-function writeTest(text) {
+/**
+ * Returns the question of a test, whether it is a guess, and whether it is `true` (`isOpen`); and phrases (`said`), each with the proposition that has
+ * their meaning. It asks only of the states in which all waits have ended (`ends`). The question of the program may have a `meaning` in words.
+ */
+function makeQuestion(program, writers, used, ends, meaning) {
+  const asked = askAssertions(program, writers, used) || translateQuestion(program, writers, used);
+  const { question: whole, phrases } = asked ? { question: asked, phrases: [] } : guessQuestion(program, writers, writers.flatMap((it) => it.accesses));
+  const said = phrases.map(({ words, formula }) => ({ words, proposition: formatFormula(formula) }));
+  if (asked && meaning) said.push({ words: meaning, proposition: readProposition(asked) });
+  const isOpen = !asked && whole.endsWith("(true)");
+  const question = ends.length && !isOpen ? limitQuestion(whole, ends) ?? refusePart(program.question, OF_QUESTION) : whole;
+  return { question, isGuess: !asked, isOpen, said };
+}
+
+/** Returns the record of `rewriteProgram` of a text, whose question may have a `meaning` in words. Throws NoTest if it is not rewritten. */
+function writeTest(text, meaning) {
   const program = linkThreads(startThreads(readProgram(text)));
   checkThreads(program);
   const writers = writeThreads(program);
@@ -177,23 +240,27 @@ function writeTest(text) {
   }
   const accesses = writers.flatMap((it) => it.accesses);
   const used = new Set(accesses.map((it) => it.name));
-  const asked = askAssertions(program, writers) || translateQuestion(program, writers, used);
+  const ends = writers.flatMap((it) => it.waits);
+  const { question, isGuess, isOpen, said } = makeQuestion(program, writers, used, ends, meaning);
+  const [entry] = writers.flatMap((it) => it.entries);
+  // Its other passes are left out, so that only the guessed question of a defect can be asked.
+  if (entry && (!isGuess || !said.length || program.repeated || ends.length)) refusePart(entry, OF_STORING);
   const sites = writers.flatMap((writer) => writer.registers.map((variable) => ({ site: writer.makeSite(variable), variable })));
   const comment = sites.length ? `(* ${sites.map(({ site, variable }) => `${site} is ${variable}`).join(", ")} *)\n` : "";
   const block = [...program.words].filter(([name]) => used.has(name)).map(([name, word]) => `${name}=${word}; `).join("");
   checkPairs(program, writers, accesses);
   checkRepeated(program, writers, accesses);
-  const ends = writers.flatMap((it) => it.waits);
-  const whole = asked || guessQuestion(program, writers, accesses);
-  const isOpen = !asked && whole.endsWith("(true)");
-  const question = ends.length && !isOpen ? limitQuestion(whole, ends) ?? refusePart(program.question, OF_QUESTION) : whole;
-  const list = formatList(question, !asked, accesses, sites.map((it) => it.site));
-  const made = alignCells(`X86 ${program.name}\n${comment}{ ${block}}\n${formatRows(writers)}${list}${question}\n`);
+  const list = formatList(question, isGuess, accesses, sites.map((it) => it.site));
+  const bare = alignCells(`X86 ${program.name}\n${comment}{ ${block}}\n${formatRows(writers)}${list}${question}\n`);
+  const made = said.reduce((text, { words, proposition }) => addPhrase(text, words, proposition), addEnds(bare, ends));
   const isWide = checkWide(program, writers, used);
   const isWaiting = writers.some((it) => it.isWaiting);
   const isSwapping = writers.some((it) => it.pairs.some(({ isSingle }) => isSingle));
-  const isLocking = accesses.some((it) => it.isMutex && !it.isSpin);
-  return { program, made, isGuess: !asked, isOpen, races: listRaces(accesses), isWaiting, isSwapping, isLocking, isWide, isRepeated: Boolean(program.repeated) };
+  const locks = accesses.filter((it) => it.isMutex && !it.isSpin && it.word === 1);
+  const [isLocking, isTrying] = [locks.some((it) => !it.isTried), locks.length > 0 && locks.every((it) => it.isTried)];
+  const isRepeated = Boolean(program.repeated);
+  const isEnding = entry !== undefined;
+  return { program, made, isGuess, isOpen, races: listRaces(accesses), isWaiting, isSwapping, isLocking, isTrying, isWide, isRepeated, isEnding };
 }
 
 /** Throws why lw refuses a test: if that is its question, NoTest at the question of the program. */
@@ -219,16 +286,94 @@ function isRead(text) {
 /**
  * Returns the x86 test of a program in C or C++, or of a test of herd in C, and whether its question is a guess, since the program asks nothing, or is
  * `true`, since there is none to guess (`isOpen`); the names of plain variables on which threads race; whether one pass is in place of a loop that
- * waits; whether an exchange is in place of a compare-exchange (`isSwapping`); whether a location is in place of a mutex; whether words of 32 bits are
- * in place of those of 64; and whether a run is in place of a loop of them. Or returns why it is not rewritten: a part of it, with its index, and the
- * end of a sentence; or without an index why lw refuses the test.
+ * waits; whether an exchange is in place of a compare-exchange (`isSwapping`); whether a location is in place of a mutex (`isLocking`), or of some
+ * that are only tried (`isTrying`); whether words of 32 bits are in place of those of 64; whether a run is in place of a loop of them; whether delays are
+ * left out (`isDelayed`); whether a thread ends at a loop that stores (`isEnding`); the name of a variable in place of a member of an object (`pointed`), if
+ * there are some; and a sentence on threads that are added (`users`). Or returns why it is not rewritten: a part of it, with its index, and the end of a
+ * sentence; or without an index why lw refuses the test.
  * @param {string} text
+ * @param {string} [meaning] What the question of the program means, in words.
  * @returns {{made?: string, isGuess?: boolean, isOpen?: boolean, races?: string[], isWaiting?: boolean, isSwapping?: boolean, isLocking?: boolean,
- *   isWide?: boolean, isRepeated?: boolean, why?: string, index?: number}}
+ *   isTrying?: boolean, isWide?: boolean, isRepeated?: boolean, isDelayed?: boolean, isEnding?: boolean, pointed?: string, users?: string,
+ *   why?: string, index?: number}}
  */
-export function rewriteProgram(text) {
+export function rewriteProgram(text, meaning = "") {
   try {
-    const { program, ...test } = writeTest(text);
+    const without = rewriteTemplates(text);
+    if (!without) return rewriteUndelayed(text, meaning);
+    const { index, ...test } = rewriteUndelayed(without.text, meaning);
+    return { ...test, index: index === undefined ? undefined : without.findIndex(index) };
+  } catch ({ message, index }) {
+    return { why: message, index };
+  }
+}
+
+/** Returns what `rewriteProgram` does of a program without templates. */
+function rewriteUndelayed(text, meaning) {
+  const test = rewriteWhole(text, meaning);
+  const without = test.made ? null : blankDelays(text);
+  const other = without && rewriteWhole(without.text, meaning);
+  return other ? { ...other, isDelayed: without.isDelayed } : test;
+}
+
+/** Returns what `rewriteProgram` does of a program without delays. */
+function rewriteWhole(text, meaning) {
+  const used = rewriteUsed(text, meaning);
+  if (used) return used;
+  const test = tryProgram(text, meaning);
+  return test.made ? test : rewriteRound(text, meaning) ?? rewriteMainPart(text, meaning, test) ?? rewritePointing(text, meaning) ?? test;
+}
+
+/** Returns what `rewriteProgram` does of a program to which threads are added, with a sentence on them (`users`); null of another program. */
+function rewriteUsed(text, meaning) {
+  try {
+    const added = addUsers(text);
+    if (!added) return null;
+    const test = tryProgram(added.text, meaning);
+    if (test.made) return { ...test, users: added.users };
+    return test.index < text.length || test.index === undefined ? test : refuseUsers(added.part);
+  } catch ({ message, index }) {
+    return { why: message, index };
+  }
+}
+
+/** Returns what `rewriteProgram` does of a program of rounds; null of another program. */
+function rewriteRound(text, meaning) {
+  const round = rewriteRounds(text);
+  if (!round) return null;
+  const { index, why, ...test } = tryProgram(round.text, meaning);
+  // The loop that `main` has then is not in the program.
+  return { ...test, why: why?.replace(/^`for [^`]*`/, "`main`"), index: index === undefined ? undefined : Math.min(index, round.main) };
+}
+
+/**
+ * Returns what `rewriteProgram` does of a program whose `main` does something while its threads run; null if that is not so, or if something else than a loop
+ * is refused of it, unless a loop of `main` is what is `refused` of the whole.
+ */
+function rewriteMainPart(text, meaning, refused) {
+  const separated = separateMainPart(text);
+  const test = separated && tryProgram(separated.text, meaning);
+  if (!test || test.made) return test;
+  const isOfLoop = /^`(?:while|for|do)\b/.test(test.why) || refused.why.endsWith(OF_RUNS);
+  return isOfLoop && test.index !== undefined ? { ...test, index: separated.findIndex(test.index) } : null;
+}
+
+/** Returns what `rewriteProgram` does of a program that makes objects, with the name of a variable in place of a member (`pointed`); null of another one. */
+function rewritePointing(text, meaning) {
+  try {
+    const without = rewritePointers(text);
+    if (!without) return null;
+    const { index, ...test } = tryProgram(without.text, meaning);
+    return { ...test, index: index === undefined ? undefined : without.findIndex(index), pointed: without.variable };
+  } catch ({ message, index }) {
+    return { why: message, index };
+  }
+}
+
+/** Returns what `rewriteProgram` does of a program that makes no objects. */
+function tryProgram(text, meaning) {
+  try {
+    const { program, ...test } = writeTest(text, meaning);
     checkTest(test.made, program);
     return test;
   } catch ({ message, index }) {

@@ -1,10 +1,13 @@
 // Reads what a program in C or C++ asserts, and writes questions of lw. Not proved.
 //
 // A `Formula` is an atom, or has a `sign`, `/\` or `\/`, and the `parts` that it joins. An atom has the `name` of a variable, and a `word`; `isEqual`
-// says whether the variable is to be this word, or another one. If it is read from a condition, its `code` is its variable, or a load of it.
+// says whether the variable is to be this word, or another one. If it is read from a condition, its `code` is its variable, or a load of it. In place
+// of an atom may be a `Relation` of c_relations.js.
 
 import { parseConstant } from "./c_code.js";
 import { removeOuterParentheses, splitOutside } from "./c_statements.js";
+import { WAITS_END } from "./phrases.js";
+import { blankComments } from "./tokens.js";
 
 // A variable that a condition compares, in squeezed code, or a load of one: the groups are its name.
 const SITE = /^(?:(\w+)|atomic_load(?:_explicit|_relaxed|_acquire)?\(&(\w+),?(?:memory_order_\w+)?\))$/;
@@ -12,32 +15,37 @@ const SIGNS = [["||", "\\/"], ["&&", "/\\"]];
 const OPPOSITE = { "\\/": "/\\", "/\\": "\\/" };
 // A question: the groups are the list before it, its quantifier, and its proposition.
 const QUESTION = /^((?:locations\s*\[[^\]]*\]\s*)?)(~\s*exists|exists|forall)\b\s*([^]*)$/;
+/** What is never true, in squeezed code. */
+export const FALSE = /^(\(*)(?:0|false|!"[^"]*")(\)*)$/;
 // A formula is no longer.
 const LONGEST = 2000;
 
 /**
- * Returns the formula of a condition, or null if it has more than variables, constants, `==`, `!=`, `!`, `&&` and `||`.
+ * Returns the formula of a condition, or null if it has more than variables, constants, `==`, `!=`, `!`, `&&` and `||`, and a function returns null
+ * for what else is between `&&` and `||`.
  * @param {string} code squeezed
+ * @param {function(string): Formula | null} [parseOther]
  * @returns {Formula | null}
  */
-export function parseFormula(code) {
+export function parseFormula(code, parseOther = () => null) {
   if (code.length > LONGEST) return null;
   const inner = removeOuterParentheses(code);
   for (const [mark, sign] of SIGNS) {
     const codes = splitOutside(inner, mark);
     if (codes.length === 1) continue;
-    // A string says what is asserted.
-    const parts = codes.filter((it) => mark === "||" || !/^"[^"]*"$/.test(it)).map(parseFormula);
+    // A string says what is asserted, and what is false adds nothing.
+    const idle = mark === "||" ? FALSE : /^"[^"]*"$/;
+    const parts = codes.filter((it) => !idle.test(it)).map((it) => parseFormula(it, parseOther));
     if (parts.length === 1) return parts[0];
     return !parts.length || parts.includes(null) ? null : { sign, parts };
   }
-  return /^!(?!=)/.test(inner) ? parseNegation(inner.slice(1)) : parseAtom(inner);
+  return (/^!(?!=)/.test(inner) ? parseNegation(inner.slice(1), parseOther) : parseAtom(inner)) ?? parseOther(inner);
 }
 
 /** Returns the formula of what follows a `!`: code in parentheses, or a variable. */
-function parseNegation(code) {
+function parseNegation(code, parseOther) {
   const isWhole = code !== removeOuterParentheses(code) || SITE.test(code) || /^!(?!=)/.test(code);
-  const formula = isWhole ? parseFormula(code) : null;
+  const formula = isWhole ? parseFormula(code, parseOther) : null;
   return formula && negateFormula(formula);
 }
 
@@ -72,6 +80,11 @@ export function mapAtoms(formula, change) {
   return formula.sign ? { ...formula, parts: formula.parts.map((it) => mapAtoms(it, change)) } : change(formula);
 }
 
+/** Returns the parts of a formula with a sign, in which are those of its parts that have the same sign. */
+function flattenParts(parts, sign) {
+  return parts.flatMap((it) => (it.sign === sign ? flattenParts(it.parts, sign) : [it]));
+}
+
 /**
  * Returns a formula as lw writes it.
  * @param {Formula} formula
@@ -80,12 +93,17 @@ export function mapAtoms(formula, change) {
 export function formatFormula({ sign, parts, name, word, isEqual }) {
   if (!sign) return `${isEqual ? "" : "~"}${name}=${word}`;
   const needsParentheses = (it) => sign === "/\\" && it.sign === "\\/";
-  return parts.map((it) => (needsParentheses(it) ? `(${formatFormula(it)})` : formatFormula(it))).join(` ${sign} `);
+  const codes = flattenParts(parts, sign).map((it) => (needsParentheses(it) ? `(${formatFormula(it)})` : formatFormula(it)));
+  return [...new Set(codes)].join(` ${sign} `);
 }
 
-/** Returns whether all atoms of a formula are of other words. */
-function isAllUnequal({ parts, isEqual }) {
-  return parts ? parts.every(isAllUnequal) : !isEqual;
+/**
+ * Returns whether all atoms of a formula, except relations, are of other words.
+ * @param {Formula} formula
+ * @returns {boolean}
+ */
+export function isAllUnequal({ parts, operands, isEqual }) {
+  return parts ? parts.every(isAllUnequal) : operands !== undefined || !isEqual;
 }
 
 /**
@@ -115,11 +133,42 @@ function isBalanced(code) {
  * @returns {string | null}
  */
 export function limitQuestion(question, formulas) {
-  const [, list, quantifier, code] = QUESTION.exec(question) ?? [];
-  const proposition = removeOuterParentheses((code ?? "").trim());
+  const [, list, quantifier] = QUESTION.exec(question) ?? [];
+  const proposition = readProposition(question);
   if (!proposition || !isBalanced(proposition)) return null;
   const all = { sign: "/\\", parts: formulas };
   if (quantifier === "forall") return `${list}forall (${formatFormula(negateFormula(all))} \\/ ${proposition})`;
   const others = proposition === "true" ? [] : [proposition.includes("\\/") ? `(${proposition})` : proposition];
   return `${list}${quantifier} (${[formatFormula(all), ...others].join(" /\\ ")})`;
+}
+
+/**
+ * Returns a test with a comment before its initial values that says in words what a proposition means, as phrases.js reads it.
+ * @param {string} text
+ * @param {string} words
+ * @param {string} proposition
+ * @returns {string}
+ */
+export function addPhrase(text, words, proposition) {
+  const begin = blankComments(text).indexOf("{");
+  return `${text.slice(0, begin)}(* ${words}: ${proposition} *)\n${text.slice(begin)}`;
+}
+
+/**
+ * Returns a test with the phrase that says that all loops which wait have ended, given the formulas of this; the test itself if there are none.
+ * @param {string} text
+ * @param {Formula[]} ends
+ * @returns {string}
+ */
+export function addEnds(text, ends) {
+  return ends.length ? addPhrase(text, WAITS_END, formatFormula({ sign: "/\\", parts: ends })) : text;
+}
+
+/**
+ * Returns the proposition of a question without the parentheses around it; "" if it is no question.
+ * @param {string} question
+ * @returns {string}
+ */
+export function readProposition(question) {
+  return removeOuterParentheses((QUESTION.exec(question)?.[3] ?? "").trim());
 }

@@ -13,8 +13,9 @@
 // their codes: of those of its object, whose name is its `objectName`, if it is a method, or of numbers, if it is a lambda. It `isMacro`, or not.
 // A member of a structure is a variable, and the name of its object is in its own, as `s_x` for `s.x`.
 // A `Declaration` has the `name` of a variable, and the code of its initial `value`, if it has one. It `isPointer`, or not. Its words are below its
-// `limit`, which is 2 for a `bool`. It `isWide` if it has 64 bits, or not. It has the name of its `object`, if it is a member of one, which `isOfClass` if
-// this has methods. The `element` is the code of a word of an array, as `a[0]`. The `order` is
+// `limit`, which is 2 for a `bool`. A mutex `isRecursive`
+// if a thread may lock it again, or not. It `isWide` if it has 64 bits, or not. It has the name of its `object`, if it is a member of one, which
+// `isOfClass` if this has methods. The `element` is the code of a word of an array, as `a[0]`. The `order` is
 // that of the operators on it: seq_cst if it is atomic, relaxed if it is volatile, mutex if it is one, and otherwise plain.
 
 import { addObject, declareObjects, OF_OVERLOADS, readClass } from "./c_classes.js";
@@ -33,6 +34,9 @@ import {
   splitCode,
   squeezeCode,
 } from "./c_code.js";
+import { blankUncompiled, OF_DIRECTIVES } from "./c_directives.js";
+import { explainType } from "./c_reasons.js";
+import { isOfWindows, listWindowsNames } from "./c_windows.js";
 import { WORD } from "./token_reader.js";
 import { blankComments } from "./tokens.js";
 
@@ -51,11 +55,13 @@ const MARK_IN_LETTER = /[(){};,"/]/g;
 // What a program may have that does not matter here.
 const HEADERS = /^[ \t]*#[ \t]*(?:include|pragma)\b.*/gm;
 const WITHOUT_EFFECT = /\busing\s[\w:\s]{0,80};|\balignas\s{0,9}\([\s\w:]{0,80}\)|\[\[[\w:, ]{0,80}\]\]|\bnoexcept\b/g;
-const HANDLES = /^(?:static\s+)?(?:pthread_t|thrd_t|(?:std::)?j?thread)\s+[\w\s,[\]]{1,80};$/;
+const HANDLES = /^(?:static\s+)?(?:pthread_t|thrd_t|HANDLE|(?:std::)?j?thread)\s+[\w\s,[\]]{1,80};$/;
 // An entry of a block of initial values: the groups are the name of a variable, and its value.
 const ENTRY = /^(?:\w[\w ]*[ *])?\[?([A-Za-z_]\w*)\]?(?:=(.+))?$/;
 // A function up to its code: the groups are its type, its name, and its parameters.
 const FUNCTION = /^((?:(?:std::)?\w+[\s*]+)*?)(\w+)\s*\(([^(){};]*)\)\s*\{/;
+// A method outside of its class: the groups are what is before the name of this, and this name.
+const METHOD_OUTSIDE = /(?<=^|[;}])(\s*(?:(?:std::)?\w+[\s*&]+){0,5})(\w+)::~?\w+\s*\([^(){};]*\)\s*(?:const\s*|noexcept\s*)*(?::[^{};]{0,200})?\{/g;
 // The types of a result of 32 bits.
 const WORD_TYPE = /^(?:(?:static|extern|inline|const|(?:un)?signed|int|u?int32_t)\s+)*(?:(?:un)?signed|int|u?int32_t)\s+$/;
 // The parameters of a thread: none, or a pointer to anything, whose name is the group.
@@ -67,6 +73,12 @@ const CONSTANT = new RegExp(
   "^(?:(?:static|inline)\\s+)*(?:constexpr|const)\\s+(?:auto|(?:(?:unsigned|long)\\s+)*(?:unsigned|int|long|short|char)|bool|s?size_t|u?int\\d+_t|" +
     "(?:std::)?memory_order)\\s+(\\w+)\\s*[={]\\s*([\\w:]+)\\s*\\}?\\s*;",
 );
+// An array of the standard library, up to its name: the groups are the type of its words, their number, and the name.
+const ARRAY = /\b(?:std::)?array\s*<\s*((?!(?:std::)?j?thread\b)[\w:]+(?:\s*<[\w\s]*>)?)\s*,\s*(\w+)\s*>\s*(\w+)(?=\s*[;{=])/g;
+// A declaration of one variable that calls nothing: the group is its name.
+const UNUSED = /^[^,;(){}=]*?\b(\w+)\s*(?:\[\w*\]\s*)*(?:=[^,;(]*|\{[^,;(]*\}\s*)?;$/;
+// What in it changes something, or makes an object.
+const WRITING = /\+\+|--|\bnew\b|=[^;=]*=|\{[^;{=]*=/;
 // What may give a name to an order of memory, or to a reference.
 const NAMING = /\b(?:atomic_ref|memory_order)/;
 // A macro that is called without arguments: the groups are its name and its text. One that the kernel defines. Names of constants, and of a type, with it.
@@ -93,7 +105,14 @@ const OF_GLOBALS = ": outside of threads are only declarations of integers and `
 const OF_MACROS = ": write its text where it is used";
 const OF_PARAMETERS = ": a parameter is a pointer to 32 bits, as `atomic_int *x`";
 const OF_THREADS = ": a thread is a function without parameters, or with an unused `void *`";
+const OF_UNUSED = ": no thread uses it, so write functions that do, as `void P0() { .. }`";
+const OF_WINDOWS = ": the page knows this function of Windows, so leave it out";
 const OF_END = ": after the threads is the question, as `exists (0:r0=0)`";
+
+/** Returns a declaration of an array of the standard library as one of an array, of the same length. */
+function writeArray(whole, type, count, name) {
+  return `${type} ${name}[${count}]`.padStart(whole.length);
+}
 
 /** Reads a program from its begin to its end. `rest` is what is not read yet, in which comments are blank. */
 class ProgramReader {
@@ -105,12 +124,14 @@ class ProgramReader {
     this.name = "Mine";
     this.words = new Map();
     this.globals = new Map();
-    this.names = new Map();
+    this.names = new Map(listWindowsNames(text));
     // The structures and classes by their names, the names of their objects and of arrays, and the functions by their names.
     this.types = new Map();
     this.objects = new Set();
     this.arrays = new Set();
     this.functions = new Map();
+    // The methods outside of classes by the names of these.
+    this.methods = new Map();
     this.threads = [];
     this.main = null;
     // Whether variables may have the same name, in several namespaces.
@@ -136,9 +157,12 @@ class ProgramReader {
   readProgram() {
     const asked = this.takeComments();
     if (this.isHerd) this.readHeading();
-    this.rest = this.rest.replace(HEADERS, blank).replace(WITHOUT_EFFECT, blank).trimStart();
+    this.rest = blankUncompiled(this.rest).replace(HEADERS, blank).replace(WITHOUT_EFFECT, blank).replace(ARRAY, writeArray).replace(/\bif\s+constexpr\b/g, (it) => "if".padEnd(it.length)).trimStart();
+    this.takeMethods();
     while (this.rest && !QUESTION.test(this.rest)) this.readDefinition();
     const question = this.rest ? this.cutPart(this.rest.length) : asked;
+    // A comment of herd begins as a macro of a pointer does, so that it is found only here.
+    if (this.isHerd) question.code = question.code.replace(/\(\*[^]*?\*\)/g, blank);
     const { text, name, isHerd, words, globals, names, types, objects, arrays, functions, threads, main } = this;
     return { text, name, isHerd, words, globals, names, types, objects, arrays, functions, threads, main, question };
   }
@@ -155,6 +179,18 @@ class ProgramReader {
       return blank(comment);
     });
     return questions.find((it) => it.code) ?? { code: "", index: 0 };
+  }
+
+  /** Takes the methods out of the rest that are outside of their classes, without the names of these in them. */
+  takeMethods() {
+    for (const { 0: head, 1: before, 2: name, index } of this.rest.matchAll(METHOD_OUTSIDE)) {
+      const end = findClosing(this.rest, index + head.length - 1) + 1;
+      if (!end || !new RegExp(`\\b(?:class|struct)\\s+${name}\\b[^;{]*\\{`).test(this.rest)) continue;
+      const whole = this.rest.slice(index, end);
+      const code = whole.slice(0, before.length) + blank(`${name}::`) + whole.slice(before.length + name.length + "::".length);
+      this.methods.set(name, [...this.methods.get(name) ?? [], { code, index: this.index + index }]);
+      this.rest = this.rest.slice(0, index) + blank(whole) + this.rest.slice(end);
+    }
   }
 
   /** Reads the name and the initial values of a test of herd. */
@@ -191,7 +227,7 @@ class ProgramReader {
     const code = { code: this.rest.slice(head.length, end), index: this.index + head.length };
     const others = objects.split(",").map((it) => it.trim()).filter(Boolean);
     if (this.types.has(name)) refusePart(part, OF_LONE);
-    const type = readClass(name, code, this.names);
+    const type = readClass(name, code, this.names, this.methods.get(name));
     for (const it of [name, ...(isType ? others : [])]) if (it) this.types.set(it, type);
     for (const object of isType ? [] : others) addObject(this, object, type, part);
     this.skipPart(part.code.length);
@@ -247,6 +283,7 @@ class ProgramReader {
 
   /** Adds a macro as a function. */
   addMacro(whole, name, text) {
+    if (isOfWindows(name)) refusePart(whole, OF_WINDOWS);
     const statement = text.replace(/;?\s*$/, "");
     if (statement.includes(";")) refusePart(whole, OF_MACROS);
     const code = { code: `${statement};`, index: whole.index + whole.code.lastIndexOf(text) };
@@ -271,10 +308,20 @@ class ProgramReader {
     const [whole] = STATEMENT.exec(this.rest) ?? [this.rest];
     const part = this.cutPart(whole.length);
     if (this.isHerd) refusePart(part, OF_END);
-    if (!whole.endsWith(";")) refusePart(part, OF_GLOBALS);
-    const isName = HANDLES.test(whole) || (NAMING.test(whole) && defineName(squeezeCode(whole.slice(0, -1)), this.names));
-    if (!isName) declareVariables(this, this.globals, whole.slice(0, -1), part, OF_GLOBALS);
+    const [directive = ""] = /^#[ \t]*(?:if|elif|else|endif)[^\n]*/.exec(whole) ?? [];
+    if (directive) refusePart(this.cutPart(directive.length), OF_DIRECTIVES);
+    const why = explainType(whole) ?? OF_GLOBALS;
+    if (!whole.endsWith(";")) refusePart(part, why);
+    const isName = HANDLES.test(whole) || this.isUnused(whole) || (NAMING.test(whole) && defineName(squeezeCode(whole.slice(0, -1)), this.names));
+    if (!isName) declareVariables(this, this.globals, whole.slice(0, -1), part, why);
     this.skipPart(whole.length);
+  }
+
+  /** Returns whether a declaration is of one variable of a type that the page does not follow, and nothing else names it. */
+  isUnused(code) {
+    const [, name] = (code.length < LONGEST && UNUSED.exec(code.replace(/<[^;]*>/, ""))) || [];
+    const isStarting = /\b(?:j?thread|async|future|promise)\b/.test(code);
+    return name !== undefined && !isStarting && !WRITING.test(code) && explainType(code) !== null && this.text.split(new RegExp(`\\b${name}\\b`)).length === 2;
   }
 
   /**
@@ -291,10 +338,12 @@ class ProgramReader {
       declareVariables(this, variables, parameter.code, parameter.code.trim() ? parameter : whole, OF_PARAMETERS);
     }
     const code = { code: this.rest.slice(length, end), index: this.index + length };
-    const returnsWord = !this.isHerd && WORD_TYPE.test(type);
+    const namedType = replaceNames(type, this.names);
+    const returnsWord = !this.isHerd && WORD_TYPE.test(namedType);
     const head = this.index + this.rest.indexOf(name, type.length);
     const named = this.isHerd ? parameters : replaceNames(parameters, this.names);
-    const thread = { name, type, head, whole, parameters: named, code, variables, returnsWord, isStarted: false };
+    const thread = { name, type: namedType, head, whole, parameters: named, code, variables, returnsWord, isStarted: false };
+    if (isOfWindows(name)) refusePart({ code: name, index: head }, OF_WINDOWS);
     if (!this.isHerd && this.functions.has(name)) refusePart({ code: name, index: head }, OF_OVERLOADS);
     if (name === "main" && !this.isHerd) this.main = code;
     else {
@@ -310,7 +359,10 @@ class ProgramReader {
  * not in its place.
  * @param {Program} program
  */
-export function checkThreads({ text, isHerd, threads }) {
+export function checkThreads({ text, isHerd, threads, types }) {
+  const [type] = [...types].find(([, { methods }]) => methods.length) ?? [];
+  const [head] = (type && new RegExp(`\\b(?:class|struct)\\s+${type}\\b`).exec(text)) || [];
+  if (!threads.length && head) refusePart({ code: head, index: text.indexOf(head) }, OF_UNUSED);
   if (!threads.length) refusePart({ code: text, index: 0 }, ": threads are functions `P0`, `P1` and so on");
   const withParameters = threads.find((it) => !isHerd && !it.values && !PARAMETERS.test(it.parameters));
   if (withParameters) refusePart(withParameters.whole, OF_THREADS);

@@ -7,15 +7,20 @@
 // of loads has the statements of its `body`, and the condition of its next pass.
 
 import { findClosing, parseConstant, refusePart } from "./c_code.js";
+import { OF_DIRECTIVES } from "./c_directives.js";
+import { explainType } from "./c_reasons.js";
 
 /** The number of statements that a statement may be in. */
 export const DEEPEST = 64;
 const IF = /^if\s*\(/;
+// A condition that declares a variable: the groups are the declaration, the name, and the condition after it, if there is one.
+const DECLARING = /^(\s*(?:const\s+)?(?:auto|bool|int|unsigned(?:\s+int)?|(?:u?int\d+|s?size)_t)\s+(\w+)\s*=(?!=)[^;]*)(?:;([^;]*))?$/;
 const ELSE = /^else\b/;
 // How statements begin that are refused.
 const LOOP = /^(?:else|while|for|do|switch)\b/;
 const SWITCH = /^switch\b/;
 const HEAD = /^\w+\s*(?=\()/;
+const DIRECTIVE = /^#[ \t]*(?:if|elif|else|endif)[^\n]*/;
 /** Why a loop is refused, as the end of a sentence. */
 export const OF_LOOPS = ": write out each pass of a loop. `tools/from_c.py` follows loops";
 const OF_SWITCH = ": write an `if` for each case";
@@ -29,10 +34,15 @@ export const OF_FUNCTIONS = ": write what the function does in its place";
 /** Why an index is refused, as the end of a sentence. */
 export const OF_INDICES = ": an array is shared, and its indices are constants in it, as `a[0]`";
 // Why a statement is refused, by a part of it in squeezed code, unless a rule says so.
+/** What sets or reads a bit in the Linux kernel. */
+export const BITS = /\b(?:test_and_)?(?:set|clear|change|test)_bit\w*\s*\(/;
+/** Why it is refused, as the end of a sentence. */
+export const OF_BITS = ": of bits only bit 0 of a word is set and cleared here, which is only 0 or 1 then";
 const REASONS = [
-  [/^#(?:if|elif|else|endif)/, ": leave out `#if` and its like, with what is not compiled"],
+  [/_?try_?lock\(/, ": a lock is tried in a condition of its own, as `if (m.try_lock())`"],
   [/^(?:__)?asm(?:__)?\b|thread_fence/, ": a fence is `atomic_thread_fence(memory_order_seq_cst)`"],
   [/compare_exchange|cmpxchg/, ": the x86 format has no compare-and-swap. `tools/from_c.py` follows it"],
+  [BITS, OF_BITS],
   [/fetch_(?:or|and|xor)/, ": of locked instructions the x86 format has only exchange and addition"],
   [/\blw_see\b/, ": the question names the variable itself, as `0:r0`"],
   [/\?/, ": write an `if`"],
@@ -46,9 +56,9 @@ const REASONS = [
   [/^\w+\([^]*\)$|[=(,]\w+\(/, OF_FUNCTIONS],
 ];
 // What is in no side of a comparison.
-const OPERATOR = /\|\||&&|[<>]|[=!]=|^!/;
+const OPERATOR = /\|\||&&|[<>?]|[=!]=|^!/;
 /** Why a condition is refused, as the end of a sentence. */
-export const OF_CONDITIONS = ": a condition compares by `==` or `!=`, and has `&&` at most";
+export const OF_CONDITIONS = ": a condition compares by `==` or `!=`, and has `&&` or, in an `if`, `||`";
 const OF_OTHERS = ": a statement is one load, store, exchange, addition or fence, or an `if`";
 
 /**
@@ -57,7 +67,7 @@ const OF_OTHERS = ": a statement is one load, store, exchange, addition or fence
  * @returns {string}
  */
 export function explainStatement(code) {
-  return REASONS.find(([pattern]) => pattern.test(code))?.[1] ?? OF_OTHERS;
+  return explainType(code) ?? REASONS.find(([pattern]) => pattern.test(code))?.[1] ?? OF_OTHERS;
 }
 
 /**
@@ -123,6 +133,8 @@ export class StatementReader {
     if (rest.startsWith("{")) return this.readBlock();
     if (IF.test(rest)) return this.readBranch();
     if (LOOP.test(rest)) return this.readLoop();
+    const [directive = ""] = DIRECTIVE.exec(rest) ?? [];
+    if (directive) refusePart(this.takePart(directive.length), OF_DIRECTIVES);
     const length = this.findEnd();
     if (length < 0) refusePart(this.takePart(rest.length), ": its `;` is missing");
     const statement = this.takePart(length);
@@ -143,7 +155,7 @@ export class StatementReader {
     return { code, index, block: this.makeReader({ code: code.slice(1, -1), index: index + 1 }).readAll() };
   }
 
-  /** Returns an `if`, with its `else`. Its code is up to its condition. */
+  /** Returns an `if`, with its `else`; if it declares a variable, a block of the declaration and the `if`. Its code is up to its condition. */
   readBranch() {
     const open = this.rest.indexOf("(");
     const close = findClosing(this.rest, open);
@@ -152,7 +164,12 @@ export class StatementReader {
     const then = this.readBranchBody(head);
     const hasElse = ELSE.test(this.rest);
     if (hasElse) this.takePart("else".length);
-    return { ...head, condition: head.code.slice(open + 1, -1), then, otherwise: hasElse ? this.readBranchBody(head) : [] };
+    const whole = head.code.slice(open + 1, -1);
+    const branch = { ...head, condition: whole, then, otherwise: hasElse ? this.readBranchBody(head) : [] };
+    const [, declaration, name, tested = name] = DECLARING.exec(whole) ?? [];
+    if (!declaration) return branch;
+    const declared = { code: declaration, index: head.index + open + 1 };
+    return { ...head, block: [declared, { ...branch, condition: tested }] };
   }
 
   /** Returns the statements of a branch of an `if` that begins with a part. Throws NoTest for this part if there is none. */
@@ -256,13 +273,40 @@ export function parseCondition(code) {
 }
 
 /**
+ * Returns an `if` of the first of several conditions that are joined by `||`, whose `else` is one of the others with the same branches. Null if the condition
+ * has no `||` outside of parentheses, or more than comparisons around it.
+ * @param {Statement} statement
+ * @param {string} code its condition, squeezed
+ * @returns {Statement | null}
+ */
+export function splitEither(statement, code) {
+  const [condition, ...others] = splitOutside(removeOuterParentheses(code), "||");
+  if (!others.length || /[?]|(?<![=!<>])=(?!=)/.test(code)) return null;
+  return { ...statement, condition, otherwise: [{ ...statement, condition: others.join("||") }] };
+}
+
+/**
  * Returns whether code is a condition, and not a value that might be one.
  * @param {string} code
  * @returns {boolean}
  */
 export function isCondition(code) {
   const inner = removeOuterParentheses(code);
-  return inner.startsWith("!") || ["==", "!=", "&&"].some((mark) => splitOutside(inner, mark).length > 1);
+  return !parseChoice(inner) && (inner.startsWith("!") || ["==", "!=", "&&"].some((mark) => splitOutside(inner, mark).length > 1));
+}
+
+/**
+ * Returns the condition of a value that is chosen by `?`, and the codes of the value if it holds, and if not; null if code is no such value.
+ * @param {string} code
+ * @returns {{condition: string, then: string, otherwise: string} | null}
+ */
+export function parseChoice(code) {
+  const [condition, ...others] = splitOutside(removeOuterParentheses(code), "?");
+  if (!others.length) return null;
+  // Each `?` of the first value has its own `:` before that of the first one.
+  const parts = splitOutside(others.join("?"), ":");
+  const count = parts.findIndex((_, at) => splitOutside(parts.slice(0, at + 1).join(":"), "?").length === at + 1) + 1;
+  return { condition, then: parts.slice(0, count).join(":"), otherwise: parts.slice(count).join(":") };
 }
 
 /** Returns the two sides of a comparison, and whether they are to be equal: a bare value is not 0, and one after `!` is 0. Null if it is none. */

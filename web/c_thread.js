@@ -2,16 +2,18 @@
 //
 // The records `Program` and `CThread` are those of c_reader.js, and `Statement` is that of c_statements.js.
 
-import { mapAtoms, negateFormula, parseFormula } from "./c_question.js";
+import { FALSE, mapAtoms, negateFormula, parseFormula } from "./c_question.js";
+import { mapSites, parseRelation } from "./c_relations.js";
 import { defineName, parseConstant, parseDeclaration, refusePart, replaceNames } from "./c_code.js";
 import { LockWriter } from "./c_locks.js";
-import { readStatements } from "./c_loop_reader.js";
+import { OF_STORING, readStatements } from "./c_loop_reader.js";
 import {
   isCondition,
   OF_CONDITIONS,
   OF_FUNCTIONS,
   OF_LOOPS,
   OUTPUT,
+  parseChoice,
   parseCondition,
   removeStrings,
   splitOutside,
@@ -27,7 +29,7 @@ const FENCE = new RegExp(
 );
 const NO_FENCE = new RegExp(
   "^(?:atomic_thread_fence\\(memory_order_(?:relaxed|consume|acquire|release|acq_rel)\\)|atomic_signal_fence\\(memory_order_\\w+\\)|" +
-    "(?:smp_[rw]mb|barrier|_mm_[ls]fence|_mm_pause|__builtin_ia32_pause|cpu_relax|sched_yield|(?:this_thread::)?yield)\\(\\)|" +
+    "(?:smp_[rw]mb|smp_mb__(?:before|after)_atomic|barrier|_mm_[ls]fence|_mm_pause|__builtin_ia32_pause|cpu_relax|sched_yield|(?:this_thread::)?yield)\\(\\)|" +
     `${ASSEMBLY}\\("":::"memory"\\)|${ASSEMBLY}\\("(?:[ls]fence|pause)"(?::::"memory")?\\))$`,
 );
 const RETURN = /^(?:return\b ?(.*)|pthread_exit\((?:NULL|nullptr|0)\))$/;
@@ -40,27 +42,36 @@ const AWAITED = /^(?:(\w+)=)?(\*?\w+|atomic_load\w{0,20}\([^()]*\))$/;
 // An exchange in a loop that waits.
 const EXCHANGE = /^atomic_exchange\w{0,20}\([^()]*\)$/;
 const ASSERTION = /^assert\((.*)\)$/;
+// What ends the program, as an assertion does that does not hold.
+const ABORT = /^(?:abort\(\)|terminate\(\)|__builtin_trap\(\)|_?exit\((?:[1-9]\d*|EXIT_FAILURE)\))$/;
 // What an output has besides values: strings, letters, streams, and the end of a line.
 const PRINTED = /^(?:" *"|'.*'|std(?:out|err)|endl|flush|)$/;
 // An assignment: the groups are its place, the sign of `+=` or `-=`, and its value.
 const ASSIGNMENT = /^(\*?\w+)([+-]?)=([^=].*)$/;
 // A declaration of a name that has a value, which is in its place.
 const SHADOWING = /^(?:[A-Za-z_]\w* )+-?(?:\d\w*|memory_order_\w+)(?:=(?!=)|[{(])/;
+// A call after which another statement begins.
+const UNENDED = /^(?!return\b)(?:[\w ]*\w=)?&?\w+\((?:[^()]|\([^()]*\))*\)(?!(?:and|or|xor|bitand|bitor|not_eq)\b)[A-Za-z_]/;
+const OF_STEP = /\+\+|--|(?<![=!<>])=(?!=)/;
 // Why a statement is refused.
 const OF_UNREACHED = ": no run comes here after a `return`";
 const OF_RETURN = ": a thread that returns a value is `int P0(void)`";
 const OF_RETURN_IN_HERD = ": a thread of herd returns nothing, so set a variable, as `int r0`";
 const OF_SIDES = ": compare with a constant or a variable of the thread";
+const OF_CHOICES = ": what `?` chooses are constants and variables of the thread";
 const OF_ATOMICS = ": a thread's own variable is not atomic, as `int r0`";
 /** Why a loop in a branch is refused, as the end of a sentence. */
 export const OF_BRANCHES = ": a loop that waits is in no branch, and after no `return`";
 const OF_FIXED = ": a loop or an assertion has the value of this variable, so set another one";
 const OF_OUTPUT = ": a thread prints variables and constants only";
-const OF_ASSERTIONS = ": an assertion compares variables with constants by `==` or `!=`, joined by `&&` and `||`";
-const OF_BRANCHED = ": an assertion is in no branch, and after no `return`";
+const OF_ASSERTIONS = ": an assertion compares variables, constants and sums of them, joined by `&&` and `||`";
+const OF_BRANCHED = ": an `if` around an assertion compares variables, which keep their words after it";
+const OF_ALWAYS = ": an assertion that never holds is in a branch";
+const OF_RETURNS = ": before an assertion, a `return` is the end of an `if` that is in no other one";
 /** Why a loop of a plain variable is refused, as the end of a sentence. */
 export const OF_PLAIN_LOOPS = ": a compiler loads a plain variable only once, so make it atomic or volatile";
 const OF_NAMES = ": give it a name that no other variable has";
+const OF_MARKS = ": a `;` is missing in it";
 const OF_STATIC = ": a static variable is shared, so declare it outside of functions";
 // The label at the end of a thread.
 const END = "END";
@@ -138,13 +149,14 @@ export class ThreadWriter extends LockWriter {
     const isOwned = (it) => !unwritten.has(it.name) && (owners ? owners.get(it.name) === number : !it.isOfClass && isOwn(it.name) && !isHidden(it));
     this.own = [...variables.values()].filter((it) => it.order === "plain" && !it.isPointer && isOwned(it));
     if (returnsWord) this.locals.add(RESULT);
-    this.isWide = false;
     // How many labels there are, and the variable that was loaded last.
-    this.labelCount = 0;
-    this.loaded = null;
+    Object.assign(this, { isWide: false, labelCount: 0, loaded: null });
     this.loads = [];
     this.hasBranch = false;
-    // For each `if` the branches around its statements; none if it has an `else`.
+    // The loops that store, at which it ends.
+    this.entries = [];
+    // For each `if` the branches of which a run comes to one, each with the branches around it: the statements of the `if`, those of its `else`, or those
+    // that follow it if it returns.
     this.entered = [];
     // The formula of the end of each loop that waits and of each lock; and the variables of loops that exchange, with the words that these may have.
     this.waits = [];
@@ -161,6 +173,8 @@ export class ThreadWriter extends LockWriter {
     this.asserted = [];
     this.assertion = null;
     this.waitCount = 0;
+    // The indices of branches around an assertion, whose conditions have registers if it is to be written.
+    this.unkept = [];
   }
 
   /** Writes all instructions. Returns this writer. Throws NoTest at a statement that is not rewritten, and if there are too few registers. */
@@ -226,22 +240,31 @@ export class ThreadWriter extends LockWriter {
     }
   }
 
+  /** Records a loop that stores, at which the thread ends. Throws NoTest if it is in a branch or in another function, or a mutex is locked then. */
+  enterStoring() {
+    if (this.isHerd || this.frames?.length || this.branches.length || this.exits.length || this.guards.length) this.refuseStatement(OF_STORING);
+    this.entries.push(this.statement);
+  }
+
   /** Returns the squeezed code of a condition. */
   readCondition(condition) {
     return this.squeeze(condition);
   }
 
   /** Writes an `if`: its comparisons jump over its first branch, which jumps over the second one if there is one. */
-  writeBranch({ condition, then, otherwise }, isLast) {
+  writeBranch({ condition, then, otherwise, isEntry }, isLast) {
     this.hasBranch = true;
+    if (isEntry) this.enterStoring();
     const other = isLast && !otherwise.length ? this.end : this.makeLabel();
     const end = isLast ? this.end : otherwise.length ? this.makeLabel() : other;
     const { index } = this.statement;
     const depth = this.branches.length;
     const comparisons = this.writeCondition(this.readCondition(condition), other);
-    const negated = { index, comparisons: negateComparisons(comparisons) };
-    this.branches.push({ index, comparisons });
-    this.entered.push(otherwise.length ? [] : [...this.branches]);
+    const settingCounts = comparisons.map((it) => this.countSettings(it.variable));
+    const negated = { index, comparisons: negateComparisons(comparisons), whole: comparisons, isNegated: true, settingCounts };
+    this.branches.push({ index, comparisons, whole: comparisons, settingCounts });
+    const entered = [[...this.branches]];
+    this.entered.push(entered);
     const before = new Set(this.known);
     this.writeBlock(then, isLast && !otherwise.length);
     this.branches.length = depth;
@@ -251,11 +274,15 @@ export class ThreadWriter extends LockWriter {
       if (after) this.writeInstruction(`JMP ${end}`);
       this.labels.push(other);
       this.branches.push(negated);
+      entered.push([...this.branches]);
       this.writeBlock(otherwise, isLast);
       this.branches.length = depth;
     }
     // What follows is as in the other branch if the first one returns.
-    if (!after && !otherwise.length) this.branches.push(negated);
+    if (!after && !otherwise.length) {
+      this.branches.push({ ...negated, isLeft: true });
+      entered.push([...this.branches]);
+    }
     this.known = joinPaths(after, this.known);
     const isTarget = this.instructions.some((it) => it.endsWith(` ${end}`));
     if (!isLast && isTarget) this.labels.push(end);
@@ -385,16 +412,17 @@ export class ThreadWriter extends LockWriter {
   writeCondition(condition, label) {
     return (parseCondition(condition) ?? this.refuseStatement(OF_CONDITIONS)).map(({ sides: [value, other], isEqual }) => {
       if (this.locals.has(other) && parseStep(value)?.place === other) this.refuseStatement(OF_STEPS);
-      const variable = this.known.has(value) ? value : this.kept.includes(this.statement.index) && AWAITED.test(value) ? this.keepLoad(value) : null;
+      const isKept = this.kept.includes(this.statement.index) && (AWAITED.test(value) || EXCHANGE.test(value));
+      const variable = this.known.has(value) ? value : isKept ? this.keepLoad(value) : null;
       const register = variable === null ? SPARE : this.findRegister(variable);
       if (register === SPARE) this.writeValue(value, SPARE);
       this.writeInstruction(`CMP ${register},${this.findOperand(other) ?? this.refuseStatement(OF_SIDES)}`);
       this.writeInstruction(`${isEqual ? "JNE" : "JE"} ${label}`);
-      return { variable, word: parseConstant(other), isEqual };
+      return { variable, word: parseConstant(other), isEqual, other };
     });
   }
 
-  /** Loads a shared variable of a condition into one of its own, which is not that which is loaded last. Returns its name. */
+  /** Loads or exchanges a shared variable of a condition into one of its own, which is not that which is loaded last. Returns its name. */
   keepLoad(load) {
     const { loaded, loadedBranches } = this;
     const variable = this.loadShared(load, "in its condition");
@@ -404,6 +432,7 @@ export class ThreadWriter extends LockWriter {
   /** Writes a statement that has no statements in it: a declaration, a fence, a `return`, or an operation. */
   writeSimple(statement, isLast) {
     if (SHADOWING.test(statement)) this.refuseStatement(OF_NAMES);
+    if (UNENDED.test(statement)) this.refuseStatement(OF_MARKS);
     if (defineName(statement, this.names) || this.writeMutex(statement)) return;
     if (this.functions.has(/^\w+(?=\()/.exec(statement)?.[0])) this.refuseStatement(OF_FUNCTIONS);
     const declared = parseDeclaration(statement);
@@ -416,7 +445,7 @@ export class ThreadWriter extends LockWriter {
       this.declareLocal(variable, variable.value);
     }
     const [isReturn, result = ""] = RETURN.exec(statement) ?? [];
-    const [, condition] = ASSERTION.exec(statement) ?? [];
+    const [, condition] = ABORT.test(statement) ? [null, "false"] : ASSERTION.exec(statement) ?? [];
     if (FENCE.test(statement)) this.writeInstruction("MFENCE");
     else if (condition) this.writeAssertion(condition);
     else if (OUTPUT.test(statement)) this.writeOutput(this.squeeze(removeStrings(this.statement.code)));
@@ -427,22 +456,59 @@ export class ThreadWriter extends LockWriter {
   /** Loads a shared variable that has no register, into one of its own, which gets a name that no other one has. Returns this name. */
   loadShared(load, use) {
     const { name } = this.parseOperation(load);
-    const variable = [`${name} ${use}`, ...REGISTERS.X86.map((_, number) => `${name} ${use} ${number + 2}`)].find((it) => !this.known.has(it));
+    const variable = [`${name} ${use}`, ...REGISTERS.X86.map((_, number) => `${name} ${use} ${number + 2}`)]
+      .find((it) => !this.known.has(it) && !this.fixed.has(it));
     this.locals.add(variable);
     this.assignLocal(variable, load);
     return variable;
   }
 
-  /** Writes the loads of an assertion, and records what it asserts. Throws NoTest if it may not be reached, or is of more than comparisons. */
+  /** Writes the loads of an assertion, and records what it asserts if it is reached. Throws NoTest if it is of more than relations of variables. */
   writeAssertion(condition) {
-    const formula = parseFormula(condition) ?? this.refuseStatement(OF_ASSERTIONS);
-    if (this.branches.length || this.exits.length) this.refuseStatement(OF_BRANCHED);
+    const isFalse = FALSE.test(condition);
+    const formula = isFalse ? { sign: "\\/", parts: [] } : parseFormula(condition, parseRelation) ?? this.refuseStatement(OF_ASSERTIONS);
+    const reached = this.findReached();
+    if (isFalse && !reached.length) this.refuseStatement(OF_ALWAYS);
     if (!this.assertion) Object.assign(this, { assertion: this.statement, waitCount: this.waits.length });
-    this.asserted.push(mapAtoms(formula, (atom) => {
-      const variable = this.known.has(atom.name) ? atom.name : this.loadShared(atom.code, "as asserted");
-      this.fixed.add(variable);
-      return { ...atom, name: this.makeSite(variable) };
-    }));
+    mapAtoms(formula, ({ operands = [] }) => {
+      if (operands.filter((it) => !this.known.has(it.name)).length > 1) this.refuseStatement(OF_LOADS);
+    });
+    const asserted = mapSites(formula, (name, code) => this.fixSite(this.known.has(name) ? name : this.loadShared(code, "as asserted")));
+    const parts = [...reached.map(negateFormula), ...(isFalse ? [] : [asserted])];
+    this.asserted.push(parts.length > 1 ? { sign: "\\/", parts } : parts[0]);
+  }
+
+  /** Returns the site of a variable with a register, which is not set again. */
+  fixSite(variable) {
+    this.fixed.add(variable);
+    return this.makeSite(variable);
+  }
+
+  /**
+   * Returns the formulas that say of final states whether the statement is reached: all of them hold. Throws NoTest if a branch around it has no
+   * formula of variables with registers that are not set again. Then `unkept` has the indices of the branches.
+   */
+  findReached() {
+    this.unkept = this.branches.map((it) => it.index);
+    if (this.exits.length !== this.branches.filter((it) => it.isLeft).length) this.refuseStatement(OF_RETURNS);
+    return this.branches.map(({ whole, isNegated, settingCounts }) => {
+      if (whole.some((it, at) => it.variable === null || this.countSettings(it.variable) !== settingCounts[at])) this.refuseStatement(OF_BRANCHED);
+      const parts = whole.map((it) => this.makeReachedAtom(it));
+      const formula = parts.length > 1 ? { sign: "/\\", parts } : parts[0];
+      return isNegated ? negateFormula(formula) : formula;
+    });
+  }
+
+  /** Returns the atom of a comparison of a branch, or the relation of two variables. */
+  makeReachedAtom({ variable, word, isEqual, other }) {
+    const site = this.fixSite(variable);
+    if (word !== null) return { name: site, word, isEqual };
+    return { code: "{0}=={1}", operands: [{ site }, { site: this.fixSite(other) }], isEqual };
+  }
+
+  /** Returns how often a variable with a register was set up to here. */
+  countSettings(variable) {
+    return this.settings.get(variable)?.length ?? 0;
   }
 
   /** Writes the load of the shared variable that an output prints, if it prints one. */
@@ -501,19 +567,33 @@ export class ThreadWriter extends LockWriter {
     const [, place, sign, value] = ASSIGNMENT.exec(convertStep(statement)) ?? [];
     if (!place) this.writeOperation(this.parseCall(statement));
     else if (!this.locals.has(place)) this.writeOperation(this.makeOperation(place, sign, value));
-    else if (sign === "-" && parseConstant(value) === null) this.refuseStatement(OF_SUBTRACTION);
-    else this.assignLocal(place, sign ? `${place}${sign}@${value}` : value);
+    else this.assignLocal(place, sign ? this.makeSum(place, sign, value) : value);
   }
 
   /** Writes the instructions that set a register to 1 if a condition holds, and otherwise to 0. */
   writeTruth(condition, register) {
+    this.writeChoice({ condition, then: "1", otherwise: "0" }, register);
+  }
+
+  /** Writes the instructions that set a register to one of two values. Throws NoTest if a value accesses memory, or changes a variable. */
+  writeChoice({ condition, then, otherwise }, register) {
     const [other, end] = [this.makeLabel(), this.makeLabel()];
     this.writeCondition(condition, other);
-    this.writeInstruction(`MOV ${register},$1`);
+    const count = this.accesses.length;
+    if ([then, otherwise].some((it) => !it || OF_STEP.test(it))) this.refuseStatement();
+    this.writeValue(then, register);
     this.writeInstruction(`JMP ${end}`);
     this.labels.push(other);
-    this.writeInstruction(`MOV ${register},$0`);
+    this.writeValue(otherwise, register);
     this.labels.push(end);
+    if (this.accesses.length > count) this.refuseStatement(OF_CHOICES);
+  }
+
+  /** Writes the instructions that set a register to a value, which may be chosen by `?`. */
+  writeValue(code, register) {
+    const choice = parseChoice(code);
+    if (choice) this.writeChoice(choice, register);
+    else super.writeValue(code, register);
   }
 
   /** Writes the instructions that set a variable with a register. Throws NoTest if its words are below a limit, and the value may not be. */
@@ -522,15 +602,15 @@ export class ThreadWriter extends LockWriter {
     if (this.fixed.has(name)) this.refuseStatement(OF_FIXED);
     if (!this.firstValues.has(name)) this.firstValues.set(name, !this.branches.length && !this.exits.length);
     this.recordSetting(name, parseConstant(value));
-    const isTruth = isCondition(value);
+    const [isTruth, isChoice] = [isCondition(value), parseChoice(value) !== null];
     if (isTruth) this.writeTruth(value, this.findRegister(name));
     else this.writeValue(value, this.findRegister(name));
     this.known.add(name);
     const [access, another] = this.accesses.slice(count);
     const limit = this.limits.get(name) ?? WORD;
-    const isLoaded = access?.limit <= limit && !another && !/^(?:\w+: )*ADD\b/.test(this.instructions.at(-1));
+    const isLoaded = access?.limit <= limit && !another && !isChoice && !/^(?:\w+: )*ADD\b/.test(this.instructions.at(-1));
     if (limit < WORD && !isTruth && !isLoaded && !isBelow(limit, value)) this.refuseStatement(explainLimit(limit));
-    if (!access || access.isWrite || isTruth) return;
+    if (!access || access.isWrite || isTruth || isChoice) return;
     Object.assign(this, { loaded: name, loadedBranches: [...this.branches] });
     this.loads.push({ variable: name, location: access.name });
   }

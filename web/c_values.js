@@ -6,9 +6,10 @@
 // An `Access` has the number of its `thread`, and the `name` of its location. It `isPlain`, `isRead` if its result is used, and `isWrite`, or not, and
 // its words are below the `limit`. The `word` is the constant that it writes, or null, and
 // `added` the constant that it adds, or null. It `isLocked` if its load and its store are one instruction. It `isSure` if all runs of its thread do it.
+// The `around` are the branches that it is in, the innermost one last; the `exitCount` is the number of returns before it.
 
 import { parseConstant, refusePart, replaceNames, squeezeCode } from "./c_code.js";
-import { explainCondition, explainStatement, OF_INDICES, removeOuterParentheses, splitTerms } from "./c_statements.js";
+import { explainCondition, explainStatement, isCondition, OF_INDICES, parseChoice, removeOuterParentheses, splitTerms } from "./c_statements.js";
 import { REGISTERS, WORD } from "./token_reader.js";
 
 // The patterns are of squeezed code. A call: the groups are its kind, an order in its name, a `&`, the variable, a value, and an order.
@@ -38,6 +39,7 @@ export const OF_STEPS = ": write `++` and `--` of a thread's own variable in a s
 const OF_PLAIN_STEPS = ": write `++` and `--` of a variable that is not atomic in a statement of its own";
 /** Why a difference is refused, as the end of a sentence. */
 export const OF_SUBTRACTION = ": the x86 format subtracts constants only";
+const OF_SUMS = ": give what is added a variable of its own";
 // Why a value of a `bool` and of a variable of few bits is refused.
 const OF_BOOLS = ": a `bool` is set to `true`, `false`, or another `bool` that is loaded";
 const OF_SMALL = ": a variable of 8 or 16 bits is set to a constant from 0 to 127, or to another one that is loaded";
@@ -45,12 +47,14 @@ const OF_SMALL = ": a variable of 8 or 16 bits is set to a constant from 0 to 12
 export const SPARE = "?";
 
 /**
- * Returns whether code is a constant below a limit.
+ * Returns whether code is a constant below a limit, or a choice of such.
  * @param {number} limit
  * @param {string} code
  * @returns {boolean}
  */
 export function isBelow(limit, code) {
+  const choice = parseChoice(code);
+  if (choice) return isBelow(limit, choice.then) && isBelow(limit, choice.otherwise);
   const word = parseConstant(code);
   return word !== null && word < limit;
 }
@@ -260,15 +264,21 @@ export class ValueWriter {
     const { order } = this.findShared(name, place !== name);
     const common = { order, name, isPointer: place !== name };
     if (!sign || order === "seq_cst") return { kind: STEP_KINDS[sign] ?? (value ? "store" : "load"), ...common, value };
+    return { kind: "store", ...common, value: this.makeSum(place, sign, value) };
+  }
+
+  /** Returns the sum of a place and a value, or their difference. Throws NoTest if the value binds less than its sign. */
+  makeSum(place, sign, value) {
     if (sign === "-" && parseConstant(value) === null) this.refuseStatement(OF_SUBTRACTION);
-    return { kind: "store", ...common, value: `${place}${sign}@${value}` };
+    if (isCondition(value) || parseChoice(value)) this.refuseStatement(OF_SUMS);
+    return `${place}${sign}@${value}`;
   }
 
   /** Returns the declaration of a shared variable, which code uses as a pointer or not. Throws NoTest if it is none of these. */
   findShared(name, isPointer) {
     if (/^\d/.test(name)) this.refuseStatement(OF_CONSTANTS);
     if (this.locals.has(name)) this.refuseStatement(`: \`${name}\` ${this.known.has(name) ? "is not shared" : "has no value on some path to here"}`);
-    const isArray = new RegExp(`\\b${name}\\s{0,9}\\[`).test(this.statement.condition ?? this.statement.code);
+    const isArray = this.variables.get(`${name}_0`)?.element || new RegExp(`\\b${name}\\s{0,9}\\[`).test(this.statement.condition ?? this.statement.code);
     const variable = this.variables.get(name) ?? this.refuseStatement(isArray ? OF_INDICES : `: \`${name}\` is not declared`);
     if (isPointer && !variable.isPointer) this.refuseStatement(`: \`${name}\` is no pointer, as \`&${name}\` is`);
     if (variable.order === "mutex") this.refuseStatement(`: \`${name}\` is a mutex, which is only locked and unlocked`);
@@ -307,7 +317,9 @@ export class ValueWriter {
     const isRead = kind !== "store" && register !== undefined;
     const word = isStep(kind) ? null : parseConstant(value);
     const added = isStep(kind) ? findSum(kind, value) : kind === "store" ? findAdded(operation) : null;
-    this.accesses.push({ thread: this.number, name, isPlain, isRead, isWrite: kind !== "load", limit, word, added, isLocked: kind !== "store", isSure });
+    const around = [...this.branches];
+    const common = { limit, word, added, isLocked: kind !== "store", isSure, around, exitCount: this.exits.length };
+    this.accesses.push({ thread: this.number, name, isPlain, isRead, isWrite: kind !== "load", ...common });
     const target = register ?? SPARE;
     if (kind === "load") this.writeInstruction(`MOV ${target},[${name}]`);
     else if (kind === "store" && order !== "seq_cst") this.writeStore(operation);

@@ -57,7 +57,7 @@ function followThread(instructions, first, findOthers) {
 }
 
 /**
- * Returns a function of the site of a register, as `0:EAX`, that returns the words which it may have at the end; null if these are too many.
+ * Returns a function of a site, as `0:EAX` or `x`, that returns the words which it may have at the end; null if these are too many.
  * @param {{number: number, instructions: string[]}[]} writers
  * @param {Map<string, number>} words
  * @returns {function(string): number[] | null}
@@ -79,7 +79,8 @@ export function findAllWords(writers, words) {
   }
   return (site) => {
     const [number, register] = site.split(":");
-    const origins = [...all[Number(number)].registers.get(register) ?? ["0/0"]];
+    const listWritten = (name) => [`${words.get(name)}/0`, ...all.flatMap((it) => [...it.written.get(`[${name}]`) ?? []])];
+    const origins = register ? [...all[Number(number)].registers.get(register) ?? ["0/0"]] : listWritten(site);
     return [...new Set(origins.map((it) => Number(it.split("/")[0])))].sort((one, other) => one - other);
   };
 }

@@ -12,6 +12,7 @@ import os from "node:os";
 import path from "node:path";
 import { fileURLToPath, pathToFileURL } from "node:url";
 import { isDeepStrictEqual } from "node:util";
+import { SLOWEST, measure } from "./typed_texts.mjs";
 
 const HOME = path.dirname(path.dirname(path.dirname(fileURLToPath(import.meta.url))));
 const PARTS = ["aligned", "c_program", "other_tools"];
@@ -57,6 +58,18 @@ const STATEMENTS = [
   ["atomic_store(&y, atomic_load_explicit(&x, memory_order_relaxed));", "MOV EAX,[x]; XCHG [y],EAX",
     "atomic_store(y, atomic_load_explicit(x, memory_order_relaxed));"],
   ["x = x + 1;", "MOV EAX,[x]; ADD EAX,$1; XCHG [x],EAX", "*x = *x + 1;"],
+  // Values that `?` chooses.
+  ["int r0 = y ? 1 : 2;", "MOV EBX,[y]; CMP EBX,$0; JE L1; MOV EAX,$1; JMP L2; L1: MOV EAX,$2; L2:", "int r0 = *y ? 1 : 2;"],
+  ["int r0 = x.load() == 3 && v != 0 ? 4 : -1; v = (r0 == 4) ? r0 + 1 : r0;",
+    "MOV EBX,[x]; CMP EBX,$3; JNE L1; MOV EBX,[v]; CMP EBX,$0; JE L1; MOV EAX,$4; JMP L2; L1: MOV EAX,$4294967295; " +
+      "L2: CMP EAX,$4; JNE L3; MOV EBX,EAX; ADD EBX,$1; JMP L4; L3: MOV EBX,EAX; L4: MOV [v],EBX",
+    "int r0 = x->load() == 3 && *v != 0 ? 4 : -1; *v = (r0 == 4) ? r0 + 1 : r0;"],
+  ["int r0 = x; r0 = r0 == 1 ? r0 == 2 ? 3 : 4 : !r0 ? 5 : 6;",
+    "MOV EAX,[x]; CMP EAX,$1; JNE L1; CMP EAX,$2; JNE L3; MOV EAX,$3; JMP L4; L3: MOV EAX,$4; L4: JMP L2; " +
+      "L1: CMP EAX,$0; JNE L5; MOV EAX,$5; JMP L6; L5: MOV EAX,$6; L6: L2:", "int r0 = *x; r0 = r0 == 1 ? r0 == 2 ? 3 : 4 : !r0 ? 5 : 6;"],
+  ["bool r0 = x ? true : 0; y += r0 ? 1 : 2;",
+    "MOV EBX,[x]; CMP EBX,$0; JE L1; MOV EAX,$1; JMP L2; L1: MOV EAX,$0; L2: CMP EAX,$0; JE L3; MOV EBX,$1; JMP L4; L3: MOV EBX,$2; " +
+      "L4: LOCK XADD [y],EBX", "bool r0 = *x ? true : 0; *y += r0 ? 1 : 2;"],
   // Exchanges and additions.
   ["atomic_exchange(&x, 1);", "MOV EAX,$1; XCHG [x],EAX", "atomic_exchange(x, 1);"],
   ["int r0 = atomic_exchange_explicit(&x, 1, memory_order_acq_rel);", "MOV EAX,$1; XCHG [x],EAX",
@@ -242,6 +255,30 @@ const MAINS = [
     ["MOV EAX,$1; XCHG [m],EAX; MOV EBX,[n]; ADD EBX,$1; MOV [n],EBX; MOV EBX,$0; XCHG [m],EBX",
       "MOV EAX,$1; XCHG [m],EAX; MOV ECX,[n]; ADD ECX,$1; MOV [n],ECX; MOV EBX,$2; MOV ECX,$0; XCHG [m],ECX"],
     "~exists (0:EAX=0 /\\ 1:EAX=0 /\\ ~n=2)"],
+  // Relations of variables, which are 0 or 1.
+  [ATOMICS, `${TWO_THREADS} ${JOINS} assert(r1 + r2 >= 1);`, STORE_THEN_LOAD, NEVER],
+  [ATOMICS, `${TWO_THREADS} ${JOINS} assert(r1 > 0 || 1 <= r2);`, STORE_THEN_LOAD, NEVER],
+  [ATOMICS, `${TWO_THREADS} ${JOINS} assert(!(r1 < r2));`, STORE_THEN_LOAD, "~exists (0:EAX=0 /\\ 1:EAX=1)"],
+  [ATOMICS, `${TWO_THREADS} ${JOINS} assert(x.load() == atomic_load_explicit(&y, std::memory_order_relaxed));`, STORE_THEN_LOAD,
+    "~exists (x=0 /\\ y=1 \\/ x=1 /\\ y=0)"],
+  [ATOMICS, `${TWO_THREADS} ${JOINS} if (r1 == r2 && x > y) puts("");`, STORE_THEN_LOAD,
+    "exists ((0:EAX=0 /\\ 1:EAX=0 \\/ 0:EAX=1 /\\ 1:EAX=1) /\\ x=1 /\\ y=0)"],
+  [ATOMICS, `${TWO_THREADS} ${JOINS} if (r1 + r2 < 2 * x) puts("");`, STORE_THEN_LOAD, 
+    "exists (0:EAX=0 /\\ x=1 \\/ 0:EAX=1 /\\ 1:EAX=0 /\\ x=1)"],
+  [ATOMICS, `${TWO_THREADS} ${JOINS} assert(r1 >= 0);`, STORE_THEN_LOAD, "forall (0:EAX=0 \\/ 0:EAX=1)"],
+  [ATOMICS, `${TWO_THREADS} ${JOINS} assert(r1 - 1 < 0);`, STORE_THEN_LOAD, "~exists (0:EAX=1)"],
+  [ATOMICS, `${TWO_THREADS} ${JOINS} assert(r1 > -1 && r2 != -2);`, STORE_THEN_LOAD, "forall ((0:EAX=0 \\/ 0:EAX=1) /\\ ~1:EAX=4294967294)"],
+  // Assertions in branches.
+  [ATOMICS, `${TWO_THREADS} ${JOINS} if (r1 == 0) { assert(r2 == 1); }`, STORE_THEN_LOAD, "forall (~0:EAX=0 \\/ 1:EAX=1)"],
+  [ATOMICS, `${TWO_THREADS} ${JOINS} if (!r1) assert(r2 != 0 && "a (b"); else if (x == 1) { puts(""); assert(y == 1); }`, STORE_THEN_LOAD,
+    "forall ((~0:EAX=0 \\/ ~1:EAX=0) /\\ (0:EAX=0 \\/ ~x=1 \\/ y=1))"],
+  [ATOMICS, `${TWO_THREADS} ${JOINS} assert(x == 1); if (r1 < r2) { if (y) { assert(r1 == r2); } return 1; } return 0;`, STORE_THEN_LOAD,
+    "forall (x=1 /\\ (~0:EAX=0 \\/ ~1:EAX=1 \\/ y=0 \\/ 0:EAX=0 /\\ 1:EAX=0 \\/ 0:EAX=1 /\\ 1:EAX=1))"],
+  [ATOMICS, `${TWO_THREADS} ${JOINS} if (!r1 && !r2) { puts(""); assert(false); }`, STORE_THEN_LOAD, NEVER],
+  // Variables of `main` that have values.
+  [ATOMICS, `${TWO_THREADS} ${JOINS} bool both = r1 == 0 && r2 == 0; assert(!both);`, STORE_THEN_LOAD, NEVER],
+  [ATOMICS, `${TWO_THREADS} ${JOINS} const int sum = r1 + r2; bool some = sum; int twice = sum * 2; if (some != 1 || twice == 0) puts("");`, STORE_THEN_LOAD, BOTH_0],
+  [ATOMICS, `${TWO_THREADS} ${JOINS} int a = x.load(); int b = y; assert(a <= b);`, STORE_THEN_LOAD, "~exists (x=1 /\\ y=0)"],
   [`${ATOMICS}// lw: exists (r1=7)\n`, `${TWO_THREADS} ${JOINS} assert(r1 == 0);`, STORE_THEN_LOAD, "exists (0:EAX=7)"],
 ];
 // What is refused in a `main`: a part of the program, what is in its place, and why.
@@ -255,10 +292,13 @@ const OF_LOOPS = ": write out each pass of a loop. `tools/from_c.py` follows loo
 const OF_RUNNING = ": while threads run, `main` only starts others and joins them, so give this to a thread of its own";
 const OF_BEFORE = ": before its threads, `main` only declares variables, and sets them to constants, as `x = 0;`";
 const OF_RUNS = ": one run is enough, since the page lists all final states";
-const OF_FORMULAS = ": what `main` asks compares variables with constants by `==` or `!=`, joined by `&&` and `||`";
+const OF_FORMULAS = ": what `main` asks compares variables, constants and sums of them, joined by `&&` and `||`";
+const OF_LEFT = ": an assertion follows no `return` in a branch";
+const OF_WORDS = ": the page writes the words for which this holds, and here these are too many, or not known";
+const OF_SIGNS = ": here words below 0 are compared or computed with, and types without a sign are in the program, so that it is not sure what holds";
 const makeUnset = (name) => `: its passes begin alike if it sets \`${name}\` before the threads`;
 const REFUSED_MAINS = [
-  ["  std::thread t1", "  for (int i = 0; i < 9; i++) {} std::thread t1", `\`for (int i = 0; i < 9; i++)\`${OF_RUNS}`],
+  ["  std::thread t1", "  for (int i = 0; i < 9; i++) { puts(\"\"); } std::thread t1", `\`for (int i = 0; i < 9; i++)\`${OF_RUNS}`],
   ["  std::thread t1", "  for (;;) {} std::thread t1", `\`for (;;)\`${OF_RUNS}`],
   ["int main", "void set() { x = 3; return; y = 4; }\nint main", "`y = 4`: no run comes here after a `return`", "  std::thread t1", "  set(); std::thread t1"],
   ["  std::thread t1", "  return 0; std::thread t1", "`std::thread t1([&] { x.store(1, std::mem..`: no run comes here after a `return`"],
@@ -266,10 +306,8 @@ const REFUSED_MAINS = [
   ["  std::thread t1", "  int i = y; std::thread t1", "`int i = y`: an initial value is one constant, as in `x = 1` or `x{1}`, and of a `bool` 0 or 1"],
   ["  std::thread t1", "  x++; std::thread t1", `\`x++\`${OF_BEFORE}`],
   ["  std::thread t1", "  int r1; std::thread t1", "`int r1`: give it a name that no other variable has"],
-  ["  t1.join();", "  x = 2; t1.join();", `\`x = 2\`${OF_RUNNING}`],
   ["  t1.join();", "  printf(\"%d\", x++); t1.join();", `\`printf("%d", x++)\`${OF_RUNNING}`],
   ["  t1.join();", "  t1.join(); std::thread t3([] { x = 2; });", "`std::thread t3([] { x = 2; })`: `main` starts all threads before it joins one"],
-  ["int main", "void sleep_well() { x = 3; }\nint main", `\`sleep_well()\`${OF_RUNNING}`, "t1.join();", "sleep_well(); t1.join();"],
   ["int main", "void cpu_relax() { x = 3; }\nint main", `\`while (x == 0)\`${OF_LOOPS}`, "[&] {", "[&] { while (x == 0) { cpu_relax(); }"],
   ["int main", "void barrier() { x = 3; barrier(); }\nint main", "`barrier()`: write what the function does in its place", "[&] {", "[&] { barrier();"],
   ["  t1.join();", "  exit(0); t1.join();", `\`exit(0)\`${OF_RUNNING}`],
@@ -282,8 +320,17 @@ const REFUSED_MAINS = [
   ["  assert", "  x = 3; assert", "`x = 3`: after the joins, `main` only prints, or asks by an `assert` or an `if`"],
   ["  assert", "  if (r1 == 3) x = 3; assert", "`x = 3`: after the joins, `main` only prints, or asks by an `assert` or an `if`"],
   ["  assert", "  if (r1 == 3) puts(\"\"); assert", "`assert(r1 == 1 || r2 == 1)`: `main` asks only once"],
-  ["r1 == 1 ||", "r1 > 1 ||", `\`assert(r1 > 1 || r2 == 1)\`${OF_FORMULAS}`],
-  ["r1 == 1 ||", "r1 == r2 ||", `\`assert(r1 == r2 || r2 == 1)\`${OF_FORMULAS}`],
+  ["r1 == 1 ||", "r1 == &r2 ||", `\`assert(r1 == &r2 || r2 == 1)\`${OF_FORMULAS}`],
+  ["r1 == 1 ||", "r1++ > 1 ||", `\`assert(r1++ > 1 || r2 == 1)\`${OF_FORMULAS}`],
+  ["r1 == 1 ||", "(r1 ? 1 : 2) < 2 ||", `\`assert((r1 ? 1 : 2) < 2 || r2 == 1)\`${OF_FORMULAS}`],
+  ["r1 == 1 || r2 == 1", "r1 - r2 < 1", `\`assert(r1 - r2 < 1)\`${OF_SIGNS}`, "int r1", "unsigned r1"],
+  ["r1 == 1 || r2 == 1", "r1 < 1", `\`assert(r1 < 1)\`${OF_WORDS}`, "r1 = y", "r1 = 0; x++; x++; x++; x++; x++; x++; x++; x++; x++; r1 = x"],
+  ["  assert", "  int n = x++; assert", "`int n = x++`: after the joins, `main` only prints, or asks by an `assert` or an `if`"],
+  ["  assert", "  bool n = r1; n = true; assert", "`n = true`: after the joins, `main` only prints, or asks by an `assert` or an `if`"],
+  ["  t1.join();", "  bool n = r1 == 0; t1.join();", `\`bool n = r1 == 0\`${OF_RUNNING}`],
+  ["  assert", "  if (r1) { return 0; assert(r2); } assert", `\`assert(r2)\`${OF_LEFT}`],
+  ["  assert", "  if (r1) { assert(r2); return 0; } assert", `\`assert(r1 == 1 || r2 == 1)\`${OF_LEFT}`],
+  ["  assert", "  if (r1) { assert(r2); x = 3; } assert", "`x = 3`: after the joins, `main` only prints, or asks by an `assert` or an `if`"],
   ["r1 == 1 ||", "r1 = 1 ||", `\`assert(r1 = 1 || r2 == 1)\`${OF_FORMULAS}`],
   ["r1 == 1 ||", "r3 == 1 ||", "`r3`, of which the question asks: nothing sets it"],
   ["x.store", "x.exchange", "`x.exchange(1, std::memory_order_relaxed)`, of which compilers make different code"],
@@ -317,7 +364,7 @@ const OF_SUBTRACTION = ": the x86 format subtracts constants only";
 const OF_COMPARISONS = ": compare in the condition of an `if`";
 const OF_NAMES = ": all functions are threads, `P0`, `P1` and so on, in this order";
 const UNSET = ", of which the question asks: nothing sets it";
-const OF_CONDITIONS = ": a condition compares by `==` or `!=`, and has `&&` at most";
+const OF_CONDITIONS = ": a condition compares by `==` or `!=`, and has `&&` or, in an `if`, `||`";
 const OF_STEPS = ": write `++` and `--` of a thread's own variable in a statement of its own";
 const OF_PLAIN_STEPS = ": write `++` and `--` of a variable that is not atomic in a statement of its own";
 const OF_LOADS = ": load each shared variable into one of the thread first, since compilers choose which is first";
@@ -340,8 +387,13 @@ const OF_SMALL = ": a variable of 8 or 16 bits is set to a constant from 0 to 12
 const OF_WIDE = ": the page takes words of 64 bits as words of 32, which sums or constants of this program may exceed";
 const OF_REGISTERS = ", which needs more than six registers";
 const OF_ENTRIES = ": initial values are entries as `x=1;`";
-const OF_BRANCHED = ": an assertion is in no branch, and after no `return`";
-const OF_ASSERTIONS = ": an assertion compares variables with constants by `==` or `!=`, joined by `&&` and `||`";
+const OF_BRANCHED = ": an `if` around an assertion compares variables, which keep their words after it";
+const OF_RETURNS = ": before an assertion, a `return` is the end of an `if` that is in no other one";
+const OF_POINTERS = ": a pointer is rewritten only if the program makes one object of its type, so write variables in place of pointers, and of what they point to";
+const OF_WAITS = ", so write a loop that waits for a variable, as `while (x == 0) ;`";
+const OF_CHOICES = ": what `?` chooses are constants and variables of the thread";
+const OF_SUMS = ": give what is added a variable of its own";
+const OF_ASSERTIONS = ": an assertion compares variables, constants and sums of them, joined by `&&` and `||`";
 const OF_ENDLESS = ": the thread may still wait after this, in a loop or for a lock, so assert it at the end of `main`";
 const OF_OTHER_THREADS = ": another thread may still wait then, in a loop or for a lock, so assert it at the end of `main`";
 const NO_ORDER = ": no order of memory has this name; they are `relaxed`, `consume`, `acquire`, `release`, `acq_rel` and `seq_cst`";
@@ -428,7 +480,7 @@ const REFUSED = [
   ["int r0 = y;", "int r0 = y; bool r1 = r0 == 2 && !(r0 & 1);", "`bool r1 = r0 == 2 && !(r0 & 1)`: the x86 format has sums only"],
   ["int r0 = y;", "int r0 = y; int r1 = r0 == x;", `\`int r1 = r0 == x\`${OF_SIDES}`],
   ["int r0 = y;", "int r0; int r1 = r0;", `\`int r1 = r0\`: \`r0\`${OF_VALUE}`],
-  ["int r0 = y;", "int *r0 = &y;", "`int *r0 = &y`: threads have no pointers of their own"],
+  ["int r0 = y;", "int *r0 = &y;", `\`int *r0 = &y\`${OF_POINTERS}`],
   ["int r0 = y;", "float r0 = y;", "`float r0 = y`: a variable is an integer, as `int r0`"],
   ["int r0 = y;", "char r0 = y;", `\`char r0 = y\`${OF_SMALL}`],
   ["int r0 = y;", "uint8_t r0 = 128;", `\`uint8_t r0 = 128\`${OF_SMALL}`],
@@ -450,7 +502,7 @@ const REFUSED = [
     "`int r0 = atomic_fetch_or(&y, 1)`: of locked instructions the x86 format has only exchange and addition"],
   ["int r0 = y;", "int e = 0, r0 = atomic_compare_exchange_strong(&y, &e, 2);", `\`int e = 0, r0 = atomic_compare_exchange_..\`${OF_SWAPS}`],
   ["int r0 = y;", "int r0 = atomic_load_explicit(&y, memory_order_relaxd);", `\`int r0 = atomic_load_explicit(&y, memory..\`${NO_ORDER}`],
-  ["int r0 = y;", "\n#if 0\natomic_thread_fence(memory_order_seq_cst);\n#endif\nint r0 = y;", `\`#if 0 atomic_thread_fence(memory_order_s..\`${OF_DIRECTIVES}`],
+  ["int r0 = y;", "\n#if FENCE\natomic_thread_fence(memory_order_seq_cst);\n#endif\nint r0 = y;", `\`#if FENCE\`${OF_DIRECTIVES}`],
   ["int r0 = y;", "int e = y, r0 = atomic_compare_exchange_strong(&y, &e, 1);", `\`int e = y, r0 = atomic_compare_exchange_..\`${OF_NO_CONSTANTS}`],
   ["int r0 = y;", "int r0 = y.compare_exchange_strong(1, 1);", `\`int r0 = y.compare_exchange_strong(1, 1)\`${OF_NO_CONSTANTS}`],
   ["int r0 = y;", "int e = 0; y.compare_exchange_strong(e, 1); int r0 = y.compare_exchange_weak(e, 1);", `\`int r0 = y.compare_exchange_weak(e, 1)\`${OF_NO_CONSTANTS}`],
@@ -475,7 +527,8 @@ const REFUSED = [
   ["void P1(void) { y = 1;", "void *P1(void *argument) { y = argument;", "`y = argument`: `argument` is not declared"],
   ["void P1(void)", "int main(void) { return 0; }\nvoid P1(void)", "`}`: `main` starts no thread, so leave it out"],
   ["x = 1;", "if (y < 1) x = 1;", `\`if (y < 1)\`${OF_CONDITIONS}`],
-  ["x = 1;", "if (y == 1 || y == 2) x = 1;", `\`if (y == 1 || y == 2)\`${OF_CONDITIONS}`],
+  ["x = 1;", "if ((y == 1 || x) && y == 2) x = 1;", `\`if ((y == 1 || x) && y == 2)\`${OF_CONDITIONS}`],
+  ["int r0 = y;", "int r0 = 0; if (x == 1 || y ? 0 : 1) x = 2;", `\`if (x == 1 || y ? 0 : 1)\`${OF_CONDITIONS}`],
   ["x = 1;", "if (y == x) x = 1;", `\`if (y == x)\`${OF_SIDES}`],
   ["x = 1;", "if (y = 1) x = 1;", `\`if (y = 1)\`${OF_ASSIGNMENTS}`],
   ["x = 1;", "if (f(y) == 1) x = 1;", "`if (f(y) == 1)`: write what the function does in its place"],
@@ -503,16 +556,31 @@ const REFUSED = [
   ["int r0 = y;", "int r0 = y; y.fetch_add(r0, std::memory_order_relaxed);", `\`y.fetch_add(r0, std::memory_order_relaxe..\`${OF_ORDER}`],
   ["int r0 = y;", "int r0 = y; y.fetch_sub(0, std::memory_order_release);", `\`y.fetch_sub(0, std::memory_order_release..\`${OF_ORDER}`],
   ["int r0 = y;", "atomic_int r0 = y;", "`atomic_int r0 = y`: a thread's own variable is not atomic, as `int r0`"],
-  ["int r0 = y;", "int r0 = y ? 1 : 2;", "`int r0 = y ? 1 : 2`: write an `if`"],
+  ["int r0 = y;", "int r0 = y ? x : 2;", `\`int r0 = y ? x : 2\`${OF_CHOICES}`],
+  ["int r0 = y;", "int r0 = y; r0 = r0 ? r0++ : 2;", "`r0 = r0 ? r0++ : 2`: write an `if`"],
+  ["int r0 = y;", "int r0 = (y ? 1 : 2) + 1;", "`int r0 = (y ? 1 : 2) + 1`: write an `if`"],
+  ["int r0 = y;", "y ? x = 1 : x = 2;", "`y ? x = 1 : x = 2`: write an `if`"],
+  ["int r0 = y;", "if (x == 1 && y ? 0 : 1) x = 2;", `\`if (x == 1 && y ? 0 : 1)\`${OF_CONDITIONS}`],
+  ["int r0 = y;", "int r0 = y > 1 ? 1 : 2;", `\`int r0 = y > 1 ? 1 : 2\`${OF_CONDITIONS}`],
+  ["int r0 = y;", "int r0 = y; r0 += r0 == 1 ? 1 : 2;", `\`r0 += r0 == 1 ? 1 : 2\`${OF_SUMS}`],
+  ["int r0 = y;", "int r0 = y; r0 += r0 == 1;", `\`r0 += r0 == 1\`${OF_SUMS}`],
+  ["int r0 = y;", "int r0 = y; d += r0 ? 1 : 2;", `\`d += r0 ? 1 : 2\`${OF_SUMS}`, "y = 1;", "d = 1;"],
+  ["int r0 = y;", "bool r0 = y ? 5 : 6;", "`bool r0 = y ? 5 : 6`: a `bool` is set to `true`, `false`, or another `bool` that is loaded"],
   ["int r0 = y;", "lw_see(r0, y);", "`lw_see(r0, y)`: the question names the variable itself, as `0:r0`"],
   ["int r0 = y;", "int r0 = xchg(y, 2);", "`int r0 = xchg(y, 2)`: `y` is no pointer, as `&y` is"],
   ["int r0 = y;", "do x = 1; while (y != 1);", `\`do x = 1; while (y != 1)\`${OF_LOOPS}`],
   ["int r0 = y;", "do { x = 1; y = 2; } while (y != 1);", `\`do\`${OF_LOOPS}`],
   ["int r0 = y;", "while (y != 1) x = 2;", `\`while (y != 1)\`${OF_LOOPS}`],
   ["int r0 = y;", "while (y.load() != 1) { cpu_relax(); x = 1; }", `\`while (y.load() != 1)\`${OF_LOOPS}`],
-  ["int r0 = y;", "if (y) assert(x == 1);", `\`assert(x == 1)\`${OF_BRANCHED}`],
-  ["int r0 = y;", "if (y) return; assert(x == 1);", `\`assert(x == 1)\`${OF_BRANCHED}`],
-  ["int r0 = y;", "assert(x < 1);", `\`assert(x < 1)\`${OF_ASSERTIONS}`],
+  ["int r0 = y;", "if (y + 1 == 2) assert(x == 1);", `\`assert(x == 1)\`${OF_BRANCHED}`],
+  ["int r0 = y;", "int a = y; if (a) a = 0; else assert(x == 1);", `\`assert(x == 1)\`${OF_BRANCHED}`],
+  ["int r0 = y;", "int a = y; if (a) { a++; assert(x == 1); }", `\`assert(x == 1)\`${OF_BRANCHED}`],
+  ["int r0 = y;", "int a = y; if (a) { assert(x == 1); a = 0; }", `\`a = 0\`${OF_FIXED}`],
+  ["int r0 = y;", "if (y) { if (x) return; } assert(x == 1);", `\`assert(x == 1)\`${OF_RETURNS}`],
+  ["int r0 = y;", "abort(); int r0 = y;", "`abort()`: an assertion that never holds is in a branch"],
+  ["int r0 = y;", "assert(x < y);", `\`assert(x < y)\`${OF_LOADS}`],
+  ["int r0 = y;", "assert((x = 1));", `\`assert((x = 1))\`${OF_ASSERTIONS}`],
+  ["// lw: exists (0:r0=0 /\\ 1:r0=0)", "", `\`assert(x < 1)\`${OF_WORDS}`, "int r0 = y;", "assert(x < 1); x++; x++; x++; x++; x++; x++; x++; x++;"],
   ["int r0 = y;", "int r0 = y; assert(r0 == 1);", "`assert(r0 == 1)`: the program asks something else, so leave this out"],
   ["int r0 = y;", "int r0 = y; assert(r0 == 1); r0 = 2;", `\`r0 = 2\`${OF_FIXED}`],
   ["// lw: exists (0:r0=0 /\\ 1:r0=0)", "", `\`assert(r0 == 1)\`${OF_ENDLESS}`, "int r0 = y;", "int r0 = y; assert(r0 == 1); while (x) ;"],
@@ -522,7 +590,20 @@ const REFUSED = [
   ["int r0 = y;", "printf(\"%d %d\", x, y);", `\`printf("%d %d", x, y)\`${OF_LOADS}`],
   ["int r0 = y;", "goto L;", "`goto L`: `goto` and labels are not rewritten"],
   ["// lw", "x = 1;\n// lw", `\`x = 1;\`${OF_GLOBALS}`],
-  ["int d;", "double d;", `\`double d;\`${OF_GLOBALS}`],
+  ["int d;", "double d;", "`double d;`: a variable is an integer, as `int r0`", "int r0 = y;", "int r0 = y; d = 1;"],
+  ["int d;", "std::atomic<int*> d;", `\`std::atomic<int*> d;\`${OF_POINTERS}`, "int r0 = y;", "int r0 = y; d = 1;"],
+  ["int d;", "struct Node { int v; struct Node *next; };", `\`struct Node *next;\`${OF_POINTERS}`, "int r0 = y;", "int r0 = y; struct Node k;"],
+  ["int d;", "std::vector<int> d;", "`std::vector<int> d;`: a test has locations of one word each, so declare a variable for each word", "int r0 = y;", "int r0 = y; d = 1;"],
+  ["int d;", "std::shared_mutex d;", "`std::shared_mutex d;`: the page follows locks that only one thread has, as `std::mutex`", "int r0 = y;", "int r0 = y; d = 1;"],
+  ["int d;", "std::recursive_mutex d;", "`std::recursive_mutex d;`: the page follows mutexes that no thread locks twice, as `std::mutex`", "int r0 = y;", "int r0 = y; d = 1;"],
+  ["int d;", "std::condition_variable d;", `\`std::condition_variable d;\`: the page follows no waits for a condition${OF_WAITS}`, "int r0 = y;", "int r0 = y; d = 1;"],
+  ["int d;", "pthread_cond_t d;", `\`pthread_cond_t d;\`: the page follows no waits for a condition${OF_WAITS}`, "int r0 = y;", "int r0 = y; d = 1;"],
+  ["int d;", "sem_t d;", `\`sem_t d;\`: the page follows only semaphores that begin and end rounds of threads${OF_WAITS}`, "int r0 = y;", "int r0 = y; d = 1;"],
+  ["int d;", "std::barrier d(2);", `\`std::barrier d(2);\`: the page follows no barriers of threads${OF_WAITS}`],
+  ["int d;", "std::once_flag d;", "`std::once_flag d;`: the page follows no `call_once`, so do this before the threads", "int r0 = y;", "int r0 = y; d = 1;"],
+  ["int d;", "std::future<int> d;", "`std::future<int> d;`: the page follows threads, as `std::thread`, and no futures"],
+  ["int r0 = y;", "int *r0 = new int(1);", "X86 Mine\n(* 0:EAX is a_int, 0:EBX is r0, 1:EAX is r0 *)\n{ x=0; y=0; }\n P0           | P1           ;\n MOV ECX,$1   | MOV EBX,$1   ;\n XCHG [x],ECX | XCHG [y],EBX ;\n MOV EAX,$1   | MOV EAX,[x]  ;\n MOV EBX,$1   |              ;\nlocations [y]\nexists (0:EBX=0 /\\ 1:EAX=0)\n"],
+  ["int r0 = y;", "x.wait(0);", `\`x.wait(0)\`: the page follows no \`wait\` and \`notify\`${OF_WAITS}`],
   ["int d;", "int d[N];", `\`int d[N];\`${OF_GLOBALS}`],
   ["int d;", "int d[2] = {1, 2, 3};", `\`int d[2] = {1, 2, 3};\`${OF_VALUES}`],
   ["int d;", "int d_0, d[2];", `\`int d_0, d[2];\`${OF_LONE}`],
@@ -531,15 +612,15 @@ const REFUSED = [
   ["int d;", "int d[2];", `\`d[r0] = 1\`${OF_INDICES}`, "int r0 = y;", "int r0 = y; d[r0] = 1;"],
   ["int r0 = y;", "int a[2];", `\`int a[2]\`${OF_INDICES}`],
   ["int r0 = y;", "int a[2] = {1, 2};", `\`int a[2] = {1, 2}\`${OF_INDICES}`],
-  ["int d;", "int *d;", `\`int *d;\`${OF_GLOBALS}`],
+  ["int d;", "int *d;", `\`int *d;\`${OF_POINTERS}`, "int r0 = y;", "int r0 = y; d = 1;"],
   ["int d;", "#define N x + 1\nint d;", "`#define N x + 1`: write its text where it is used"],
   ["int d;", "#define F(a) 1\nint d;", "`#define F(a) 1`: write its text where it is used"],
   ["int r0 = y;", "std::atomic_ref<int> rd(d); rd = 1;", "`rd = 1`: `rd` is not declared"],
-  ["int d;", "struct s { float a; } d;", "`float a;`: a class has integers, `bool`, mutexes, arrays of these, and functions"],
+  ["int d;", "struct s { float a; } d;", "`float a;`: a variable is an integer, as `int r0`"],
   ["int d;", "struct s { int a = x; } d;", `\`struct s { int a = x; } d;\`${OF_VALUES}`],
   ["int d;", "struct s { int a; }; int d_a; struct s d;", `\`struct s d;\`${OF_LONE}`],
   ["int d;", "int d = x;", `\`int d = x;\`${OF_VALUES}`],
-  ["int d;", "atomic_short d = 128;", `\`atomic_short d = 128;\`${OF_VALUES}`],
+  ["int d;", "atomic_short d = 128;", "`atomic_short d = 128;`: a variable of 8 or 16 bits has a constant from 0 to 127 here"],
   ["int d;", "atomic_bool d = 2;", `\`atomic_bool d = 2;\`${OF_VALUES}`],
   ["int d;", "atomic_bool d;", `\`d = 2\`${OF_BOOLS}`, "x = 1;", "d = 2;"],
   ["int d;", "atomic_bool d;", `\`d++\`${OF_BOOLS}`, "x = 1;", "d++;"],
@@ -570,7 +651,6 @@ const PLACES = [
   ["struct S { ", " };\nS s;\nvoid f() { s.g(); }\n"], ["void f(int i) { ", " }\nint main() { std::thread t(f, 1); t.join(); }\n"],
   ["void f() { x[", "] = 1; }"], ["void f() { int r = ", "; }"], ["int main() { for (;;) { ", " std::thread t(f); t.join(); } }"],
 ];
-const SLOWEST = 2000;
 
 /** Returns the instructions of a thread of a test, joined by `; `. */
 function listInstructions(text, thread) {
@@ -600,7 +680,8 @@ export async function loadModules(names) {
 function findHint(page, text) {
   const place = { text, index: text.search(/\S/), token: /\w+|\S/.exec(text)?.[0] ?? "", change: null };
   place.proposeChange = (put, begin, end) => Object.assign(place, { change: { begin, end, text: put } });
-  return { ...page.other_tools.findOtherLanguage(place), change: place.change };
+  const hint = page.other_tools.findOtherLanguage(place);
+  return { ...hint, change: place.change ?? hint?.change ?? null };
 }
 
 /** Returns whether the part of a program that is refused is at its index. There is no index if lw refuses the test. */
@@ -629,10 +710,9 @@ function compareTimes(page, compare) {
   const begin = "std::atomic<int> x;\nint r;\n";
   for (const [before, after] of PLACES) {
     for (const long of LONG) {
-      const start = performance.now();
-      const { why = "" } = page.c_program.rewriteProgram(`${begin}${before}${long}${after}`);
-      const isFast = performance.now() - start < SLOWEST;
-      compare(`the time of ${long.slice(0, 10)}.. in ${before}`, [true, false], [isFast, /call stack/.test(why)]);
+      let why;
+      const took = measure(() => ({ why = "" } = page.c_program.rewriteProgram(`${begin}${before}${long}${after}`)));
+      compare(`the time of ${long.slice(0, 10)}.. in ${before}`, [true, false], [took < SLOWEST || took, /call stack/.test(why)]);
     }
   }
 }
@@ -676,6 +756,7 @@ function comparePrograms(page, compare) {
     const made = change && [change.begin, change.end, change.title, isRead(change.text)];
     compare(`the change of ${what}`, place === undefined ? [0, text.length, "Rewrite it as an x86 test", true] : null, made);
   }
+  compareSlips(page, compare);
   for (const [language, text] of OTHERS) {
     const { words } = findHint(page, text);
     compare(`the hint on ${language}: ${text}`, `This begins as a program in ${language} does. ${IS_READ}`, words);
@@ -823,6 +904,32 @@ forall (x=2 /\\ d=4)
 locations [x; y]
 exists (true)
 `],
+  ["an end of the program in an `else`", `volatile int x, y; int r1, r2;
+void f() { x = 1; r1 = y; }
+void g() { y = 1; r2 = x; }
+int main() { std::thread a(f), b(g); a.join(); b.join(); if (r1 || r2) printf("ok"); else abort(); }
+`, `X86 Mine
+(* 0:EAX is r1, 1:EAX is r2 *)
+${BLOCK} P0          | P1          ;
+ MOV [x],$1  | MOV [y],$1  ;
+ MOV EAX,[y] | MOV EAX,[x] ;
+~exists (0:EAX=0 /\\ 1:EAX=0)
+`],
+  ["variables that conditions declare", "std::atomic<int> x, y;\nvoid P0() { if (int r = x.load()) { y.store(2, std::memory_order_release); } else y.store(r + 3, std::memory_order_relaxed); }\n" +
+    "void P1() { if (auto r = y.load(); r == 2) { x.store(5, std::memory_order_release); } int k = x.load(); }\n// lw: exists (1:k=5)\n", `X86 Mine
+(* 0:EAX is r, 1:EAX is r, 1:EBX is k *)
+${BLOCK} P0              | P1              ;
+ MOV EAX,[x]     | MOV EAX,[y]     ;
+ CMP EAX,$0      | CMP EAX,$2      ;
+ JE L1           | JNE L1          ;
+ MOV [y],$2      | MOV [x],$5      ;
+ JMP END         | L1: MOV EBX,[x] ;
+ L1: MOV EBX,EAX |                 ;
+ ADD EBX,$3      |                 ;
+ MOV [y],EBX     |                 ;
+ END:            |                 ;
+exists (1:EBX=5)
+`],
   ["no question, and a location that two threads write", "volatile int x, y, z;\nvoid P0() { x = 1; y = 1; }\nvoid P1() { y = 2; z = 3; int r0 = x; }\n",
     `X86 Mine
 (* 1:EAX is r0 *)
@@ -902,6 +1009,7 @@ void P0() noexcept { x.store(ONE, rlx); int r0 = y.load(ACQUIRE); std::atomic_re
 exists (0:r0=1)
 `, `X86 Mine
 (* 0:EAX is r0, 1:EAX is y after its loop *)
+(* every wait ends: ~1:EAX=2 *)
 { x=0; y=2; plain=0; }
  P0             | P1             ;
  MOV [x],$1     | MOV EAX,[y]    ;
@@ -943,6 +1051,7 @@ void consumer() {
 int main() { std::thread a(producer), b(consumer); a.join(); b.join(); }
 `, `X86 Mine
 (* 1:EAX is ready after its loop, 1:EBX is seen, 1:ECX is data as asserted *)
+(* every wait ends: 1:EAX=1 *)
 { data=0; ready=0; }
  P0             | P1              ;
  MOV [data],$42 | MOV EAX,[ready] ;
@@ -955,6 +1064,7 @@ void P0() { x = 1; if (!y) r0 = 1; }
 void P1() { y = 1; if (x == 0) r1 = 1; }
 `, `X86 Mine
 (* 0:EAX is y in its condition, 0:EBX is r0, 1:EAX is x in its condition, 1:EBX is r1 *)
+(* both threads enter their if: 0:EAX=0 /\\ 1:EAX=0 *)
 { x=0; y=0; }
  P0          | P1          ;
  MOV [x],$1  | MOV [y],$1  ;
@@ -971,6 +1081,8 @@ void P0() { x.store(1, std::memory_order_relaxed); if (y.load() == 0) { n++; x.s
 void P1() { y.store(1, std::memory_order_relaxed); if (!x.load()) { n += 1; y.store(0, std::memory_order_release); } }
 `, `X86 Mine
 (* 0:EAX is y in its condition, 1:EAX is x in its condition *)
+(* both threads enter their if: 0:EAX=0 /\\ 1:EAX=0 *)
+(* an addition to n is lost: ~n=2 *)
 { x=0; y=0; n=0; }
  P0          | P1          ;
  MOV [x],$1  | MOV [y],$1  ;
@@ -989,6 +1101,8 @@ void f() { a = true; if (!b) { n++; } a = false; }
 void g() { b = true; if (!a) { n++; } b = false; }
 `, `X86 Mine
 (* 0:EAX is b in its condition, 1:EAX is a in its condition *)
+(* both threads enter their if: 0:EAX=0 /\\ 1:EAX=0 *)
+(* an addition to n is lost: ~n=2 *)
 { a=0; b=0; n=0; }
  P0             | P1             ;
  MOV EBX,$1     | MOV EBX,$1     ;
@@ -1094,6 +1208,7 @@ int main() {
 }
 `, `X86 Mine
 (* 2:EAX is x after its loop, 3:EAX is y after its loop *)
+(* every wait ends: 2:EAX=1 /\\ 3:EAX=1 *)
 { x=0; y=0; z=0; }
  P0           | P1           | P2                | P3                ;
  MOV EAX,$1   | MOV EAX,$1   | MOV EAX,[x]       | MOV EAX,[y]       ;
@@ -1105,6 +1220,105 @@ int main() {
               |              | END:              | END:              ;
 ~exists (2:EAX=1 /\\ 3:EAX=1 /\\ z=0)
 `],
+  ["an assertion in a branch", `std::atomic<bool> ready{false}; std::atomic<int> data{0};
+void P0() { data.store(42, std::memory_order_relaxed); ready.store(true, std::memory_order_release); }
+void P1() { if (ready.load(std::memory_order_acquire)) assert(data.load(std::memory_order_relaxed) == 42); }
+`, `X86 Mine
+(* 1:EAX is ready in its condition, 1:EBX is data as asserted *)
+{ ready=0; data=0; }
+ P0             | P1              ;
+ MOV [data],$42 | MOV EAX,[ready] ;
+ MOV [ready],$1 | CMP EAX,$0      ;
+                | JE END          ;
+                | MOV EBX,[data]  ;
+                | END:            ;
+forall (1:EAX=0 \\/ 1:EBX=42)
+`],
+  ["an assertion after a return, and a relation", `std::atomic<int> x, y; int r1, r2;
+void P0() { x.store(1, std::memory_order_relaxed); y.store(1, std::memory_order_relaxed); }
+void P1() { r1 = y; if (r1 != 1) return; r2 = x; assert(r2 >= r1); }
+`, `X86 Mine
+(* 1:EAX is r1, 1:EBX is r2 *)
+{ x=0; y=0; }
+ P0         | P1              ;
+ MOV [x],$1 | MOV EAX,[y]     ;
+ MOV [y],$1 | CMP EAX,$1      ;
+            | JE L1           ;
+            | JMP END         ;
+            | L1: MOV EBX,[x] ;
+            | END:            ;
+~exists (1:EAX=1 /\\ 1:EBX=0)
+`],
+  ["assertions of variables of one name in two blocks", `std::atomic<int> x, y;
+void P0() { if (x == 1) { int r = y; assert(r == 1); } else { int r = y; assert(r <= 1); } }
+void P1() { y.store(1, std::memory_order_relaxed); x.store(1, std::memory_order_relaxed); }
+`, `X86 Mine
+(* 0:EAX is x in its condition, 0:EBX is r, 0:ECX is r_2 *)
+{ x=0; y=0; }
+ P0              | P1         ;
+ MOV EAX,[x]     | MOV [y],$1 ;
+ CMP EAX,$1      | MOV [x],$1 ;
+ JNE L1          |            ;
+ MOV EBX,[y]     |            ;
+ JMP END         |            ;
+ L1: MOV ECX,[y] |            ;
+ END:            |            ;
+forall ((~0:EAX=1 \\/ 0:EBX=1) /\\ (0:EAX=1 \\/ 0:ECX=0 \\/ 0:ECX=1))
+`],
+  ["assertions of threads and of main", `std::atomic<int> n{0}; int r[2];
+void w(int i) { r[i] = n.fetch_add(1); if (r[i] == 1) { assert(n == 2); } }
+int main() { std::thread a(w, 0), b(w, 1); a.join(); b.join(); assert(r[0] + r[1] == 1); assert(n == 2); }
+`, `X86 Mine
+(* 0:EAX is r_0, 0:EBX is n as asserted, 1:EAX is r_1, 1:EBX is n as asserted *)
+{ n=0; }
+ P0                | P1                ;
+ MOV EAX,$1        | MOV EAX,$1        ;
+ LOCK XADD [n],EAX | LOCK XADD [n],EAX ;
+ CMP EAX,$1        | CMP EAX,$1        ;
+ JNE END           | JNE END           ;
+ MOV EBX,[n]       | MOV EBX,[n]       ;
+ END:              | END:              ;
+forall ((~0:EAX=1 \\/ 0:EBX=2) /\\ (~1:EAX=1 \\/ 1:EBX=2) /\\ (~0:EAX=0 \\/ ~1:EAX=0) /\\ (~0:EAX=1 \\/ ~1:EAX=1) /\\ n=2)
+`],
+  ["branches that end the program", `std::atomic<int> x, y;
+void P0() { x.store(1, std::memory_order_release); y.store(1, std::memory_order_release); }
+void P1() { if (y == 1) { if (x != 1) abort(); } }
+void P2() { int r = x; if (r != 0 && y == 3) { puts(""); exit(1); } if (r == 2) assert(!"never"); }
+`, `X86 Mine
+(* 1:EAX is y in its condition, 1:EBX is x in its condition, 2:EAX is r, 2:EBX is y in its condition *)
+{ x=0; y=0; }
+ P0         | P1          | P2             ;
+ MOV [x],$1 | MOV EAX,[y] | MOV EAX,[x]    ;
+ MOV [y],$1 | CMP EAX,$1  | CMP EAX,$0     ;
+            | JNE END     | JE L1          ;
+            | MOV EBX,[x] | MOV EBX,[y]    ;
+            | CMP EBX,$1  | CMP EBX,$3     ;
+            | JE END      | JNE L1         ;
+            | END:        | L1: CMP EAX,$2 ;
+            |             | JNE END        ;
+            |             | END:           ;
+forall ((~1:EAX=1 \\/ 1:EBX=1) /\\ (2:EAX=0 \\/ ~2:EBX=3) /\\ ~2:EAX=2)
+`],
+  ["an assertion in the other branch of two comparisons, and one in a branch of two variables", `atomic_int x, y; int r;
+void P0() { if (x == 1 && y == 1) { r = 5; } else { int k = y; assert(x >= k); } }
+void P1() { int a = x, b = y; if (a == b) assert(b != 1); x.store(1, memory_order_release); y.store(1, memory_order_release); }
+`, `X86 Mine
+(* 0:EAX is x in its condition, 0:EBX is y in its condition, 0:ECX is r, 0:EDX is k, 0:ESI is x as asserted, 1:EAX is a, 1:EBX is b *)
+{ x=0; y=0; }
+ P0              | P1             ;
+ MOV EAX,[x]     | MOV EAX,[x]    ;
+ CMP EAX,$1      | MOV EBX,[y]    ;
+ JNE L1          | CMP EAX,EBX    ;
+ MOV EBX,[y]     | JNE L1         ;
+ CMP EBX,$1      | L1: MOV [x],$1 ;
+ JNE L1          | MOV [y],$1     ;
+ MOV ECX,$5      |                ;
+ JMP END         |                ;
+ L1: MOV EDX,[y] |                ;
+ MOV ESI,[x]     |                ;
+ END:            |                ;
+forall ((0:EAX=1 /\\ 0:EBX=1 \\/ ~0:ESI=0 \\/ ~0:EDX=1) /\\ (~1:EAX=0 \\/ ~1:EBX=0 \\/ ~1:EBX=1))
+`],
   ["a loop that exchanges, and an assertion of main", `#include <atomic>
 #include <thread>
 std::atomic<int> lock{0};
@@ -1113,6 +1327,7 @@ void f() { while (lock.exchange(1)) ; n++; lock.store(0); }
 int main() { std::thread a(f), b(f); a.join(); b.join(); assert(n == 2); }
 `, `X86 Mine
 (* 0:EAX is lock at its lock, 1:EAX is lock at its lock *)
+(* every wait ends: 0:EAX=0 /\\ 1:EAX=0 *)
 { lock=0; n=0; }
  P0              | P1              ;
  MOV EAX,$1      | MOV EAX,$1      ;
@@ -1133,6 +1348,7 @@ void P1() { while (f.test_and_set(std::memory_order_acquire)) { _mm_pause(); } n
 // lw: exists (n=1)
 `, `X86 Mine
 (* 0:EAX is f at its lock, 1:EAX is f at its lock *)
+(* every wait ends: 0:EAX=0 /\\ 1:EAX=0 *)
 { f=0; n=0; }
  P0           | P1           ;
  MOV EAX,$1   | MOV EAX,$1   ;
@@ -1153,6 +1369,8 @@ void inc() { std::lock_guard<std::mutex> g(m); ++counter; }
 int main() { std::thread t1(inc); std::thread t2(inc); t1.join(); t2.join(); std::cout << counter << std::endl; return 0; }
 `, `X86 Mine
 (* 0:EAX is m at its lock, 1:EAX is m at its lock *)
+(* every wait ends: 0:EAX=0 /\\ 1:EAX=0 *)
+(* an addition to counter is lost: ~counter=2 *)
 { m=0; counter=0; }
  P0                | P1                ;
  MOV EAX,$1        | MOV EAX,$1        ;
@@ -1171,6 +1389,8 @@ void *f(void *arg) { pthread_mutex_lock(&m); n++; pthread_mutex_unlock(&m); retu
 int main() { pthread_t a, b; pthread_mutex_init(&m, NULL); pthread_create(&a, NULL, f, NULL); pthread_create(&b, NULL, f, NULL); pthread_join(a, NULL); pthread_join(b, NULL); printf("%d\\n", n); pthread_mutex_destroy(&m); return 0; }
 `, `X86 Mine
 (* 0:EAX is m at its lock, 1:EAX is m at its lock *)
+(* every wait ends: 0:EAX=0 /\\ 1:EAX=0 *)
+(* an addition to n is lost: ~n=2 *)
 { m=0; n=0; }
  P0           | P1           ;
  MOV EAX,$1   | MOV EAX,$1   ;
@@ -1190,6 +1410,8 @@ void P0(void) { flag[0] = 1; turn = 1; while (flag[1] && turn == 1) ; n++; flag[
 void P1(void) { atomic_store(&flag[1], 1); atomic_store(&turn, 0); while (atomic_load(&flag[0]) == 1 && atomic_load(&turn) == 0) ; n++; atomic_store(&flag[1], 0); }
 `, `X86 Mine
 (* 0:EAX is flag_1 after its loop, 0:EBX is turn after its loop, 1:EAX is flag_0 after its loop, 1:EBX is turn after its loop *)
+(* every wait ends: (0:EAX=0 \\/ ~0:EBX=1) /\\ (~1:EAX=1 \\/ ~1:EBX=0) *)
+(* an addition to n is lost: ~n=2 *)
 { flag_0=0; flag_1=0; turn=0; n=0; }
  P0                | P1                ;
  MOV ECX,$1        | MOV ECX,$1        ;
@@ -1218,6 +1440,7 @@ void p1() { flag[1].store(true, std::memory_order_release); turn.store(0, std::m
 int main() { std::thread a(p0), b(p1); a.join(); b.join(); assert(n == 2); }
 `, `X86 Mine
 (* 0:EAX is flag_1 after its loop, 0:EBX is turn after its loop, 1:EAX is flag_0 after its loop, 1:EBX is turn after its loop *)
+(* every wait ends: (0:EAX=0 \\/ ~0:EBX=1) /\\ (1:EAX=0 \\/ ~1:EBX=0) *)
 { flag_0=0; flag_1=0; turn=0; n=0; }
  P0               | P1               ;
  MOV [flag_0],$1  | MOV [flag_1],$1  ;
@@ -1239,6 +1462,8 @@ void P0() { while (true) { if (!l.exchange(true, std::memory_order_acquire)) bre
 void P1() { while (l.exchange(true, std::memory_order_acquire)) { while (l.load(std::memory_order_relaxed)) { _mm_pause(); } } n += 1; l.store(false, std::memory_order_release); }
 `, `X86 Mine
 (* 0:EAX is l at its lock, 1:EAX is l at its lock *)
+(* every wait ends: 0:EAX=0 /\\ 1:EAX=0 *)
+(* an addition to n is lost: ~n=2 *)
 { l=0; n=0; }
  P0           | P1           ;
  MOV EAX,$1   | MOV EAX,$1   ;
@@ -1256,6 +1481,7 @@ void P0(void) { d = 1; a = 1; b = 1; }
 void P1(void) { while ((!a || !b) && d != 3) ; int r = d; }
 `, `X86 Mine
 (* 1:EAX is a after its loop, 1:EBX is b after its loop, 1:ECX is d after its loop, 1:EDX is r *)
+(* every wait ends: (~1:EAX=0 /\\ ~1:EBX=0 \\/ 1:ECX=3) *)
 { a=0; b=0; d=0; }
  P0           | P1              ;
  MOV EAX,$1   | MOV EAX,[a]     ;
@@ -1274,6 +1500,7 @@ void P0() { if (x.load()) { std::scoped_lock g(m); n += 1; return; } n = 5; }
 void P1() { std::unique_lock<std::mutex> g(m); x = 1; n++; g.unlock(); x = 2; }
 `, `X86 Mine
 (* 0:EAX is m at its lock, 1:EAX is m at its lock *)
+(* every wait ends: 0:EAX=0 /\\ 1:EAX=0 *)
 { m=0; x=0; n=0; }
  P0             | P1           ;
  MOV EBX,[x]    | MOV EAX,$1   ;
@@ -1298,6 +1525,8 @@ void P0(void) { while (__sync_lock_test_and_set(&lock, 1)) { __asm__ __volatile_
 void P1(void) { while (__sync_lock_test_and_set(&lock, 1)) while (lock) continue; n++; __sync_lock_release(&lock); }
 `, `X86 Mine
 (* 0:EAX is lock at its lock, 1:EAX is lock at its lock *)
+(* every wait ends: 0:EAX=0 /\\ 1:EAX=0 *)
+(* an addition to n is lost: ~n=2 *)
 { lock=0; n=0; }
  P0              | P1              ;
  MOV EAX,$1      | MOV EAX,$1      ;
@@ -1315,6 +1544,7 @@ void P0() { counter.fetch_add(1L); seq = 2; on = 1; ready.store(1ULL, std::memor
 void P1() { while (ready.load(std::memory_order_acquire) != 1) ; long long r = counter; uint8_t o = on; --seq; }
 `, `X86 Mine
 (* 1:EAX is ready after its loop, 1:EBX is r, 1:ECX is o *)
+(* every wait ends: 1:EAX=1 *)
 { counter=0; seq=0; on=0; ready=0; }
  P0                      | P1                  ;
  MOV EAX,$1              | MOV EAX,[ready]     ;
@@ -1359,6 +1589,7 @@ void P1() { go = 2; int last; do last = done; while (last == 5); int seen = data
 ~exists (1:seen=0 \\/ 1:r1=0)
 `, `X86 Mine
 (* 0:EAX is go after its loop, 0:EBX is ready after loop 2, 1:EAX is last, 1:EBX is seen, 1:ECX is r1 *)
+(* every wait ends: 0:EAX=2 /\\ 0:EBX=1 /\\ ~1:EAX=5 *)
 { go=0; done=5; ready=0; data=0; more=0; }
  P0              | P1               ;
  MOV EAX,[go]    | MOV EDX,$2       ;
@@ -1385,6 +1616,7 @@ void worker() { lock(); counter++; unlock(); }
 int main() { std::thread a(worker), b(worker); a.join(); b.join(); assert(counter == 2); }
 `, `X86 Mine
 (* 0:EAX is flag at its lock, 1:EAX is flag at its lock *)
+(* every wait ends: 0:EAX=0 /\\ 1:EAX=0 *)
 { flag=0; counter=0; }
  P0                | P1                ;
  MOV EAX,$1        | MOV EAX,$1        ;
@@ -1461,6 +1693,8 @@ void t1() { lock(l1); lock(l2); n++; unlock(l2); unlock(l1); }
 void t2() { lock(l1); n++; unlock(l1); }
 `, `X86 Mine
 (* 0:EAX is l1 at its lock, 0:EBX is l2 at its lock, 1:EAX is l1 at its lock *)
+(* every wait ends: 0:EAX=0 /\\ 0:EBX=0 /\\ 1:EAX=0 *)
+(* an addition to n is lost: ~n=2 *)
 { l1=0; l2=0; n=0; }
  P0            | P1            ;
  MOV EAX,$1    | MOV EAX,$1    ;
@@ -1482,6 +1716,8 @@ void a() { while (!try_lock()) ; n++; unlock(); }
 void b() { while (!try_lock()) { std::this_thread::yield(); } n++; unlock(); }
 `, `X86 Mine
 (* 0:EAX is f at its lock, 1:EAX is f at its lock *)
+(* every wait ends: 0:EAX=0 /\\ 1:EAX=0 *)
+(* an addition to n is lost: ~n=2 *)
 { f=0; n=0; }
  P0           | P1           ;
  MOV EAX,$1   | MOV EAX,$1   ;
@@ -1506,6 +1742,7 @@ void t1() { l.lock(); n++; l.unlock(); }
 void t2() { int a = get(); }
 `, `X86 Mine
 (* 0:EAX is l_locked at its lock, 1:EAX is l_locked at its lock, 1:EBX is a *)
+(* every wait ends: 0:EAX=0 /\\ 1:EAX=0 *)
 { l_locked=0; n=0; }
  P0                  | P1                  ;
  MOV EAX,$1          | MOV EAX,$1          ;
@@ -1536,6 +1773,7 @@ void worker(int id) { p.lock(id); n++; p.unlock(id); }
 int main() { std::thread t1(worker, 0), t2{worker, 1}; t1.join(); t2.join(); assert(n == 2); }
 `, `X86 Mine
 (* 0:EAX is p_flag_1 after its loop, 0:EBX is p_turn after its loop, 1:EAX is p_flag_0 after its loop, 1:EBX is p_turn after its loop *)
+(* every wait ends: (0:EAX=0 \\/ ~0:EBX=1) /\\ (1:EAX=0 \\/ ~1:EBX=0) *)
 { p_flag_0=0; p_flag_1=0; p_turn=0; n=0; }
  P0                 | P1                 ;
  MOV [p_flag_0],$1  | MOV [p_flag_1],$1  ;
@@ -1593,6 +1831,7 @@ void P1() { n = 2; }
 // lw: exists (x=-4)
 `, `X86 Mine
 (* 0:EAX is r, 0:EBX is x after its loop *)
+(* every wait ends: ~0:EBX=0 *)
 { x=0; n=0; }
  P0           | P1         ;
  MOV EAX,$3   | MOV [n],$2 ;
@@ -1707,6 +1946,8 @@ void t0() { lock(0); n++; unlock(0); }
 void t1() { int me = 1; lock(me); n++; unlock(me); }
 `, `X86 Mine
 (* 0:EAX is flag_1 after its loop, 0:EBX is turn after its loop, 1:EAX is flag_0 after its loop, 1:EBX is turn after its loop *)
+(* every wait ends: (0:EAX=0 \\/ ~0:EBX=1) /\\ (1:EAX=0 \\/ ~1:EBX=0) *)
+(* an addition to n is lost: ~n=2 *)
 { flag_0=0; flag_1=0; turn=0; n=0; }
  P0                | P1                ;
  MOV ECX,$1        | MOV ECX,$1        ;
@@ -1741,6 +1982,8 @@ void P0() { bool expected = false; while (!l.compare_exchange_weak(expected, tru
 void P1() { bool expected = false; while (!l.compare_exchange_strong(expected, true)) { expected = false; _mm_pause(); } n++; l.store(false, std::memory_order_release); }
 `, `X86 Mine
 (* 0:EAX is expected, 1:EAX is expected *)
+(* every wait ends: 0:EAX=0 /\\ 1:EAX=0 *)
+(* an addition to n is lost: ~n=2 *)
 { l=0; n=0; }
  P0           | P1           ;
  MOV EAX,$0   | MOV EAX,$0   ;
@@ -1776,6 +2019,8 @@ void P0() { while (!__sync_bool_compare_and_swap(&l, 0, 1)) ; n++; __sync_lock_r
 void P1() { while (__sync_val_compare_and_swap(&l, 0, 1) != 0) { __asm__ volatile("pause"); } n++; __sync_lock_release(&l); }
 `, `X86 Mine
 (* 0:EAX is l at its lock, 1:EAX is l at its lock *)
+(* every wait ends: 0:EAX=0 /\\ 1:EAX=0 *)
+(* an addition to n is lost: ~n=2 *)
 { l=0; n=0; }
  P0           | P1           ;
  MOV EAX,$1   | MOV EAX,$1   ;
@@ -1793,6 +2038,8 @@ void P0() { lock(&l); n++; atomic_store(&l, 0); lock(&l); n++; l = 0; }
 void P1() { lock(&l); n++; atomic_store(&l, 0); }
 `, `X86 Mine
 (* 0:EAX is expected, 0:EBX is expected_2, 1:EAX is expected *)
+(* every wait ends: 0:EAX=0 /\\ 0:EBX=0 /\\ 1:EAX=0 *)
+(* an addition to n is lost: ~n=3 *)
 { l=0; n=0; }
  P0           | P1           ;
  MOV EAX,$1   | MOV EAX,$1   ;
@@ -1818,6 +2065,8 @@ void P0() { lock(); n++; atomic_store(&l, 0); }
 void P1() { lock(); n++; atomic_store(&l, 0); }
 `, `X86 Mine
 (* 0:EAX is l at its lock, 1:EAX is l at its lock *)
+(* every wait ends: 0:EAX=0 /\\ 1:EAX=0 *)
+(* an addition to n is lost: ~n=2 *)
 { l=0; n=0; }
  P0           | P1           ;
  MOV EAX,$1   | MOV EAX,$1   ;
@@ -1888,6 +2137,7 @@ void reader() { int s1, s2, a, b; do { s1 = seq.load(std::memory_order_acquire);
 exists (1:a=1 /\\ 1:b=0)
 `, `X86 Mine
 (* 1:EAX is s1, 1:EBX is a, 1:ECX is b, 1:EDX is s2 *)
+(* every wait ends: (1:EAX=0 /\\ 1:EDX=0 \\/ 1:EAX=2 /\\ 1:EDX=2) *)
 { seq=0; d1=0; d2=0; }
  P0           | P1            ;
  MOV [seq],$1 | MOV EAX,[seq] ;
@@ -1902,6 +2152,7 @@ void read() { unsigned s; while (true) { s = seq.load(std::memory_order_acquire)
 int main() { std::thread w(write, 1), r(read); w.join(); r.join(); assert(!(a == 1 && b == 0)); }
 `, `X86 Mine
 (* 0:EAX is s, 1:EAX is s, 1:EBX is a, 1:ECX is b, 1:EDX is seq after its loop *)
+(* every wait ends: (1:EAX=0 /\\ 1:EDX=0 \\/ 1:EAX=2 /\\ 1:EDX=2) *)
 { seq=0; d1=0; d2=0; }
  P0            | P1            ;
  MOV EAX,[seq] | MOV EAX,[seq] ;
@@ -1920,6 +2171,7 @@ void w() { seq++; d = 1; seq++; }
 void r() { unsigned s; int a; do { do { s = seq.load(std::memory_order_acquire); } while (s % 2); a = d.load(std::memory_order_relaxed); } while (s != seq.load(std::memory_order_acquire)); }
 `, `X86 Mine
 (* 1:EAX is s, 1:EBX is a, 1:ECX is seq after its loop *)
+(* every wait ends: (1:EAX=0 /\\ 1:ECX=0 \\/ 1:EAX=2 /\\ 1:ECX=2) *)
 { seq=0; d=0; }
  P0                  | P1            ;
  MOV EAX,$1          | MOV EAX,[seq] ;
@@ -1947,6 +2199,8 @@ void P0() { std::scoped_lock l(m1, m2); a++; b++; }
 void P1() { std::scoped_lock<std::mutex, std::mutex> l(m2, m1); a++; b++; }
 `, `X86 Mine
 (* 0:EAX is m1 at its lock, 0:EBX is m2 at its lock, 1:EAX is m2 at its lock, 1:EBX is m1 at its lock *)
+(* every wait ends: 0:EAX=0 /\\ 0:EBX=0 /\\ 1:EAX=0 /\\ 1:EBX=0 *)
+(* an addition to a or b is lost: ~a=2 \\/ ~b=2 *)
 { m1=0; m2=0; a=0; b=0; }
  P0            | P1            ;
  MOV EAX,$1    | MOV EAX,$1    ;
@@ -1970,6 +2224,8 @@ void P0() { std::lock(m1, m2); std::lock_guard<std::mutex> g1(m1, std::adopt_loc
 void P1() { std::unique_lock<std::mutex> g1(m2, std::defer_lock); std::unique_lock<std::mutex> g2(m1, std::defer_lock); std::lock(g1, g2); a++; }
 `, `X86 Mine
 (* 0:EAX is m1 at its lock, 0:EBX is m2 at its lock, 1:EAX is m2 at its lock, 1:EBX is m1 at its lock *)
+(* every wait ends: 0:EAX=0 /\\ 0:EBX=0 /\\ 1:EAX=0 /\\ 1:EBX=0 *)
+(* an addition to a is lost: ~a=2 *)
 { m1=0; m2=0; a=0; }
  P0            | P1            ;
  MOV EAX,$1    | MOV EAX,$1    ;
@@ -1990,6 +2246,8 @@ void P0() { pthread_spin_lock(&s); n++; pthread_spin_unlock(&s); int r0 = x; }
 void P1() { pthread_spin_lock(&s); n++; pthread_spin_unlock(&s); x = 1; }
 `, `X86 Mine
 (* 0:EAX is s at its lock, 0:EBX is r0, 1:EAX is s at its lock *)
+(* every wait ends: 0:EAX=0 /\\ 1:EAX=0 *)
+(* an addition to n is lost: ~n=2 *)
 { s=0; n=0; x=0; }
  P0           | P1           ;
  MOV EAX,$1   | MOV EAX,$1   ;
@@ -2037,6 +2295,7 @@ P1(int *x, int *y, spinlock_t *s, atomic_t *v)
 exists (1:r0=0 /\\ 1:r1=1)
 `, `X86 Mine
 (* 0:EAX is s at its lock, 1:EAX is r1, 1:EBX is s at its lock, 1:ECX is r0 *)
+(* every wait ends: 0:EAX=0 /\\ 1:EBX=0 *)
 { x=0; v=2; y=0; s=0; }
  P0           | P1                ;
  MOV EAX,$1   | MOV EDX,$1        ;
@@ -2083,6 +2342,8 @@ void a() { l.lock(); n++; l.unlock(); }
 void b() { l.lock(); n++; l.unlock(); }
 `, `X86 Mine
 (* 0:EAX is t, 0:EBX is l_serving after its loop, 1:EAX is t, 1:EBX is l_serving after its loop *)
+(* every wait ends: (0:EBX=0 /\\ 0:EAX=0 \\/ 0:EBX=1 /\\ 0:EAX=1) /\\ (1:EBX=0 /\\ 1:EAX=0 \\/ 1:EBX=1 /\\ 1:EAX=1) *)
+(* an addition to n is lost: ~n=2 *)
 { l_next=0; l_serving=0; n=0; }
  P0                     | P1                     ;
  MOV EAX,$1             | MOV EAX,$1             ;
@@ -2104,6 +2365,8 @@ void P0() { lock1(); n++; l = false; }
 void P1() { lock2(); n++; l = false; }
 `, `X86 Mine
 (* 0:EAX is l at its lock, 1:EAX is l at its lock *)
+(* every wait ends: 0:EAX=0 /\\ 1:EAX=0 *)
+(* an addition to n is lost: ~n=2 *)
 { l=0; n=0; }
  P0           | P1           ;
  MOV EAX,$1   | MOV EAX,$1   ;
@@ -2127,6 +2390,7 @@ void P1() { int e = 0; while (flag.load(std::memory_order_acquire) < 1) { } e = 
 exists (1:e=0)
 `, `X86 Mine
 (* 1:EAX is e, 1:EBX is flag after its loop *)
+(* every wait ends: 1:EBX=1 *)
 { flag=0; data=0; }
  P0             | P1             ;
  MOV [data],$42 | MOV EAX,$0     ;
@@ -2140,6 +2404,7 @@ void P1() { x = 1; y = 1; }
 exists (0:r=1 /\\ 0:s=0)
 `, `X86 Mine
 (* 0:EAX is r, 0:EBX is y after its loop, 0:ECX is s *)
+(* every wait ends: (0:EBX=0 /\\ 0:EAX=0 \\/ 0:EBX=1 /\\ 0:EAX=1) *)
 { x=0; y=0; }
  P0          | P1           ;
  MOV EAX,[x] | MOV EAX,$1   ;
@@ -2167,6 +2432,7 @@ void t2() { int b = get(); }
 // lw: exists (0:a=0 \\/ 1:b=0)
 `, `X86 Mine
 (* 0:EAX is p, 0:EBX is m at its lock, 0:ECX is a, 1:EAX is p, 1:EBX is m at its lock, 1:ECX is b *)
+(* every wait ends: 0:EBX=0 /\\ 1:EBX=0 *)
 { instance=0; m=0; data=0; }
  P0                 | P1                 ;
  MOV EAX,[instance] | MOV EAX,[instance] ;
@@ -2196,6 +2462,7 @@ int w1(void *a) { lock(&L, 1); cnt++; unlock(&L, 1); return 0; }
 int main(void) { thrd_t a, b; thrd_create(&a, w0, NULL); thrd_create(&b, w1, NULL); thrd_join(a, NULL); thrd_join(b, NULL); assert(cnt == 2); return 0; }
 `, `X86 Mine
 (* 0:EAX is L_interested_1 after its loop, 0:EBX is L_victim after its loop, 1:EAX is L_interested_0 after its loop, 1:EBX is L_victim after its loop *)
+(* every wait ends: (0:EAX=0 \\/ ~0:EBX=0) /\\ (1:EAX=0 \\/ ~1:EBX=1) *)
 { L_interested_0=0; L_interested_1=0; L_victim=0; cnt=0; }
  P0                        | P1                        ;
  MOV ECX,$1                | MOV ECX,$1                ;
@@ -2243,6 +2510,7 @@ int ra, rb;
 int main() { std::thread w([] { sl.write(1, 1); }); std::thread r([] { sl.read(ra, rb); }); w.join(); r.join(); assert(!(ra == 0 && rb == 1)); assert(!(ra == 1 && rb == 0)); }
 `, `X86 Mine
 (* 0:EAX is s, 1:EAX is s0, 1:EBX is ra, 1:ECX is rb, 1:EDX is s1 *)
+(* every wait ends: (1:EAX=0 /\\ 1:EDX=0 \\/ 1:EAX=2 /\\ 1:EDX=2) *)
 { sl_seq_=0; sl_x_=0; sl_y_=0; }
  P0                | P1                ;
  MOV EAX,[sl_seq_] | MOV EAX,[sl_seq_] ;
@@ -2266,6 +2534,7 @@ void a() { l.lock(); n++; l.unlock(); }
 void b() { if (l.try_lock()) { n++; l.unlock(); } }
 `, `X86 Mine
 (* 0:EAX is l_locked at its lock *)
+(* every wait ends: 0:EAX=0 *)
 { l_locked=0; n=0; }
  P0                  | P1                  ;
  MOV EAX,$1          | MOV EAX,[l_locked]  ;
@@ -2289,6 +2558,7 @@ void P0() { flag[0] = WANT; turn = 1; while (flag[1] == WANT && turn == 1) ; fla
 void P1() { flag[1] = WANT; turn = 0; while (flag[0] == WANT && turn == 0) ; flag[1] = IDLE; }
 `, `X86 Mine
 (* 0:EAX is flag_1 after its loop, 0:EBX is turn after its loop, 1:EAX is flag_0 after its loop, 1:EBX is turn after its loop *)
+(* every wait ends: (~0:EAX=1 \\/ ~0:EBX=1) /\\ (~1:EAX=1 \\/ ~1:EBX=0) *)
 { flag_0=0; flag_1=0; turn=0; }
  P0                  | P1                  ;
  MOV [flag_0],$1     | MOV [flag_1],$1     ;
@@ -2310,6 +2580,7 @@ void *run(void *p) { int id = *((int *)p); lock.enter(id); value += 1; lock.exit
 int main() { pthread_t t[2]; int ids[2] = {0, 1}; for (int i = 0; i < 2; ++i) pthread_create(&t[i], nullptr, run, &ids[i]); for (int i = 0; i < 2; ++i) pthread_join(t[i], nullptr); assert(value == 2); }
 `, `X86 Mine
 (* 0:EAX is lock_flag_1 after its loop, 0:EBX is lock_turn after its loop, 1:EAX is lock_flag_0 after its loop, 1:EBX is lock_turn after its loop *)
+(* every wait ends: (0:EAX=0 \\/ ~0:EBX=1) /\\ (1:EAX=0 \\/ ~1:EBX=0) *)
 { lock_flag_0=0; lock_flag_1=0; lock_turn=0; value=0; }
  P0                     | P1                     ;
  MOV ECX,$1             | MOV ECX,$1             ;
@@ -2361,6 +2632,8 @@ void P0() { std::lock_guard<sync::SpinLock> g(sl); n++; }
 void P1() { std::lock_guard<sync::SpinLock> g(sl); n++; }
 `, `X86 Mine
 (* 0:EAX is sl_flag at its lock, 1:EAX is sl_flag at its lock *)
+(* every wait ends: 0:EAX=0 /\\ 1:EAX=0 *)
+(* an addition to n is lost: ~n=2 *)
 { sl_flag=0; n=0; }
  P0                 | P1                 ;
  MOV EAX,$1         | MOV EAX,$1         ;
@@ -2389,6 +2662,8 @@ void P0() { st(&x); std::lock_guard<Lock> g(m); n++; }
 void P1() { std::lock_guard<Lock> g(m); n++; }
 `, `X86 Mine
 (* 0:EAX is m at its lock, 1:EAX is m at its lock *)
+(* every wait ends: 0:EAX=0 /\\ 1:EAX=0 *)
+(* an addition to n is lost: ~n=2 *)
 { x=0; m=0; n=0; }
  P0           | P1           ;
  MOV EBX,$1   | MOV EAX,$1   ;
@@ -2408,6 +2683,7 @@ void P0() { d = 1; x.store(3, std::memory_order_release); }
 void P1() { int r; while ((r = x.load(std::memory_order_acquire)) == 0) ; int s = d; int t; while (!(t = x)) { _mm_pause(); } }
 `, `X86 Mine
 (* 1:EAX is r, 1:EBX is s, 1:ECX is t *)
+(* every wait ends: ~1:EAX=0 /\\ ~1:ECX=0 *)
 { x=0; d=0; }
  P0         | P1          ;
  MOV [d],$1 | MOV EAX,[x] ;
@@ -2421,6 +2697,8 @@ void P0() { if (try_lock()) { n++; l = false; } }
 void P1() { if (try_lock()) { n++; l = false; } }
 `, `X86 Mine
 (* 0:EAX is e, 0:EBX is try_lock_result, 1:EAX is e, 1:EBX is try_lock_result *)
+(* both threads enter their if: ~0:EBX=0 /\\ ~1:EBX=0 *)
+(* an addition to n is lost: ~n=2 *)
 { l=0; n=0; }
  P0             | P1             ;
  MOV EAX,$0     | MOV EAX,$0     ;
@@ -2525,10 +2803,161 @@ void P1() { int b = __sync_val_compare_and_swap(&x, 5, 0); if (cmpxchg(&x, 5, 0)
 locations [0:EAX; 0:EBX; 1:EAX; 1:EBX; 1:ECX; 1:EDX; x]
 exists (true)
 `],
-  ["a template", `template <typename L> struct Guard { L& l; Guard(L& x) : l(x) { l.lock(); } ~Guard() { l.unlock(); } };
+  ["no question, and locks that are tried", `std::mutex m; int n;
+void P0() { if (m.try_lock()) { n++; m.unlock(); } }
+void P1() { if (!m.try_lock()) return; std::lock_guard<std::mutex> g(m, std::adopt_lock); n++; }
+`, `X86 Mine
+(* 0:EAX is m_tried, 1:EAX is m_tried *)
+(* both threads get past their if: 0:EAX=0 /\\ 1:EAX=0 *)
+(* an addition to n is lost: ~n=2 *)
+{ m=0; n=0; }
+ P0           | P1              ;
+ MOV EAX,$1   | MOV EAX,$1      ;
+ XCHG [m],EAX | XCHG [m],EAX    ;
+ CMP EAX,$0   | CMP EAX,$0      ;
+ JNE END      | JE L1           ;
+ MOV EBX,[n]  | JMP END         ;
+ ADD EBX,$1   | L1: MOV EBX,[n] ;
+ MOV [n],EBX  | ADD EBX,$1      ;
+ MOV EBX,$0   | MOV [n],EBX     ;
+ XCHG [m],EBX | MOV EBX,$0      ;
+ END:         | XCHG [m],EBX    ;
+              | END:            ;
+~exists (0:EAX=0 /\\ 1:EAX=0 /\\ ~n=2)
+`],
+  ["no question, and locks of C that are tried", `pthread_mutex_t m; mtx_t k; int n, r;
+void P0() { if (pthread_mutex_trylock(&m) == 0) { n = 1; pthread_mutex_unlock(&m); } else n = 5; }
+void P1() { int failed = pthread_mutex_trylock(&m) != 0; if (failed) r = 7; while (mtx_trylock(&k) != thrd_success) { sched_yield(); } n = 2; mtx_unlock(&k); }
+`, `X86 Mine
+(* 0:EAX is m_tried, 1:EAX is m_tried, 1:EBX is failed, 1:ECX is r, 1:EDX is k at its lock *)
+(* every wait ends: 1:EDX=0 *)
+{ m=0; k=0; n=0; }
+ P0             | P1             ;
+ MOV EAX,$1     | MOV EAX,$1     ;
+ XCHG [m],EAX   | XCHG [m],EAX   ;
+ CMP EAX,$0     | CMP EAX,$0     ;
+ JNE L1         | JE L1          ;
+ MOV [n],$1     | MOV EBX,$1     ;
+ MOV EBX,$0     | JMP L2         ;
+ XCHG [m],EBX   | L1: MOV EBX,$0 ;
+ JMP END        | L2: CMP EBX,$0 ;
+ L1: MOV [n],$5 | JE L3          ;
+ END:           | MOV ECX,$7     ;
+                | L3: MOV EDX,$1 ;
+                | XCHG [k],EDX   ;
+                | MOV [n],$2     ;
+                | MOV ESI,$0     ;
+                | XCHG [k],ESI   ;
+locations [0:EAX; 1:EAX; 1:EBX; 1:ECX; 1:EDX; m; n; k]
+exists (true)
+`],
+  ["a lock that is tried beside another condition", "std::mutex m; int n;\nvoid P0() { if (m.try_lock() && n == 0) n = 1; }\n",
+    "`if (m.try_lock() && n == 0)`: a lock is tried in a condition of its own, as `if (m.try_lock())`"],
+  ["the number that says why a lock is not got", "pthread_mutex_t m; int n;\nvoid P0() { int r = pthread_mutex_trylock(&m); }\n",
+    "`int r = pthread_mutex_trylock(&m)`: compare the result with 0, as `int failed = pthread_mutex_trylock(&m) != 0;`"],
+  ["a guard that tries", "std::mutex m; int n;\nvoid P0() { std::unique_lock<std::mutex> l(m, std::try_to_lock); n = 1; }\n",
+    "`std::unique_lock<std::mutex> l(m, std::t..`: try the mutex itself, as `if (m.try_lock())`"],
+  ["a program for Windows", `#include <windows.h>
+volatile LONG x = 0, y = 0;
+LONG r1, r2;
+DWORD WINAPI f(LPVOID p) { x = 1; MemoryBarrier(); r1 = y; return 0; }
+DWORD WINAPI g(LPVOID p) { UNREFERENCED_PARAMETER(p); InterlockedExchange(&y, TRUE); _ReadWriteBarrier(); Sleep(0); r2 = x; return 0; }
+int main(void) {
+  HANDLE t[2];
+  DWORD id;
+  t[0] = CreateThread(NULL, 0, f, NULL, 0, NULL);
+  t[1] = CreateThread(NULL, 0, (LPTHREAD_START_ROUTINE)g, (LPVOID)1, 0, &id);
+  WaitForMultipleObjects(2, t, TRUE, INFINITE);
+  for (int i = 0; i < 2; i++) CloseHandle(t[i]);
+  if (r1 == 0 && r2 == 0) printf("reordered\\n");
+  return 0;
+}
+`, `X86 Mine
+(* 0:EAX is r1, 1:EAX is r2 *)
+{ x=0; y=0; }
+ P0          | P1           ;
+ MOV [x],$1  | MOV EBX,$1   ;
+ MFENCE      | XCHG [y],EBX ;
+ MOV EAX,[y] | MOV EAX,[x]  ;
+exists (0:EAX=0 /\\ 1:EAX=0)
+`],
+  ["a critical section", `#include <windows.h>
+CRITICAL_SECTION cs; LONG n;
+unsigned __stdcall work(void *arg) { EnterCriticalSection(&cs); n++; LeaveCriticalSection(&cs); return 0; }
+int main() {
+  InitializeCriticalSection(&cs);
+  HANDLE a = (HANDLE)_beginthreadex(NULL, 0, work, NULL, 0, NULL), b = (HANDLE)_beginthreadex(NULL, 0, &work, NULL, 0, NULL);
+  HANDLE hs[] = {a, b};
+  WaitForMultipleObjects(2, hs, TRUE, INFINITE);
+  DeleteCriticalSection(&cs);
+  assert(n == 2);
+}
+`, `X86 Mine
+(* 0:EAX is cs at its lock, 1:EAX is cs at its lock *)
+(* every wait ends: 0:EAX=0 /\\ 1:EAX=0 *)
+{ cs=0; n=0; }
+ P0            | P1            ;
+ MOV EAX,$1    | MOV EAX,$1    ;
+ XCHG [cs],EAX | XCHG [cs],EAX ;
+ MOV EBX,[n]   | MOV EBX,[n]   ;
+ ADD EBX,$1    | ADD EBX,$1    ;
+ MOV [n],EBX   | MOV [n],EBX   ;
+ MOV EBX,$0    | MOV EBX,$0    ;
+ XCHG [cs],EBX | XCHG [cs],EBX ;
+forall (~0:EAX=0 \\/ ~1:EAX=0 \\/ n=2)
+`],
+  ["interlocked functions", `#include <windows.h>
+LONG volatile n = 0, w = 0; LONG r; BOOL seen;
+DWORD WINAPI f(LPVOID p) { if (InterlockedIncrement(&n) == 2) r = 1; if (InterlockedCompareExchange(&w, 1, 0) == 0) InterlockedDecrement(&n); return 0; }
+DWORD WINAPI g(LPVOID p) { while (w != 1) YieldProcessor(); seen = InterlockedAdd((volatile LONG*)&n, 3); InterlockedExchangeAdd64(&n, 2); return 0; }
+int main() {
+  HANDLE h[2] = { CreateThread(NULL, 0, f, NULL, 0, NULL), CreateThread(NULL, 0, g, NULL, 0, NULL) };
+  WaitForSingleObject(h[0], INFINITE);
+  WaitForSingleObject(h[1], INFINITE);
+  assert(seen >= 3);
+}
+`, `X86 Mine
+(* 0:EAX is r, 0:EBX is w_before, 1:EAX is w after its loop, 1:EBX is seen *)
+(* every wait ends: 1:EAX=1 *)
+{ n=0; w=0; }
+ P0                  | P1                ;
+ MOV ECX,$1          | MOV EAX,[w]       ;
+ LOCK XADD [n],ECX   | MOV EBX,$3        ;
+ ADD ECX,$1          | LOCK XADD [n],EBX ;
+ CMP ECX,$2          | ADD EBX,$3        ;
+ JNE L1              | MOV ECX,$2        ;
+ MOV EAX,$1          | LOCK XADD [n],ECX ;
+ L1: MOV EBX,$1      |                   ;
+ XCHG [w],EBX        |                   ;
+ CMP EBX,$0          |                   ;
+ JNE L2              |                   ;
+ MOV ECX,$4294967295 |                   ;
+ LOCK XADD [n],ECX   |                   ;
+ L2:                 |                   ;
+locations [n]
+~exists (1:EAX=1 /\\ 1:EBX=2)
+`],
+  ["a critical section that is entered twice", "CRITICAL_SECTION cs;\nvoid P0() { EnterCriticalSection(&cs); EnterCriticalSection(&cs); }\n",
+    "`EnterCriticalSection(&cs)`: a thread locks this only if it has not locked it already"],
+  ["a function of Windows that a program defines", "#include <windows.h>\nLONG x;\nLONG InterlockedExchange(LONG *p, LONG v) { return 3; }\nvoid P0() { x = 1; }\n",
+    "`InterlockedExchange`: the page knows this function of Windows, so leave it out"],
+  ["a macro of the name of a function of Windows", "int x;\n#define YieldProcessor() x = 1\nvoid P0() { YieldProcessor(); }\n",
+    "`#define YieldProcessor() x = 1`: the page knows this function of Windows, so leave it out"],
+  ["a function of Windows' name", "int x;\nvoid Sleep(int n) { x = n; }\nvoid P0() { Sleep(1); }\n", "`Sleep`: the page knows this function of Windows, so leave it out"],
+  ["an operation on bits of Windows", "LONG x; LONG r;\nvoid P0() { r = InterlockedOr(&x, 1); }\n",
+    "`r = InterlockedOr(&x, 1)`: of locked instructions the x86 format has only exchange and addition"],
+  ["words of 64 bits of Windows", "LONG64 x = 3000000000; DWORD y;\nvoid P0() { x = 1; }\n", `\`LONG64\`${OF_WIDE}`],
+  ["words of Windows below 0", "LONG64 x = -1; DWORD y;\nvoid P0() { x = 1; }\n", `\`LONG64\`${OF_WIDE}`],
+  ["an event of Windows", "HANDLE e; LONG x;\nvoid P0() { x = 1; SetEvent(e); }\n",
+    `\`SetEvent(e)\`: the page follows no events, and of locks a \`CRITICAL_SECTION\`${OF_WAITS}`],
+  ["a thread of Windows that starts later", "LONG x;\nDWORD WINAPI f(LPVOID p) { x = 1; return 0; }\nint main() { HANDLE a = CreateThread(NULL, 0, f, NULL, CREATE_SUSPENDED, NULL); }\n",
+    "`HANDLE a = CreateThread(NULL, 0, f, NULL..`: a thread starts at once, as by `CreateThread(NULL, 0, f, NULL, 0, NULL)`"],
+  ["a wait of Windows that may end early", "LONG x;\nDWORD WINAPI f(LPVOID p) { x = 1; return 0; }\nint main() { HANDLE a = CreateThread(NULL, 0, f, NULL, 0, NULL); WaitForSingleObject(a, 1000); }\n",
+    "`WaitForSingleObject(a, 1000)`: `main` waits for all threads, and without an end, as `WaitForSingleObject(t, INFINITE);`"],
+  ["no question, and a template that nothing uses", `template <typename L> struct Guard { L& l; Guard(L& x) : l(x) { l.lock(); } ~Guard() { l.unlock(); } };
 std::atomic<int> x;
 void P0() { x = 1; }
-`, "`template <typename L> struct Guard { L& ..`: outside of threads are only declarations of integers and `bool`, as `atomic_int x = 1;`"],
+`, "X86 Mine\n{ x=0; }\n P0           ;\n MOV EAX,$1   ;\n XCHG [x],EAX ;\nlocations [x]\nexists (true)\n"],
   ["no question, and functions that are named as those of the kernel", `int x;
 static void atomic_inc(int *p) { (*p)++; }
 static int smp_load_acquire(int *p) { return *p; }
@@ -2536,6 +2965,7 @@ void P0(void) { atomic_inc(&x); }
 void P1(void) { atomic_inc(&x); int r = smp_load_acquire(&x); }
 `, `X86 Mine
 (* 1:EAX is r *)
+(* an addition to x is lost: ~x=2 *)
 { x=0; }
  P0          | P1          ;
  MOV EAX,[x] | MOV EBX,[x] ;
@@ -2601,7 +3031,7 @@ void P1() { int a = d; }
 `, "`set(&d)`: its arguments are constants, variables of the thread, and shared variables of the types of its parameters"],
   ["a constructor with a parameter", `class C { public: C(int n) : v(n) {} std::atomic<int> v; }; C c(1);
 void P0() { c.v = 1; }
-`, "`C(int n) : v(n) {}`: a constructor has no parameters, and only sets variables to constants"],
+`, "`C(int n) : v(n) {}`: a constructor has no parameters, and only sets variables of its object to constants"],
   ["no question, and a thread of a method, with `main`", `struct W { std::atomic<int> x; void run() { x++; } } w;
 int main() { std::thread t(&W::run, &w); t.join(); }
 `, `X86 Mine
@@ -2706,7 +3136,7 @@ const BUTTON =
   "also reorder or merge relaxed and plain accesses.";
 const GUESS = " The question is a guess: change it to yours.";
 const FIRST = "The threads are functions in C: the first word is `C` then.";
-const WOULD = "The page would rewrite this program in C as an x86 test,";
+const WOULD = "The page can't make a test of this program in C";
 const WOULD_IN_CPP = WOULD.replace("in C", "in C++");
 const IS_READ = "The page reads C, C++, Rust and x86 assembly.";
 const IN_RUST = `This begins as a program in Rust does. ${IS_READ}`;
@@ -2715,12 +3145,12 @@ const OTHERS = [
   ["Java", "public class A { volatile int x; }\n"], ["Java", "// One.\nimport java.util.*;\n"], ["Java", "class A extends Thread {\n"], ["Go", "package main\n"],
   ["Go", "package main\n\nimport \"sync/atomic\"\n"], ["Go", "func main() {\n"],
 ];
-const BEGINS = ["enum { A, B };", "enum State { A };", "class A { std::atomic<int> a; };", "using namespace std;", "namespace a {}", "alignas(8) int x;", "constexpr int N = 1;", "#pragma once", "bool a;", "extern \"C\" {}", "[[maybe_unused]] int a;"];
+const BEGINS = ["pthread_t a, b;", "mtx_t m;", "thrd_t t;", "LONG a;", "volatile LONG a;", "CRITICAL_SECTION a;", "enum { A, B };", "enum State { A };", "class A { std::atomic<int> a; };", "using namespace std;", "namespace a {}", "alignas(8) int x;", "constexpr int N = 1;", "#pragma once", "bool a;", "extern \"C\" {}", "[[maybe_unused]] int a;"];
 const LOCK = PROGRAM.replace("int r0 = y;", "while (y.exchange(d)) ;");
 const OF_LOCKS = `\`while (y.exchange(d))\`${OF_LOOPS}`;
-const WAITS = " A loop that waits is one pass here: states in which it has not ended are in the list, too, and the question leaves them out.";
+const WAITS = " A loop that waits is one pass here: the list hides the states in which it has not ended, and the question leaves them out.";
 const LOCKS =
-  " A mutex is a word that `XCHG` takes and gives back: states in which a thread did not get it are in the list, too, and the question leaves them out.";
+  " A mutex is a word that `XCHG` takes and gives back: the list hides the states in which a thread did not get it, and the question leaves them out.";
 const makePlain = (names) => ` ${names} plain: each access is one \`MOV\` here, which a compiler need not keep if threads race on `;
 // A text, its words, how the words on the command end, and the place if the text is not rewritten, as its row and its column.
 const HINTS = [
@@ -2728,7 +3158,7 @@ const HINTS = [
   ["C++", `std::atomic<int> x;\n${PROGRAM.split("\n").slice(1).join("\n").replace(/y/g, "x")}`, `${BEGIN}${BUTTON}`, "does."],
   ["no question", PROGRAM.split("//")[0], `${BEGIN}${BUTTON}${GUESS}`, "does."],
   ["no question and no load", "atomic_int x;\nvoid P0() { x++; }\n",
-    `${BEGIN}${BUTTON} The question \`true\` holds always: look at the list of states.`, "does."],
+    `${BEGIN}${BUTTON} The question \`true\` asks nothing: look at the list of states, and ask what must not happen.`, "does."],
   ["a test of herd", WHOLE[0][1], `${BEGIN}${BUTTON}`,
     "`python3 tools/from_c.py --show SB+a.c` prints a test for this page. (In place of `READ_ONCE(*x)` it takes " +
     "`atomic_load_explicit(x, memory_order_relaxed)`.)"],
@@ -2736,13 +3166,19 @@ const HINTS = [
   ["a test of herd without its first line", `{ x=1; }\n${BARE}`, `${BEGIN}${BUTTON}`, "Its first line is `C mine` then."],
   ["the first word X86", WHOLE[2][1], `${FIRST}${BUTTON}`,
     "`python3 tools/from_c.py --show SB.cc` prints a test for this page. Its first word is `C` then."],
-  ["a loop", LOCK, `${WOULD} but not ${OF_LOCKS}.`, "does.", [2, 24]],
-  ["a loop after blank lines and a comment", `\n\n/* One. */ // Two.\n${LOCK}`, `${WOULD} but not ${OF_LOCKS}.`, "does.", [5, 24]],
-  ["a loop in C++", LOCK.replace("atomic_int x", "std::atomic<int> x"), `${WOULD_IN_CPP} but not ${OF_LOCKS}.`, "does.", [2, 24]],
+  ["a loop", LOCK, `${WOULD} because of ${OF_LOCKS}.`, "does.", [2, 24]],
+  ["a loop after blank lines and a comment", `\n\n/* One. */ // Two.\n${LOCK}`, `${WOULD} because of ${OF_LOCKS}.`, "does.", [5, 24]],
+  ["a loop in C++", LOCK.replace("atomic_int x", "std::atomic<int> x"), `${WOULD_IN_CPP} because of ${OF_LOCKS}.`, "does.", [2, 24]],
   ["a loop in a test that begins with X86", WHOLE[2][1].replace("int r0 = *x;", "while (x->exchange(2) == 1) ;"),
-    `${WOULD_IN_CPP} but not \`while (x->exchange(2) == 1)\`${OF_LOOPS}.`, "Its first word is `C` then.", [4, 61]],
+    `${WOULD_IN_CPP} because of \`while (x->exchange(2) == 1)\`${OF_LOOPS}.`, "Its first word is `C` then.", [4, 61]],
   ["a mutex", "std::mutex m; int n;\nvoid P0() { m.lock(); n++; m.unlock(); }\nvoid P1() { m.lock(); n++; m.unlock(); }\n",
     `${BEGIN}${BUTTON}${makePlain("`n` is")}it.${LOCKS}${GUESS}`, "does."],
+  ["a mutex that is tried", "std::mutex m; int n;\nvoid P0() { if (m.try_lock()) { n++; m.unlock(); } }\nvoid P1() { if (m.try_lock()) { n++; m.unlock(); } }\n",
+    `${BEGIN}${BUTTON}${makePlain("`n` is")}it. A mutex is a word here, which \`XCHG\` takes if it is free.${GUESS}`, "does."],
+  ["a semaphore at the begin", "sem_t s;\nint x;\nvoid P0() { sem_wait(&s); x = 1; }\n",
+    `${WOULD} because of \`sem_t s;\`: the page follows only semaphores that begin and end rounds of threads${OF_WAITS}.`, "does.", [1, 1]],
+  ["a lock that no thread uses", "std::atomic<int> held;\nvoid lock() { while (held.exchange(1)) ; }\nvoid unlock() { held = 0; }\n",
+    `${BEGIN}${BUTTON} No thread uses the lock: here each of two threads takes it, adds to \`counter\`, and gives it back.${makePlain("`counter` is")}it.${WAITS}${GUESS}`, "does."],
   ["words of 64 bits", "long x;\nstd::atomic<uint64_t> y{1};\nvoid P0() { y++; long r = y; }\nvoid P1() { y -= 2UL; }\nexists (0:r=1)\n",
     `${BEGIN}${BUTTON} Words of 64 bits are words of 32 bits here, which no sum of this program exceeds.`, "does."],
   ["a loop of runs", `std::atomic<int> x; int r;\nint main() { int n = 0; while (1) { x = 0; std::thread a([&] { x = 1; }), b([&] { r = x; }); a.join(); b.join(); if (!r) n++; } }\n`,
@@ -2751,11 +3187,62 @@ const HINTS = [
     `${BEGIN}${BUTTON}${makePlain("`d` is")}it.${WAITS}${GUESS}`, "does."],
   ["three plain variables", "int x, y, z;\nvoid P0() { x = 1; y = 1; z = 1; }\nvoid P1() { x = 2; y = 2; z = 2; }\n// lw: exists (x=1)\n",
     `${BEGIN}${BUTTON}${makePlain("`x`, `y` and `z` are")}them.`, "does."],
-  ["a question of a register that nothing sets", PROGRAM.replace("1:r0", "1:r1"), `${WOULD} but not \`1:r1\`${UNSET}.`, "does.", [4, 26]],
-  ["no thread", "C SB\n{}\n", `${WOULD} but not \`C SB {}\`: threads are functions \`P0\`, \`P1\` and so on.`, "page.", [1, 1]],
-  ["nine locations", WHOLE.at(-1)[1], `${WOULD} which lw refuses: there are more than 8 locations.`, "does.", null],
+  ["a question of a register that nothing sets", PROGRAM.replace("1:r0", "1:r1"), `${WOULD} because of \`1:r1\`${UNSET}.`, "does.", [4, 26]],
+  ["no thread", "C SB\n{}\n", `${WOULD} because of \`C SB {}\`: threads are functions \`P0\`, \`P1\` and so on.`, "page.", [1, 1]],
+  ["nine locations", WHOLE.at(-1)[1], `${WOULD}, since lw refuses it: there are more than 8 locations.`, "does.", null],
   ["Rust", "use std::sync::atomic::*;\n", IN_RUST, "does.", null],
 ];
+// Slips in programs: the program, how the words end, the place of the slip, and what the button is for, with the text that it makes, if there is one.
+const SLIPPED = "std::atomic<int> x, data; std::mutex m;\nvoid P0() {\n  x.store(1, std::memory_order_release);\n  int r0 = data.load();\n}\nvoid P1() { data = 1; }\n";
+const meanName = (line, word, name) => `line ${line} has \`${word}\`. Did you mean \`${name}\`?`;
+const SLIPS = [
+  ["x.store", "x.stroe", meanName(3, "stroe", "store"), [3, 5], "Change it to store"],
+  ["data.load", "data.laod", meanName(4, "laod", "load"), [4, 17], "Change it to load"],
+  ["x.store", "x.Store", meanName(3, "Store", "store"), [3, 5], "Change it to store"],
+  ["memory_order_release", "memory_order_relesae", meanName(3, "memory_order_relesae", "memory_order_release"), [3, 19], "Change it to memory_order_release"],
+  ["memory_order_release", "memory_order_relased", "line 3 has `memory_order_relased`. Did you mean `memory_order_relaxed` or `memory_order_release`?", [3, 19]],
+  ["memory_order_release", "memory_order::relese", meanName(3, "relese", "release"), [3, 33], "Change it to release"],
+  ["std::atomic", "std::atomc", meanName(1, "atomc", "atomic"), [1, 6], "Change it to atomic"],
+  ["void P0", "viod P0", null],
+  ["std::mutex m;\nvoid P0() {\n", "int longs; float q;\nvoid P0() {\n  longs = x;\n  x = longs;\n", null],
+  ["int r0 = data.load();", "fork();", null],
+  ["int r0", "whlie (x) ; int r0", meanName(4, "whlie", "while"), [4, 3], "Change it to while"],
+  ["data = 1", "dtaa = 1", meanName(6, "dtaa", "data"), [6, 13], "Change it to data"],
+  ["data = 1", "r3 = 1", null],
+  ["data = 1", "pthread_mutex_lokc(&m); data = 1", meanName(6, "pthread_mutex_lokc", "pthread_mutex_lock"), [6, 13], "Change it to pthread_mutex_lock"],
+  ["data = 1", "data.fetch_and(1)", null],
+  ["data = 1", "_mm_xfence(); data = 1", null],
+  ["release);", "release)", "a `;` is missing at the end of line 3.", [3, 40], "Put in the ;"],
+  ["data = 1;", "data = 1", "a `;` is missing in line 6.", [6, 21], "Put in the ;"],
+  ["load();\n}", "load();", "a `}` is missing before line 5.", [5, 1], "Put in the }", "load();\n}"],
+  ["data = 1; }", "data = 1;", "a `}` is missing at the end.", [7, 1], "Put in the }", "data = 1;\n}"],
+  ["data.load()", "data.load(", "a `)` is missing in line 4.", [4, 22], "Put in the )"],
+  ["x, data;", "x{0}, data{0}\nint n;", "a `;` is missing at the end of line 1.", [1, 31], "Put in the ;", "x{0}, data{0};\nint n;"],
+  // With two slips the name is shown, and with two marks nothing is put in.
+  ["x.store(1, std::memory_order_release);", "x.store(1, std::memory_order_relased)", "line 3 has `memory_order_relased`. Did you mean `memory_order_relaxed` or `memory_order_release`?", [3, 19]],
+  ["load();\n}\nvoid P1() { data = 1; }", "load()\n\nvoid P1() { data = 1; }", null],
+  ["data = 1;", "if (x == 1 { data = 1; }", "a `)` is missing in line 6.", [6, 23], "Put in the )", "if (x == 1) { data = 1; }"],
+];
+
+/** Compares the hints on slips, and the programs that their buttons make. */
+function compareSlips(page, compare) {
+  for (const [part, wrong, words, place, title, right = part] of SLIPS) {
+    const text = SLIPPED.replace(part, () => wrong);
+    const { change, at, ...hint } = findHint(page, text);
+    const isFound = hint.words.startsWith(`${WOULD_IN_CPP}: `) && / line \d| at the end\./.test(hint.words);
+    if (words === null) compare(`${wrong} is no slip`, [false, true], [isFound, !change || change.title === "Rewrite it as an x86 test"]);
+    else compare(`the slip ${wrong}`, [`${WOULD_IN_CPP}: ${words}`, place, title], [hint.words, [at.row, at.column], change?.title]);
+    const mended = title && text.slice(0, change.begin) + change.text + text.slice(change.end);
+    const expected = SLIPPED.replace(part, () => (title?.startsWith("Change") ? replaceWord(wrong, words) : right));
+    if (title) compare(`the slip ${wrong} is put right`, expected.trimEnd(), mended.trimEnd());
+  }
+}
+
+/** Returns code with the second one of the names that some words have in place of the first one. */
+function replaceWord(code, words) {
+  const [first, second] = [...words.matchAll(/`(\w+)`/g)].map(([, it]) => it);
+  return code.replace(first, second);
+}
 
 /**
  * Compares what the page makes of programs in C, by its own modules.

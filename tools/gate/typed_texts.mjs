@@ -26,19 +26,31 @@ export function compareTexts({ faults, other_tools }, compare, texts) {
   }
 }
 
+/** The most milliseconds of processor time that a long text may take: one with a quadratic pattern takes many times as long, also on a fast machine. */
+export const SLOWEST = 4000;
+
 /**
- * Compares the time that long texts take with the longest that they may take, in milliseconds.
+ * Returns the milliseconds of processor time that a function takes, which do not depend on what else the machine does.
+ * @param {function(): void} run
+ * @returns {number}
+ */
+export function measure(run) {
+  const begin = process.cpuUsage();
+  run();
+  const { user, system } = process.cpuUsage(begin);
+  return (user + system) / 1000;
+}
+
+/**
+ * Compares the processor time that long texts take with the longest that they may take.
  * @param {{faults: object}} page
  * @param {function(string, any, any)} compare
  * @param {[string, string][]} texts each with its name
- * @param {number} slowest
  */
-export function compareTimes({ faults }, compare, texts, slowest) {
+export function compareTimes({ faults }, compare, texts) {
   for (const [name, text] of texts) {
-    const begin = performance.now();
-    faults.explainFault(makeFault(text), text);
-    const took = performance.now() - begin;
-    compare(`the time for a long text of ${name}`, true, took < slowest || took);
+    const took = measure(() => faults.explainFault(makeFault(text), text));
+    compare(`the time for a long text of ${name}`, true, took < SLOWEST || took);
   }
 }
 
