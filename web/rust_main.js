@@ -13,13 +13,14 @@ const SHARED = new RegExp(
 );
 // A static variable or a constant of the function; an object; and a number that threads of a scope may share, or that is a constant.
 const STATIC = /^(static|const)\s+(?:mut\s+)?(\w+)\s*:\s*([^=]+?)\s*=\s*([^]*)$/;
-const OBJECT = /^let\s+(\w+)\s*=\s*(?:&\s*)?(?:Arc::new\()?((\w+)::\w+\(\))\)?$/;
+const OBJECT = /^let\s+(\w+)(?:\s*:\s*[\w:<>&\s]{1,60})?\s*=\s*(?:&\s*)?(?:Arc::new\()?((\w+)(?:::\w+\(\)|\s*\{[^{}]*\}))\)?$/;
 const NUMBER = /^let\s+(mut\s+)?(\w+)(?:\s*:\s*(\w+))?\s*=\s*(-?\d+|true|false)$/;
 const CLONE = /^(?:(?:std::sync::)?Arc::clone\(\s*&\s*(\w+)\s*\)|&\s*(?:mut\s+)?(\w+)|(\w+)(?:\.clone\(\))?)$/;
 const SPAWN = /^(?:(?:std::|loom::|shuttle::)?thread::|(\w+)\.)spawn\s*(?=\()/;
 const SCOPE = /^(?:[\w:]+::)?(?:scope|model|check_random)\s*(?=\()/;
 const CLOSURE = /^(?:move\s+)?\|\s*(\w*)[^|]*\|\s*(?:->[^{]*)?([^]*)$/;
 const UNWRAPPED = "\\.join\\(\\)(?:\\.unwrap\\(\\)|\\.expect\\([^()]*\\))?";
+const JOINED = new RegExp(`\\b(\\w+)${UNWRAPPED}`, "g");
 const JOIN = new RegExp(`^(\\w+)${UNWRAPPED}$`);
 // Joins of a list of threads: the groups are its name and what follows.
 const JOIN_EACH = new RegExp(
@@ -91,8 +92,22 @@ export class Starter {
     this.depth -= 1;
   }
 
+  /** Reads an assertion that joins threads itself: the joins are before it. Returns whether it is one. */
+  readJoined(statement, aliases) {
+    const joined = ASSERTION.test(statement) ? [...statement.matchAll(JOINED)] : [];
+    const isOne = joined.length > 0 && joined.every(([, handle]) => this.handles.has(handle)) && !/\.join\(\)[^.]*\.\d/.test(statement);
+    if (!isOne) return false;
+    const named = joined.map(([join, handle]) => ({ join, name: `${handle}_result` }));
+    const other = named.find(({ name }) => this.allTaken.has(name) || this.names.has(name));
+    if (other) throw new Unread(statement, OF_MAIN);
+    for (const { join, name } of named) this.readStatement(`let ${name} = ${join}`, aliases);
+    this.readStatement(statement.replace(JOINED, (_, handle) => `${handle}_result`), aliases);
+    return true;
+  }
+
   /** Reads a statement by its form. */
   readShallow(statement, aliases) {
+    if (this.readJoined(statement, aliases)) return;
     const [, names, value] = /^let\s+(?:mut\s+)?([\w\s(),]+?)(?:\s*:[^=]+)?\s*=\s*([^]*)$/.exec(statement) ?? [null, null, statement];
     if (names && (/\bspawn\s*\(/.test(value) || EMPTY.test(value))) this.forget(names);
     if (this.readVariable(statement, aliases) || this.readThreads(value, names, aliases) || this.readJoins(value, names, aliases)) return;
@@ -137,6 +152,7 @@ export class Starter {
     if (SCOPE.test(value)) this.readScope(value, names, aliases);
     else if (SPAWN.test(value)) this.spawn(value, names, aliases);
     else if (/^\{/.test(value)) this.readBlock(value, names, aliases);
+    else if (this.handles.has(pushed?.trim())) Object.assign(this.handles.get(pushed.trim()), { handle: pushing });
     else if (pushed && isStarting) return this.readThreads(pushed.trim(), pushing, aliases);
     else if (list && isStarting) return splitArguments(list).every((it) => this.readThreads(it, names, aliases));
     else if (name && isStarting) this.unroll(name, Number(begin), Number(end), body, aliases);
@@ -284,7 +300,8 @@ export class Starter {
   readOwn(statement, value, names, aliases) {
     const isFirst = !this.own;
     const isRunning = this.threads.length > 0 && this.threads.every((it) => it === this.own || !it.isJoined);
-    if (!isRunning || /\b(?:spawn|join|scope|return|let)\b/.test(value) || /\W/.test(names ?? "")) throw new Unread(statement, OF_MAIN);
+    // A guard ends with its block, of which this is no more a part.
+    if (!isRunning || /^std::lock_guard|\b(?:spawn|join|scope|return|let)\b/.test(value) || /\W/.test(names ?? "")) throw new Unread(statement, OF_MAIN);
     this.own ??= { body: "", results: [], isOwn: true, isJoined: true };
     if (isFirst) this.threads.push(this.own);
     const code = nameVariables(value, this.renamed(aliases), this.allTaken);

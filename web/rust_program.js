@@ -7,8 +7,11 @@ import { rewriteProgram } from "./c_program.js";
 import { nameResult, OF_MAIN, OUTPUT, Starter } from "./rust_main.js";
 import { nameVariables } from "./rust_names.js";
 import { joinStatements, readFront, splitArguments, splitStatements, TYPES, Unread, writeBody, writeExpression } from "./rust_statements.js";
+import { desugar } from "./rust_sugar.js";
 import { blankText, checkNegations } from "./rust_text.js";
 
+// A type of 64 bits.
+const WIDE_TYPE = /\b(?:Atomic(?:[UI]size|[UI]64)|[ui](?:size|64))\b/;
 const QUESTION = /\/\/ ?lw:.*/;
 const ATTRIBUTES = /^(?:\s|#!?\[[^\]]*\])*/;
 // What is left out; and a static variable, a constant, a function, a module, a structure and its methods: the groups are the names, types, values and
@@ -22,9 +25,13 @@ const METHODS = /^impl\s+(\w+)\s*(?=\{)/;
 const BLOCKS = [["fn", FUNCTION], ["mod", MODULE], ["struct", STRUCT], ["impl", METHODS]];
 const PARAMETER = /^(?:mut\s+)?(\w+)\s*:\s*(&?)\s*(?:'\w+\s+)?(?:mut\s+)?(?:\w+::)*(Arc<)?(?:\w+::)*(\w+)>?$/;
 const OF_LIBRARY = /^(?:(?:compiler_)?fence|spin_loop(?:_hint)?|yield_now|sleep)$/;
+// The methods of a lock.
+const LOCKS = [["lock", "unlock"], ["acquire", "release"], ["enter", "leave"], ["enter", "exit"]];
 const DEEPEST = 4;
 const LONGEST = 20000;
 const OF_ITEMS = ": outside of functions are only `use`, constants and static variables of integers and atomics";
+const OF_GENERIC = ": types with parameters are not rewritten, so write it for the type that it has";
+const OF_TUPLES = ": a structure has fields with names, as `struct Lock { held: AtomicBool }`";
 const OF_RESULTS = ": a thread returns its last expression only";
 
 /** Throws Unread for an attribute by which an item may not be compiled, and for a name of what is used that is another here. */
@@ -33,6 +40,12 @@ function checkItem(attributes, used) {
   if (renamed) throw new Unread(renamed, ": use each name as it is");
   const [chosen] = (!used && /#\[\s*cfg\((?!(?:test|loom)\))[^\]]*\]/.exec(attributes)) || [];
   if (chosen) throw new Unread(chosen, ": leave out what is not compiled");
+}
+
+/** Returns why an item is refused, as the end of a sentence. */
+function explainItem(code) {
+  const [, kind, mark] = /^(?:pub(?:\([^)]*\))?\s+)?(?:unsafe\s+)?(struct|impl|fn)\s*\w*\s*([<(])/.exec(code) ?? [];
+  return mark === "<" ? OF_GENERIC : kind === "struct" ? OF_TUPLES : OF_ITEMS;
 }
 
 /** Returns the items of code, and those of its modules, in which there are few others. */
@@ -49,7 +62,7 @@ function readItems(code, depth = 0) {
     const open = head === undefined ? -1 : block === "fn" ? rest.indexOf("{", findClosing(rest, head.length)) : rest.indexOf("{");
     const close = open < 0 ? -1 : findClosing(rest, open);
     checkItem(attributes, skipped);
-    if (!skipped && !whole && close < 0) throw new Unread(/^[^;{]*/.exec(rest)[0], OF_ITEMS);
+    if (!skipped && !whole && close < 0) throw new Unread(/^[^;{]*/.exec(rest)[0], explainItem(rest));
     if (whole) items.push({ kind, name: variable, type, value });
     else if (!skipped) items.push(...readBlock(block, name, rest.slice(head.length, open), rest.slice(open + 1, close), depth));
     rest = rest.slice(skipped?.length ?? whole?.length ?? close + 1);
@@ -80,7 +93,7 @@ function writeObject({ name, type, value }, items, taken) {
   const words = new Map(splitArguments(literal).map(readPart));
   const parts = splitArguments(struct.body).map(readPart);
   const fields = parts.map(([field, of = ""]) => ({ kind: "static", name: field, type: of, value: words.get(field) ?? "" }));
-  if (fields.some((it) => !/Atomic/.test(it.type) || !it.value)) throw fault;
+  if (fields.some((it) => !TYPES.has(it.type.replace(/^\[\s*|\s*;[^\]]*\]$/g, "").replace(/^.*::/, "")) || !it.value)) throw fault;
   const all = new Set([...taken, ...fields.map((it) => it.name)]);
   const written = methods.filter((it) => it !== maker).map(({ signature, ...others }) => {
     if (!/^\(\s*&\s*self\b/.test(signature)) throw fault;
@@ -96,6 +109,7 @@ function declare({ kind, name, type, value }, all) {
   const cpp = TYPES.get(element.replace(/^.*::/, ""));
   const word = (it) => writeExpression(it.trim().replace(/^(?:const\s*\{)?\s*(?:[\w:]+::)?new\(([^()]*)\)\s*\}?$/, "$1"), new Map());
   const [, repeated] = /^\[([^;]*);[^;]*\]$/.exec(value.trim()) ?? [];
+  if (type === "Lock") return `std::mutex ${name};`;
   const count = all.find((it) => it.kind === "const" && it.name === number)?.value.trim() ?? number;
   if (!cpp || (kind === "const" && /Atomic/.test(cpp + type)) || (count && !/^[1-9]$/.test(count))) throw new Unread(`${kind} ${name}: ${type}`, OF_ITEMS);
   if (!count) return kind === "const" ? `constexpr ${cpp} ${name} = ${word(value)};` : `${cpp} ${name}{${word(value)}};`;
@@ -115,7 +129,8 @@ function writeFunction({ name, signature, body }, taken) {
   if (result && !TYPES.has(result)) throw new Unread(`fn ${name}${signature}`, ": it returns an integer or a `bool`");
   const all = new Set([...taken, ...parameters.map((it) => /\w+$/.exec(it)[0])]);
   const own = writeBody(nameVariables(body, new Map(), all), new Map(), Boolean(result));
-  return `${result ? TYPES.get(result) : "void"} ${name}(${parameters.join(", ")}) {${own}}`;
+  // A truth is a word of a thread.
+  return `${result === "bool" ? "int" : result ? TYPES.get(result) : "void"} ${name}(${parameters.join(", ")}) {${own}}`;
 }
 
 /** Returns a thread in C++, which sets the variables of its results at its end. */
@@ -184,10 +199,29 @@ function shortenPaths(code) {
   return code.replace(path, (whole, name) => (/^[A-Z]/.test(name) || functions.has(name) ? name : whole));
 }
 
+/** Returns the names of the words of structures that are only those of a `bool`. */
+function listTruths(structs) {
+  const fields = structs.flatMap(({ body }) => splitArguments(body).map((it) => /(\w+)\s*:\s*([^]+)$/.exec(it) ?? []));
+  const isTruth = (name) => fields.every(([, other, type]) => other !== name || /(?:^|::)(?:AtomicBool|bool)$/.test(type.trim()));
+  return fields.map(([, name]) => name).filter((it) => it && isTruth(it));
+}
+
+/** Returns the object of the only structure, if this is a lock whose threads are not in the program, as a list. */
+function listLoneLocks(structs, items, variables, code) {
+  const [{ name: type }, second] = [...structs, {}];
+  const methods = items.filter((it) => it.kind === "impl" && it.name === type).flatMap((it) => it.items);
+  const isNamed = ([lock, unlock]) => [lock, unlock].every((name) => methods.some((it) => it.name === name));
+  const maker = methods.find((it) => /^\(\s*\)/.test(it.signature));
+  if (!type || second?.name || !maker || variables.some((it) => it.type === type) || !LOCKS.some(isNamed)) return [];
+  const name = ["the_lock", "the_lock2"].find((it) => !new RegExp(`\\b${it}\\b`).test(code));
+  return name ? [{ kind: "static", name, type, value: `${type}::${maker.name}()` }] : [];
+}
+
 /** Returns a program in C++ that does what one in Rust does; null if it starts no threads and has no functions. */
 function translate(text) {
-  const code = shortenPaths(blankText(text)).replace(/(?<!\s)\s+(?=\.\w)/g, "");
-  if (code.replace(/\s+/g, " ").length > LONGEST) throw new Unread(code.trim(), ": the program is long");
+  const plain = shortenPaths(blankText(text)).replace(/(?<!\s)\s+(?=\.\w)/g, "");
+  if (plain.replace(/\s+/g, " ").length > LONGEST) throw new Unread(plain.trim(), ": the program is long");
+  const code = desugar(plain);
   const items = readItems(code.replace(QUESTION, ""));
   const [question = ""] = QUESTION.exec(code) ?? [];
   const functions = items.filter((it) => it.kind === "fn");
@@ -197,13 +231,14 @@ function translate(text) {
   const structs = items.filter((it) => it.kind === "struct");
   const starter = new Starter(new Set(items.map((it) => it.name)), structs.map((it) => it.name));
   if (starting) starter.readAll(starting.body, new Map());
-  const all = [...variables, ...starter.shared];
+  const isLone = !starting && functions.length === 0;
+  const all = [...variables, ...starter.shared, ...(isLone ? listLoneLocks(structs, items, variables, code) : [])];
   checkNames(all, functions, structs);
   checkMain(functions, starting);
-  checkNegations(code, all.filter((it) => /bool/i.test(it.type)).map((it) => it.name));
+  checkNegations(code, all.filter((it) => /bool/i.test(it.type)).map((it) => it.name), listTruths(structs));
   const declared = declareAll(all, items, structs, starter.allTaken);
   const called = functions.filter((it) => it !== starting && it.name !== "main").map((it) => writeFunction(it, starter.allTaken));
-  if (!starter.threads.length && !called.length) return null;
+  if (!starter.threads.length && !called.length && all.length === variables.length) return null;
   const results = starter.threads.flatMap((it, at) => it.results.map((name) => `int ${nameResult(name, at)};`));
   const program = [...declared, ...results, ...called, ...writeThreads(starter)].filter(Boolean).join("\n");
   checkQuestion(question, program);
@@ -225,6 +260,11 @@ function findPart(why, text) {
   return part === undefined ? undefined : text.indexOf(part.slice(0, length ?? 0));
 }
 
+/** Returns a reason in which mutexes are those of the program. */
+function nameGuards(why) {
+  return why.replace(/std::lock_guard<std::mutex> (\w*)(?:\(\w+_lock\))?/g, "let $1").replace(/\b(\w+)_lock\.(?:un)?lock\(\)/g, "$1.lock()");
+}
+
 /**
  * Returns the x86 test of a program in Rust, or why it is not rewritten, as `rewriteProgram` does of one in C++; null if it has no threads.
  * @param {string} text
@@ -237,10 +277,12 @@ export function rewriteRust(text) {
     const test = rewriteProgram(program);
     if (test.made) return { ...test, made: test.made.replace(/\b(\w+?)_of_P\d\b/g, "$1"), program };
     // The part is written in C++.
-    const why = test.why.replace(/,? ?\bstd::memory_order_\w*/g, "").replace(/\bauto /g, "let ");
+    const type = WIDE_TYPE.exec(text)?.[0];
+    const named = type ? test.why.replace(/^`(?:(?:atomic_)?s?size_t|u?int64_t|long)`/, `\`${type}\``) : test.why;
+    const why = nameGuards(named.replace(/,? ?\bstd::memory_order_\w*/g, "").replace(/\bauto /g, "let "));
     return { why, index: findPart(why, text), program };
   } catch (error) {
-    if (error instanceof Unread) return { why: error.message, index: findPart(error.message, text) };
+    if (error instanceof Unread) return { why: nameGuards(error.message), index: findPart(nameGuards(error.message), text) };
     throw error;
   }
 }

@@ -30,7 +30,7 @@ const WORDS = [
 const ON_BITS = /[\w)\]]\s*(?:(?<!&)&(?!&)|(?<!\|)\|(?!\|)|\^)\s*[\w(!]/;
 // Branches that are not those of C.
 const OTHER = /(?<!\w)(?:match\s[^{;]{0,200}|(?:if|while)\s+let\s[^{;]{0,200}|(?<=[=(]\s{0,9})if\s[^{;]{0,200})/;
-const OF_OTHERS = ": a `match`, an `if let` and the value of an `if` are not rewritten";
+const OF_OTHERS = ": an `if let` has `Ok(_)` or `Err(_)` of a compare-exchange here, and the value of an `if` is that of a `let` or of a function";
 const OF_BITS = ": operators on bits are not rewritten";
 const SWAP = /(?<!\w)([A-Za-z_]\w*(?:\[\w+\])?)\.compare_exchange(?:_weak)?\(/;
 // A store, an assignment or a jump at the end of a block, without its semicolon.
@@ -144,7 +144,7 @@ function rewritePatterns(code) {
   const open = found.index + found[0].length - 1;
   const close = findEnd(code, open);
   const [before, call, after] = [code.slice(0, found.index), code.slice(found.index, close + 1), code.slice(close + 1)];
-  const [pattern = "", word = "", kind] = (/^\s*\{/.test(after) && /\b((?:if|while)\s+)let\s+(Ok|Err)\(_\)\s*=\s*$/.exec(before.slice(-60))) || [];
+  const [pattern = "", word = "", kind] = (/^\s*\{/.test(after) && /\b((?:if|while)\s+)let\s+(Ok|Err)\(_\w*\)\s*=\s*$/.exec(before.slice(-60))) || [];
   const [equal = "", sign, value] = (!pattern && /^\s*([=!])=\s*Ok\((\w+)\)/.exec(after)) || [];
   const isSame = equal && value === splitArguments(code.slice(open + 1, close))[0];
   const asked = pattern ? (kind === "Ok" ? ".is_ok()" : ".is_err()") : !isSame ? "" : sign === "=" ? ".is_ok()" : ".is_err()";
@@ -217,7 +217,8 @@ function findBlock(code, index) {
 /** Returns the declarations of variables as those of C++. */
 function rewriteDeclarations(code) {
   const declare = (_, name, type) => (name === "_" ? "" : `${TYPES.get(type) ?? "auto"} ${name} =`);
-  return code.replace(/\blet\s+(?:mut\s+)?(\w+)(?:\s*:\s*([\w:]+))?\s*=(?!=)/g, declare);
+  const typed = code.replace(/\blet\s+(?:mut\s+)?(\w+)\s*:\s*(\w+)\s*;/g, (_, name, type) => `${TYPES.get(type) ?? "int"} ${name};`);
+  return typed.replace(/\blet\s+(?:mut\s+)?(\w+)(?:\s*:\s*([\w:]+))?\s*=(?!=)/g, declare);
 }
 
 /**

@@ -40,8 +40,9 @@ function measureOperand(code) {
  * Throws Unread for a `!` that may be of an integer, whose bits it inverts: it is in no condition, and its variable is no `bool`.
  * @param {string} code
  * @param {string[]} names those of variables that are `bool`
+ * @param {string[]} fields those of words of structures that are `bool`
  */
-export function checkNegations(code, names) {
+export function checkNegations(code, names, fields = []) {
   for (const { index } of code.matchAll(/(?<!\w)!(?!=)/g)) {
     const rest = code.slice(index + 1);
     const operand = rest.slice(0, measureOperand(rest));
@@ -50,7 +51,8 @@ export function checkNegations(code, names) {
     const isCounted = IS_COUNTED.test(after);
     const isCompared = /^\s*\(/.test(operand) && IS_CONDITION.test(operand.trim().slice(1, -1).replace(/\([^()]*\)/g, ""));
     const isAsked = /^\s*(?:&&|\|\|)/.test(after) || OF_CONDITION.test(code.slice(Math.max(index - 40, 0), index));
-    if (names.includes(name) || isCompared || /\.is_(?:ok|err)\(\)$/.test(operand) || (isAsked && !isCounted)) continue;
+    const [, field] = /^\s*\w+\.(\w+)\.(?:load|swap|fetch_\w+)\([^]*\)\s*$/.exec(operand) ?? [];
+    if (names.includes(name) || fields.includes(field) || isCompared || /\.is_(?:ok|err)\(\)$/.test(operand) || (isAsked && !isCounted)) continue;
     throw new Unread(`!${operand}`, ": a `!` of what may be no `bool`");
   }
 }
