@@ -6,7 +6,8 @@ import { guessProposition } from "./guess_question.js";
 import { makeBlock } from "./initial_values.js";
 import { findRewriting } from "./notation.js";
 import { isRead } from "./other_tools.js";
-import { EVENTS } from "./pseudo_lines.js";
+import { EVENTS, hasOutcome, readPseudoText } from "./pseudo_lines.js";
+import { rewritePseudoProgram } from "./pseudo_program.js";
 import { REGISTERS } from "./token_reader.js";
 
 // A longer text is not read.
@@ -29,7 +30,7 @@ const FENCE = /^(?:mfence|fence|smp_mb|atomic_thread_fence|__sync_synchronize)\b
 const ASSIGNMENT = /^([A-Za-z_]\w*)\s*:?=\s*(\w+)$/;
 // A line below the names of threads, as manuals of Linux have it.
 const RULE = /^[=\-\s]{3,}$/;
-const BARS = /\|{1,3}/;
+const BARS = /\|{1,3}|\u2225|\u2016/;
 const BESIDE = /\t| {2,}/;
 
 /** Returns the statements of a part of a line; null if it has something else. */
@@ -54,7 +55,7 @@ function readBelow(lines) {
 
 /** Returns the same of threads side by side, with their names above or without them; null if lines are something else. */
 function readBeside(lines) {
-  const rows = lines.map((line) => line.replace(/;$/, "").split(line.includes("|") ? BARS : BESIDE).map((it) => it.trim()));
+  const rows = lines.map((line) => line.replace(/;$/, "").split(BARS.test(line) ? BARS : BESIDE).map((it) => it.trim()));
   const numbers = rows[0]?.map((it) => ONLY_NAME.exec(it)?.[1]) ?? [];
   const first = numbers.includes(undefined) ? 0 : Number(numbers[0]);
   const code = numbers.includes(undefined) ? rows : rows.slice(1);
@@ -88,6 +89,15 @@ function hasSharedRegister(codes) {
   }));
 }
 
+/** Returns whether what is read of a text without the head of a test is sure: all of it is read with indentation, and no outcome is a statement. */
+function isSure(codes, text) {
+  const listSet = (code) => code.flatMap((it) => ASSIGNMENT.exec(it)?.[1] ?? []).filter((it) => REGISTERS.SRC.includes(it) || /^r\d*$/.test(it));
+  const isRewritten = (it) => rewritePseudoProgram(it)?.isUnread === false;
+  const sure = [text, ...(text.includes("\t") ? [text.replaceAll("\t", " | ")] : [])].find(isRewritten);
+  if (sure === undefined || readPseudoText(sure)?.threads.length !== codes.length) return false;
+  return !hasOutcome(codes.map((it) => it.join("; ")), codes.map(listSet));
+}
+
 /** Returns what is read of a text: the code of the threads, with registers for their own names, and a table of it with a question. */
 function readPseudoCode(text) {
   const [front = "", language = ""] = FRONT.exec(text) ?? [];
@@ -100,6 +110,7 @@ function readPseudoCode(text) {
   const block = front ? "" : initial?.trim() ? makeBlock(initial.replace(/\.$/, "")) : "{}";
   if (!read || block === null || read.codes.length < 2 || read.codes.length > MAX_THREADS || hasSharedRegister(read.codes)) return null;
   if (end >= 0 && !question && lines.slice(end + 1).some((it) => parseStatements(it) || BEGIN.test(it) || ONLY_NAME.test(it))) return null;
+  if (!isSure(read.codes, text.slice(front.length))) return null;
   const own = findOwnNames(read.codes, front || block);
   const rename = (code, thread) => code.replace(/[A-Za-z_]\w*/g, (it) => own[thread].get(it) ?? it);
   const codes = read.codes.map((code, thread) => code.map((it) => rename(it, thread)));
@@ -125,6 +136,22 @@ function parseLoad(code, thread) {
   return register && { site: `${thread}:${register}`, location };
 }
 
+/** Returns the register of x86 code that has the words of a register of a source test. */
+function findX86Register(register) {
+  return REGISTERS.X86[REGISTERS.SRC.indexOf(register)];
+}
+
+/** Returns a test; if it is x86 code, with a comment that says which names of the code its registers are. */
+function nameRegisters(text, codes, own) {
+  if (!text.startsWith("X86")) return text;
+  const named = codes.flatMap((code, thread) => {
+    const registers = new Set(code.flatMap((it) => it.match(/(?<!\w)r\d(?!\w)/g) ?? []));
+    const findName = (register) => [...own[thread]].find(([, it]) => it === register)?.[0] ?? register;
+    return [...registers].map((it) => `${thread}:${findX86Register(it)} is ${findName(it)}`);
+  });
+  return named.length ? text.replace("\n", `\n(* ${named.join(", ")} *)\n`) : text;
+}
+
 /**
  * Returns a hint that offers a test of pseudo code, as x86 code and as a source test; or null if a text is something else.
  * @param {string} text
@@ -139,11 +166,11 @@ export function explainPseudoCode(text) {
   const table = `${head}\n${[names, ...rows].map((it) => ` ${it.join(" | ")} ;\n`).join("")}${asked || guessQuestion(codes)}\n`;
   const { change, also } = findRewriting(table, 0) ?? {};
   const makeText = (it) => it && table.slice(0, it.begin) + it.text + table.slice(it.end);
-  const made = [makeText(also ?? change) ?? table, makeText(also && change)].filter((it) => it && isRead(it)).map(alignCells);
+  const made = [makeText(also ?? change) ?? table, makeText(also && change)].filter((it) => it && isRead(it)).map((it) => alignCells(nameRegisters(it, codes, own)));
   const offers = made.map((it) => ({ begin: 0, end: text.length, text: it, title: it.startsWith("SRC") ? "Make a source test of it" : "Make x86 code of it", done: "Rewritten." }));
   const chosen = offers.filter((it) => !language || it.text.trimStart().startsWith(language));
   if (!chosen.length) return null;
-  const describeRegister = (register) => `\`${register}\` (\`${REGISTERS.X86[REGISTERS.SRC.indexOf(register)]}\`)`;
+  const describeRegister = (register) => `\`${register}\` (\`${findX86Register(register)}\`)`;
   const renamed = own.flatMap((it, thread) => [...it].map(([name, register]) => `\`${name}\` is ${describeRegister(register)} of P${thread}.`));
   const words = [
     "This is pseudo code: each assignment is one load or one store.", ...renamed,

@@ -10,36 +10,73 @@ const TAB = 8;
 // How a test begins, and the row of the threads' names that it has.
 const TEST = /^\s*(?:X86|SRC)\b|^[ \t]*P0[ \t]*\|(?!\|)[^;\n]*;/m;
 // The name of a thread, perhaps in a comment: the groups are its number and its letter. And one before code.
-const NAME = "(?:\\/\\/|\\/\\*|#|--)?\\s*(?:P|T|CPU|core|proc|process|processor|thread)[ _#]*(?:[CPT][ _]?)?(?:(\\d)|([A-Za-z]))(?:\\s+(?:core|cpu)\\s*#?\\d)?";
+const NAME = "(?:\\/\\/|\\/\\*|#|--)?\\s*(?:P|T|CPU|core|proc|process|processor|thread)[ _#]*(?:[CPT][ _]?)?(?:(\\d)|([A-Za-z]))(?:[ ](?:core|cpu)\\s*#?\\d)?";
 const ONLY_NAME = new RegExp(`^${NAME}\\s*:?\\s*(?:\\*\\/)?$`, "i");
 const BEGIN = new RegExp(`^\\s*${NAME}\\s*:(?!=)`, "i");
+// A name by a whole word; the name of a thread without a number, alone in its line; and a label with a number.
+const LONG_NAME = /^\W*(?:CPU|core|proc|process|processor|thread)/i;
+const LETTER_HEAD = /^\s*([pqr])\s*:(?!=)/;
+const LETTER_ALONE = /^\s*[pqr]\s*:\s*$/;
+const NUMBERED = /^\s*[A-Za-z]\d\s*:(?![=:])/;
 // The code of a thread in braces after its name.
 const IN_BRACES = new RegExp(
   `^(?<indent>[ \\t]*)(?<name>${NAME})\\s*(?:\\(\\s*\\)\\s*)?\\{(?:(?<line>[^{}\\n]*)\\}[ \\t]*$|(?<lines>[^]*?)\\n\\k<indent>\\})`, "gim",
 );
 const LETTER = /^[pqr]$/;
 const COMMENTS = /^comments?$/i;
+// What may have deeper lines below it.
+const OPENS = /^(?:if|while|for|else|elif|elsif|loop|repeat|do|begin|await|wait|forever|until|spin)\b|[:{(]$|\b(?:then|do|else|begin)$/i;
 const UNDERLINE = /^[\s=+|:-]*$/;
 const COMMENT = /(?:\/\/|#(?!\d|(?:Store|Load)(?:Store|Load)\b)|--(?=\s)).*$/;
 // A comment that may be a fence, and one with initial words, which are the group.
 const FENCE = /^\W*(?:(?:full|memory|store-?load) )*(?:barrier|m?fence)\W*$/i;
-const INITIAL_COMMENT = /(?:\/\*|\(\*|\/\/|#|--)\s*([^*\n]*\binit(?:ial(?:ly)?)?\b[^*\n]*)/gi;
+const INITIAL_COMMENT = new RegExp(
+  "(?:\\/\\*|\\(\\*|\\/\\/|#|--)\\s*([^*\\n]*\\b" +
+    "(?:init(?:ial(?:ly)?)?|\\w\\s+(?:starts?|begins?)\\s+(?:out\\s+)?(?:as|at|with|from|being|=))\\b[^*\\n]*)", "gi",
+);
 // A comment that is in place of a critical section.
-const CRITICAL = /^\W*(?:in\s+)?(?:the\s+)?critical[\s_]section\W*$/i;
+const CRITICAL = /^\W*(?:in\s+)?(?:the\s+)?(?:critical[\s_](?:section|region)|CS)\W*$/i;
 /** Events of a run, as `Wx=1` and `Ry=0`, which are no assignments. */
 export const EVENTS = /\bW[a-z]\d?\s*=[^]*\bR[a-z]\d?\s*=/;
+// A parallel sign, and a cell that is in parentheses or braces as a whole.
+const PARALLEL = /[\u2225\u2016\u23d0]|\\parallel\b/g;
+const ENCLOSED = /^\((?!\s*\))([^()]*)\)$|^\{([^{}]*)\}$/;
+// An instruction whose operands are those of pseudo code only.
+const PSEUDO_MOVE = /^(?:mov|xchg)\s+(?:\[\s*_?\w+\s*\]\s*,\s*(?:\d+|r[0-7])|r[0-7]\s*,\s*(?:\d+|r[0-7]|\[\s*_?\w+\s*\]))$/i;
+// Names of threads by what they do, which become numbers.
+const ROLES = new RegExp(
+  "(?<=^|[ \\t]{2}|\\t|\\|[ \\t]*|\\/\\/[ \\t]*)(?:producer|consumer|writer|reader|sender|receiver|alice|bob)(?:[ \\t]+(?:thread|process))?" +
+    "(?=[ \\t]*(?:\\([ \\t]*\\)[ \\t]*)?(?::(?!=)|\\{|\\||$)|[ \\t]{2}|\\t)",
+  "gim",
+);
 // Pieces of a line with gaps between them.
 const PIECE = /\S+(?: \S+)*/g;
 // How a line begins that stores, and a line that is or begins with a whole assignment.
-const STORE = /^\w[\w[\]]*\s*(?::=|=|<-|\u2190)|^mov\b/i;
+const STORE = /^\w[\w[\]]*\s*(?::=|=|<-|\u2190)|^(?:mov|xchg)\b/i;
 const STATEMENT = /^\s*[A-Za-z_][\w[\]]*\s*(?::=|<-|\u2190|=)(?!=)\s*\w+(?:\s*[+-]\s*\w+)?\s*(?:[;|]|$|\s{2})/;
+// Words that numbers follow with commas between them.
+const SET_BY_COMMAS = /^(?:[A-Za-z_]\w*\s*(?::=|<-|\u2190|=)\s*\d+\s*,\s*)+[A-Za-z_]\w*\s*(?::=|<-|\u2190|=)\s*\d+[.;]?$/;
+// An outcome, perhaps after its title, a sentence, and what makes that code.
+const OUTCOME = new RegExp(
+  "^(?:[A-Za-z][\\w -]*:\\s*)?\\(?\\s*(?:(?:[PT]?\\d\\s*:\\s*)?[A-Za-z]\\w*(?:\\[\\d\\])?\\s*==?\\s*)+\\d+" +
+    "(?:\\s*(?:,|;|\\band\\b|&&|\u2227|\\/\\\\)\\s*(?:(?:[PT]?\\d\\s*:\\s*)?[A-Za-z]\\w*(?:\\[\\d\\])?\\s*==?\\s*)+\\d+)*\\s*\\)?[.;?!]*$",
+);
+const PAIR = /^(?:[A-Za-z][\w -]*:\s*)?\(\s*\w+\s*,\s*\w+\s*\)\s*==?\s*\(\s*\d+\s*,\s*\d+\s*\)[.;?!]*$/;
+const PROSE = /^[A-Z][a-z]*,?\s+\S+\s.*[.?!]$/;
+const IS_CODE = /:=|<-|\u2190|;|[{}]|\b(?:then|do|goto)\b/;
 const INITIAL = /^\s*init(?:ial(?:ly)?)?\b/i;
-// A label, a number or a bullet before a statement: the groups have the digits after the first one.
-const LABEL = /^(?:(?!(?:else|do|then|repeat|loop|begin)\b)[A-Za-z][A-Za-z_]*\d?(\d*)\w*\s*:(?![=:])|\(?\d(\d?)[.):](?!\d)|\(?[a-z]\)|[-*\u2022](?=\s))\s*/i;
+// A label, a number or a bullet before a statement: the groups have the digits after the first one. A word without a digit may be a title.
+const LABEL = new RegExp(
+  "^(?:(?!(?:else|do|then|repeat|loop|forever|begin)\\b)(?:[A-Za-z][A-Za-z_]*\\d(\\d*)\\w*|[A-PR-Z])\\s*:(?![=:])" +
+    "|\\(?\\d(\\d?)[.):](?!\\d)|\\d{1,2}\\s+(?=[A-Za-z_])|\\(?[a-z]\\)|[-*\\u2022](?=\\s))\\s*",
+  "i",
+);
 // How a line begins or ends that asks, or says what is allowed.
 const ASKING = "can|could|is|may|might|what|question|outcomes?|result|finally|final|forbidden|allowed|exists|forall|assert|on|does|post-?condition|at the end";
+const ASSERTS = /^\s*assert\b/i;
 const ASKS = new RegExp(
-  `^\\(?\\s*(?:~\\s*)?(?:${ASKING})\\b(?!\\s*(?::?=(?!=)|<-|\u2190|[+[.-]))|\\?\\s*\\)?$|\\b(?:allowed|possible|forbidden|impossible)\\b`, "i",
+  `^\\(?\\s*(?:~\\s*)?(?:${ASKING})\\b(?!\\s*(?::?=(?!=)|<-|\u2190|[+[.-]))|\\?\\s*\\)?$|` +
+    "^(?:both|all|neither|either|here|note)\\b.*\\b(?:may|can|must|will|are|is)\\b|\\b(?:allowed|possible|forbidden|impossible|cannot|can't)\\b", "i",
 );
 
 /** Returns a line of code that begins at an index, without the label before it. */
@@ -60,16 +97,36 @@ function splitLines(text) {
   return lines.map((it) => expandTabs(isFramed ? it.replace(/^\s*\||\|\s*$|`/g, "") : it));
 }
 
-/** Returns a text with blanks in place of comments between signs; a comment that is in place of a critical section becomes its name. */
+/** Returns whether all of a line at an index of a text is in comments. */
+function isCommentLine(text, index) {
+  const [begin, end] = [text.lastIndexOf("\n", index) + 1, text.indexOf("\n", index)];
+  return !text.slice(begin, end < 0 ? undefined : end).replace(/\/\*[^*\n]*\*\//g, "").trim();
+}
+
+/**
+ * Returns a text with blanks in place of comments between signs, except the names of threads in lines of their own; a comment that is in place of a
+ * critical section becomes its name.
+ */
 function blankSpans(text) {
-  const replace = (whole, inner) => (CRITICAL.test(inner) ? "critical section".padEnd(whole.length) : whole.replace(/[^\n]/g, " "));
+  const replace = (whole, inner, index) => {
+    if (/^[^(]/.test(whole) && ONLY_NAME.test(inner.trim()) && isCommentLine(text, index)) return whole;
+    return CRITICAL.test(inner) ? "CS".padEnd(whole.length) : whole.replace(/[^\n]/g, " ");
+  };
   const blanked = text.replace(/\/\*([^*]*)\*\//g, replace).replace(/\(\*([^*]*)\*\)/g, replace);
-  return blanked.replace(/\{[ \t]*\}/g, (it) => "{}".padEnd(it.length));
+  // What follows an empty body is no part of its loop.
+  const ended = blanked.replace(/(?<=\bwhile[ \t]*\([^\n{};]*\)[ \t]*)\{[ \t]*\}(?=[ \t]*[A-Za-z_])/g, (it) => ";".padEnd(it.length));
+  return ended.replace(/\{[ \t]*\}/g, (it) => "{}".padEnd(it.length));
 }
 
 /** Returns a line without its comment, unless that is a critical section or may be a fence. */
 function dropComment(line) {
   return line.replace(COMMENT, (comment) => (CRITICAL.test(comment) ? "critical section" : FENCE.test(comment) ? comment : ""));
+}
+
+/** Returns a text in which threads that are named by what they do have numbers; the same text if there are not two names. */
+function numberRoles(text) {
+  const names = [...new Set((text.match(ROLES) ?? []).map((it) => it.toLowerCase()))];
+  return names.length < 2 ? text : text.replace(ROLES, (it) => `P${names.indexOf(it.toLowerCase())}`.padEnd(it.length));
 }
 
 /** Returns the first one of the numbers of threads, 0 if they have none; NaN if they are not in order. */
@@ -103,9 +160,12 @@ function splitCells(line, sign) {
   return line.split(sign).map((it) => ({ code: it.trim(), index: Math.max(it.search(/\S/), 0) }));
 }
 
-/** Returns the cells of a line between bars; its pieces that are apart, if there is no bar. */
+/** Returns the cells of a line between bars, without what encloses them; its pieces that are apart, if there is no bar. */
 function listCells(line) {
-  return line.includes("|") ? splitCells(line, /\|{1,3}/) : listPieces(line);
+  if (!line.includes("|")) return listPieces(line);
+  const cells = splitCells(line, /\|{1,3}/);
+  const inner = cells.map(({ code }) => ENCLOSED.exec(code)?.slice(1).find((it) => it !== undefined));
+  return inner.includes(undefined) ? cells : inner.map((it) => ({ code: it.trim(), index: 0 }));
 }
 
 /** Returns whether tabs below names may mean other columns than the stops of a terminal, as in a copied table. */
@@ -121,6 +181,8 @@ function readColumns(lines, columns, hasBars) {
   const threads = columns.map(() => []);
   for (const [row, line] of lines.entries()) {
     const cells = hasBars ? listCells(line) : listPieces(line);
+    // A line without a bar may be that of all columns.
+    if (hasBars && !line.includes("|") && columns.length > 1) return null;
     let commented = -1;
     for (const [at, { code, index }] of cells.entries()) {
       const thread = hasBars ? at : columns.findLastIndex((it) => index >= it - 2);
@@ -132,7 +194,10 @@ function readColumns(lines, columns, hasBars) {
       if (isComment) commented = thread;
       if (isComment && !hasBars && (cells.length > 1 || bare.trim()) && index + code.length > columns[thread + 1]) return null;
       const made = makeLine(bare.trim(), Math.max(index - (hasBars ? 0 : columns[thread]), 0));
-      if (made.code && threads[thread].at(-1)?.row === row) return null;
+      const above = threads[thread].at(-1);
+      // A cell without one beside it may be that of all columns.
+      const isCentred = !hasBars && cells.length < columns.length && made.indent > above?.indent + 1 && !OPENS.test(above.code);
+      if (made.code && (above?.row === row || isCentred)) return null;
       if (made.code) threads[thread].push({ ...made, row });
     }
   }
@@ -144,10 +209,16 @@ function toLines(code) {
   return code.split("\n").map((it) => makeLine(it.trim(), Math.max(it.search(/\S/), 0))).filter((it) => it.code);
 }
 
-/** Returns the index of the first line that asks; the number of lines, if none does. */
-function findEnd(lines) {
-  const end = lines.findIndex((it) => ASKS.test(it.trim()));
+/** Returns the index of the first line that asks, and is not `isCode`; the number of lines, if none does. */
+function findEnd(lines, isCode) {
+  const end = lines.findIndex((it) => ASKS.test(it.trim().replace(/(?<=\S)\s*\/\/.*$/, "")) && !isCode(it));
   return end < 0 ? lines.length : end;
+}
+
+/** Returns whether an assertion at the margin may be one of the thread above it, and not of the whole: no line is blank above it, and it names more than registers. */
+function isUnsureAssertion(line, apart) {
+  const names = line.replace(/\b(?:assert|and|or|not|true|false)\b/gi, " ").match(/[A-Za-z_]\w*/g) ?? [];
+  return !apart.has(line) && !names.every((it) => /^r\w?\d$|^r\d+$/i.test(it));
 }
 
 /** Returns a text of threads between `{{{`, `|||` and `}}}`; null if it has none. */
@@ -159,42 +230,130 @@ function readBraced(text) {
   return { before: listLines(before), threads, after: listLines(after), first: 0 };
 }
 
-/** Returns a text of threads in columns, below a row of their names at an index, or without names from the row at an index on. */
-function readBeside(lines, at, isNamed) {
+/**
+ * Returns a text of threads in columns, below a row of their names at an index, or without names from the row at an index on; null if it is not sure. Lines
+ * `apart` have a blank one above them.
+ */
+function readBeside(lines, at, isNamed, apart) {
   const names = listCells(lines[at]).filter((it) => !COMMENTS.test(it.code));
   const below = lines.slice(isNamed ? at + 1 : at).filter((it) => !UNDERLINE.test(it));
   const before = [...lines.slice(0, at), ...below.filter((it) => INITIAL.test(it))];
   const rows = below.filter((it) => !INITIAL.test(it));
-  const end = findEnd(rows);
+  const columns = names.map((it) => it.index);
+  const hasBars = lines[at].includes("|");
+  // An assertion that begins in a column is one of the thread there.
+  const isAssertion = (it) => !hasBars && columns.length > 1 && ASSERTS.test(it);
+  const end = findEnd(rows, (it) => isAssertion(it) && it.search(/\S/) >= columns[1] - 2);
+  const asked = rows[end] ?? "";
+  if (isAssertion(asked) && asked.trimEnd().length < columns[1] && isUnsureAssertion(asked, apart)) return null;
   const code = rows.slice(0, end);
   // Initial values may be below the names.
   while (/^\s*\{[^{}]*\}\s*$/.test(code[0] ?? "")) before.push(code.shift().replace(/[{}]/g, ""));
-  const columns = names.map((it) => it.index);
-  const hasBars = lines[at].includes("|");
   const threads = !hasBars && hasOtherTabs(lines[at], code, columns) ? null : readColumns(code, columns, hasBars);
   const first = isNamed ? findFirst(names.map((it) => findNumber(it.code))) : 0;
   return threads && { before, threads, after: rows.slice(end), first };
 }
 
-/** Returns a text of threads below their names. */
-function readBelow(lines) {
-  const [before, after, threads, numbers] = [[], [], [], []];
-  let last = null;
-  for (const line of lines.filter((it) => !UNDERLINE.test(it))) {
-    const [label] = BEGIN.exec(line) ?? [];
-    const isHead = label !== undefined || (listPieces(line).length === 1 && ONLY_NAME.test(line.trim()));
-    // A label of a line may begin as the name of its thread.
-    const name = isHead ? findNumber(line) ?? findLetter(line) : null;
-    if (isHead && (label === undefined || name !== last)) [threads.push([]), numbers.push(findNumber(line))];
-    last = name ?? last;
-    if (isHead && label === undefined) continue;
-    const code = dropComment(label === undefined ? line : " ".repeat(label.length) + line.slice(label.length));
-    if (!threads.length || INITIAL.test(line)) before.push(line);
-    else if (after.length || (ASKS.test(code.trim()) && code.search(/\S/) === 0)) after.push(line);
-    else if (code.trim()) threads.at(-1).push(makeLine(code.trim(), code.search(/\S/)));
+/** Returns the name of a thread at the beginning of a line: its letters (`label`), and whether the line has nothing else; null if there is none. */
+function parseHead(line) {
+  const [label] = BEGIN.exec(line) ?? [];
+  const isBare = listPieces(line).length === 1 && ONLY_NAME.test(line.trim());
+  if (label === undefined && !isBare) return null;
+  return { label: label ?? line, isBare, isLong: LONG_NAME.test(line), name: findNumber(line) ?? findLetter(line) };
+}
+
+/**
+ * Returns the names of threads at the beginnings of lines, null for other lines: those of labels are none. Returns null if it is not sure which names
+ * are those of threads.
+ */
+function findHeads(lines) {
+  const heads = lines.map(parseHead);
+  const letters = lines.flatMap((it) => LETTER_HEAD.exec(it)?.[1] ?? []);
+  if (letters.length > 1 && !heads.some((it) => it?.isLong || (it?.isBare && !LETTER_ALONE.test(it.label)))) {
+    const isSure = new Set(letters).size === letters.length && lines.every((it) => !LETTER_HEAD.test(it) || LETTER_ALONE.test(it));
+    return isSure ? lines.map((it) => (LETTER_ALONE.test(it) ? { label: it, isBare: true, isLong: false, name: it.trim()[0] } : null)) : null;
   }
-  // Instructions below names are read by assembly.js.
-  return threads.flat().some((it) => /^mov/i.test(it.code)) ? null : { before, threads, after, first: findFirst(numbers) };
+  const isOf = (pattern) => heads.some((it) => it && pattern(it));
+  const [isLong, isBare] = [isOf((it) => it.isLong), isOf((it) => it.isBare)];
+  const chosen = heads.map((it) => (it && (isLong ? it.isLong : it.isBare || !isBare) ? it : null));
+  const isUnsure = (line, at) => {
+    const code = chosen[at] ? line.slice(chosen[at].label.length) : line;
+    if (chosen[at] && BEGIN.test(code) && parseHead(code).isLong === isLong) return true;
+    return LETTER_HEAD.test(line) || (!isLong && !isBare && (NUMBERED.test(code) || (heads[at] === null && BEGIN.test(code))));
+  };
+  return lines.some(isUnsure) ? null : chosen;
+}
+
+/** Returns the lines of the last thread without those that end it, and these: they are less indented than its code and that of the others. */
+function splitLast(parts) {
+  const [last, others] = [parts.at(-1), parts.slice(0, -1)];
+  const indentOf = ({ raw, made }) => Math.max(raw, made.indent);
+  const base = last.column ?? (last.rows.length ? indentOf(last.rows[0]) : 0);
+  const least = Math.min(base, ...others.flatMap((it) => it.rows.slice(it.column === null ? 0 : 1).map(indentOf)));
+  const end = last.rows.findIndex((it) => indentOf(it) < least);
+  return end < 0 ? [last.rows, []] : [last.rows.slice(0, end), last.rows.slice(end)];
+}
+
+/** Returns a text of threads below their names; null if it has none, or is not sure. Lines `apart` have a blank one above them. */
+function readBelow(given, apart) {
+  const lines = given.filter((it) => !UNDERLINE.test(it));
+  const heads = findHeads(lines);
+  if (!heads) return null;
+  const [before, after, parts, numbers] = [[], [], [], []];
+  let last = null;
+  for (const [at, line] of lines.entries()) {
+    const head = heads[at];
+    // A label of a line may begin as the name of its thread.
+    if (head && (head.isBare || head.name !== last)) {
+      parts.push({ rows: [], column: null });
+      numbers.push(findNumber(line));
+    }
+    last = head?.name ?? last;
+    if (head?.isBare) continue;
+    const code = dropComment(head ? " ".repeat(head.label.length) + line.slice(head.label.length) : line);
+    const raw = code.search(/\S/);
+    // Below code that is not indented an assertion may be one of the last thread.
+    if (raw === 0 && parts.at(-1)?.rows.at(-1)?.raw === 0 && ASSERTS.test(code) && isUnsureAssertion(line, apart)) return null;
+    if (!parts.length || INITIAL.test(line)) before.push(line);
+    else if (after.length || (ASKS.test(code.trim()) && raw === 0)) after.push(line);
+    else if (code.trim()) {
+      if (head && !parts.at(-1).rows.length) parts.at(-1).column = raw;
+      parts.at(-1).rows.push({ line, raw, made: makeLine(code.trim(), raw) });
+    }
+  }
+  if (!parts.length) return null;
+  const [rows, ended] = splitLast(parts);
+  const asking = ended.findIndex(({ line }) => ASKS.test(line.trim()));
+  const isCode = ({ line }) => !OUTCOME.test(line.trim()) && !PAIR.test(line.trim()) && !(PROSE.test(line.trim()) && !IS_CODE.test(line));
+  if (ended.slice(0, asking < 0 ? ended.length : asking).some(isCode)) return null;
+  const threads = [...parts.slice(0, -1).map((it) => it.rows), rows].map((it) => it.map(({ made }) => made));
+  // Instructions of x86 below names are read by assembly.js.
+  if (threads.flat().some((it) => /^mov/i.test(it.code) && !PSEUDO_MOVE.test(it.code))) return null;
+  return { before, threads, after: [...ended.map((it) => it.line), ...after], first: findFirst(numbers) };
+}
+
+/** Returns whether the end of a thread may be an outcome: it sets names to numbers, with commas, as no other line does. */
+function hasOutcomeLine(threads) {
+  const found = threads.flat().filter((it) => SET_BY_COMMAS.test(it.code));
+  return found.length === 1 && threads.some((it) => it.length > 1 && it.at(-1) === found[0]);
+}
+
+/**
+ * Returns whether threads with code in C, which have their own names, may set one of them as an outcome, not as a statement: a number comes after what
+ * was loaded, or another thread loads the name, and the name is not used then.
+ * @param {string[]} codes
+ * @param {string[][]} own
+ * @returns {boolean}
+ */
+export function hasOutcome(codes, own) {
+  const isSet = (name, code) => new RegExp(`(?<!\\w)${name} ?= ?[^\\d\\s=]`).test(code);
+  return codes.some((code, thread) => own[thread].some((name) => {
+    const end = code.search(new RegExp(`(?<![\\w\\]])${name} ?= ?\\d+ ?(?:;(?![^]*(?<!\\w)${name}\\b)|$)`));
+    const before = code.slice(0, Math.max(end, 0));
+    const isInBranch = !/(?:^|[;}])\s*$/.test(before) || before.split("{").length > before.split("}").length;
+    if (end < 0 || /^(?:inside|critical)/.test(name) || isInBranch) return false;
+    return isSet(name, before) || codes.some((it, other) => other !== thread && own[other].includes(name) && isSet(name, it));
+  }));
 }
 
 /**
@@ -204,20 +363,21 @@ function readBelow(lines) {
  */
 export function readPseudoText(text) {
   if (text.length > MAX_LETTERS || TEST.test(text) || EVENTS.test(text)) return null;
-  const blanked = blankSpans(text.replace(/\r/g, "").replaceAll("\u00a0", " "));
-  const lines = splitLines(blanked.replace(IN_BRACES, "$<indent>$<name>:$<line>$<lines>\n"));
+  const blanked = blankSpans(numberRoles(text).replace(/\r/g, "").replaceAll("\u00a0", " ").replace(PARALLEL, "||"));
+  const lines = splitLines(blanked.replace(IN_BRACES, "$<indent>$<name>:\n$<indent> $<line>$<lines>\n"));
   const isRow = (it, isCell) => listCells(it).length > 1 && listCells(it).every(isCell);
   const named = lines.findIndex((it) => isRow(it, (cell) => isName(cell) || COMMENTS.test(cell.code)));
-  const hasNames = lines.some((it) => BEGIN.test(it) || ONLY_NAME.test(it.trim()));
+  const hasNames = lines.some((it) => BEGIN.test(it) || ONLY_NAME.test(it.trim()) || LETTER_ALONE.test(it));
   const columns = lines.findIndex((it) => isRow(it, ({ code }) => STORE.test(code)) && !ASKS.test(it.trim()) && !INITIAL.test(it));
+  const apart = new Set(blanked.split("\n").filter((it, row, all) => row && !all[row - 1].trim()));
   const readLines = () => {
-    if (named >= 0) return readBeside(lines, named, true);
-    if (hasNames) return readBelow(lines);
-    return columns >= 0 && lines.slice(0, columns).every((it) => listCells(it).length < 2) ? readBeside(lines, columns, false) : null;
+    if (named >= 0) return readBeside(lines, named, true, apart);
+    if (hasNames) return readBelow(lines, apart);
+    return columns >= 0 && lines.slice(0, columns).every((it) => listCells(it).length < 2) ? readBeside(lines, columns, false, apart) : null;
   };
   const read = readBraced(blanked) ?? readLines();
   const commented = [...text.matchAll(INITIAL_COMMENT)].map(([, words]) => words);
   read?.before.push(...commented);
   const isWhole = read && read.threads.length > 1 && read.threads.length <= MAX_THREADS && read.threads.every((it) => it.length) && read.first <= 1;
-  return isWhole && !read.after.some((it) => STATEMENT.test(it)) ? read : null;
+  return isWhole && !hasOutcomeLine(read.threads) && !read.after.some((it) => STATEMENT.test(it)) ? read : null;
 }

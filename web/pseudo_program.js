@@ -6,13 +6,29 @@
 import { numberThreads } from "./assembly.js";
 import { rewriteProgram } from "./c_program.js";
 import { explainMade } from "./other_tools.js";
-import { readPseudoText } from "./pseudo_lines.js";
+import { hasOutcome, readPseudoText } from "./pseudo_lines.js";
+import { enterAtOnce } from "./pseudo_loops.js";
+import { writeProcesses } from "./pseudo_processes.js";
 import { StatementWriter, toC, toCondition, Unread } from "./pseudo_statements.js";
 
 // What is before initial words, types of theirs, and an initializer of C++.
 const INITIALLY = /^\s*(?:initial(?:ly)?(?:\s+(?:state|values?))?|init|shared|globals?|variables?)\b\s*:?/i;
 const ATOMIC_TYPE = /\b(?:std::)?atomic(?:<\w+>|_\w+)/g;
 const TYPE = /\b(?:int|bool|boolean|integer|var|volatile|shared|unsigned)\b/gi;
+// The type after a name, and words that all names begin with 0.
+const TYPE_AFTER = new RegExp(
+  ":(?!=)\\s*(?:shared\\s+)?(?:array\\s*(?:of\\s+\\d+|\\[[\\d.,\\s]*\\])\\s*(?:of\\s+)?)?" +
+    "(?:booleans?|bools?|integers?|ints?|bits?|words?)\\b(?:\\s*\\[\\d\\])?",
+  "gi",
+);
+const ALL_ZERO = new RegExp(
+  "\\b(?:all|every)\\s+(?:the\\s+)?(?:shared\\s+|memory\\s+)?(?:variables?|locations?|values?|words?|memory|flags?)\\s*" +
+    "(?:are|is|have|has|hold|=|==|:=)?\\s*(?:the\\s+value\\s+)?(?:0|zero|false)\\b",
+  "gi",
+);
+// A name without a value, and the value of the next one that is not 0.
+const TYPED = /\b(?:int|bool|boolean|integer|var|unsigned|atomic\w*|bit|byte)\b/i;
+const SET_LAST = /^\s*[A-Za-z_]\w*\s*(?:,|&&?|\band\b)(?:[^=]*(?:,|\band\b))?\s*[A-Za-z_]\w*\s*(?::=|<-|←|==?)\s*(?!0\b|false\b)\w/i;
 const INITIALIZER = /(\w)\s*\{\s*(\w+)\s*\}/g;
 // Words with which a line before the threads asks, and a question of a test.
 const ASKS = /\?|\b(?:can|could|allowed|forbidden|outcomes?|possible)\b(?!\s*(?:[,;:=]|<-|←|$))/i;
@@ -22,50 +38,110 @@ const OTHER_VALUE = /(?<![\w.-])(?:[1-9]\d*|true|one|set|null)(?![\w.-]*\w)/i;
 const QUESTION = /^\s*(?:~\s*exists|exists|forall)\b/m;
 // Sites with one word, as `r1 = r2 = 0`; and what joins others than by `and`.
 const ATOM = /(?<![\w:])((?:(?:P|T|Proc |Thread )?\d\s*:\s*)?%?[A-Za-z_]\w*(?:\[\d\])?(?:\s*==?\s*[A-Za-z_]\w*)*)\s*==?\s*(\d+|true|false)\b/gi;
-const OTHER_CONNECTIVE = /\b(?:or|not|nor|n?either|never|always|must|guaranteed?|unless|without)\b|n't\b|[!~∨<>≠≤≥+*]|\|\||\\\//i;
+// Words of a sentence that asks whether its sites have these words at once, and signs in it. Each other word may change what it asks.
+const ASKING_WORDS = new Set(
+  (
+    "can could may might is are was be been it its possible allowed legal permitted forbidden impossible cannot both and with while when if but " +
+    "also happen happens occur occurs ever still what about how outcome outcomes result results state states final finally end ends end-state " +
+    "allow allows permit permits lead to execution run program code test this that the a an of in under on at there so for they we you here say " +
+    "show time hold holds true same see sees seen read reads observe observes observed print prints printed find finds load loads return returns " +
+    "get gets have has question q expected bug output condition violation postcondition post-condition x86 tso x86-tso sc intel amd arm machine " +
+    "processor processors thread threads cpu core model register registers"
+  ).split(" "),
+);
+const SIGNS = /^(?:[\s,.;:?()"'`“”]|\/\\|∧|&&?|\{|\}|\[|\])*$/;
+const CONDITIONAL = /\b(?:if|when|while)\b/i;
+const POSSIBLE = /\b(?:can|could|may|might|possible|allowed|happens?|occurs?|ever)\b/i;
+const ASKS_BELOW = new RegExp(
+  "\\?|\\b(?:can|could|may|might|must|will|what|question|outcomes?|results?|final|finally|forbidden|allowed|possible|impossible|cannot|exists|forall|assert)\\b",
+  "i",
+);
+const SAYS_WORD = /\b(?:is|are|holds?|has|have)\b|=/i;
+const OF_START = /\b(?:init\w*|start\w*|from|begin\w*|before\w*|beforehand|originally|assum\w+|suppos\w+|given|let)\b/i;
+const FOLLOWS = /^(?:what|how) about\b/i;
+// What reads a word, and the name of a thread in a sentence: the groups have its number.
+const READING = /\b(?:read|reads|see|sees|seen|observe|observes|observed|print|prints|printed|load|loads|find|finds|get|gets|return|returns)\b/i;
+const THREAD = /(?<!\w)(?:[PT](\d)|(?:thread|process|processor|cpu|core|proc)\s*(\d))(?!\w)(?!\s*:)/gi;
 // Pairs of sites and words, and one or two sites with a word.
 const PAIRS = /\(\s*(\w+)\s*,\s*(\w+)\s*\)\s*==?\s*\(\s*(\d+)\s*,\s*(\d+)\s*\)/g;
+const NOT_ALLOWED = /\b(?:(?:is|are)\s+)?not\s+(?:allowed|possible|permitted)\b/gi;
 const BOTH = /(?<!\w)([A-Za-z_]\w*)(?:\s+and\s+([A-Za-z_]\w*))?\s+(?:both\s+)?(?:be|equal)\s+(?=\d+\b)/gi;
 // Names of registers and of what a thread has for itself.
 const OWN = /^(?:r\d*|reg\d*|t\d|te?mp\d*|e[abcd]x|local\w*)$/i;
-const MADE = /^(?:inside|printed)\d/;
-const KEYWORDS = new Set("if else while int void volatile assert smp_mb smp_rmb std".split(" "));
+const REGISTER = /^(?:r|reg)\d*$|^e[abcd]x$/i;
+const MADE = /^(?:inside|printed|loaded)\d/;
+// The last text that was rewritten, and its test: several readers need it.
+let latest = { text: null, test: null };
+const KEYWORDS = new Set("if else while do int void volatile assert smp_mb smp_rmb std".split(" "));
 // What is said of pseudo code.
 const OF_ACCESSES = "This is pseudo code: each access of a name that threads share is one load or one store.";
 const OF_ATOMICS = " Those of atomic variables are as gcc and clang compile them.";
 const OF_LOCKED = " Exchanges, additions and compare-exchanges by name are locked instructions.";
 const OF_SECTION = " A critical section is an addition to `critical` here";
 const OF_LOST = ": the question is whether one is lost, since two threads are in theirs at once.";
+const IN_SECTION = "threads are in the critical section together";
+const AT_FIRST = " at the first try";
+const OF_ENDLESS = " An endless loop is one pass here: runs with more passes are left out.";
+const OF_ENTRY =
+  " A loop that stores before its critical section is no single pass, so a thread that would begin one ends there: what this test finds can happen, but " +
+  "runs with such passes are left out.";
 const OF_STAYING = " The question is whether all are in the critical section at once.";
+const OF_TWO_STAYING = " The question is whether two are in the critical section at once.";
+
+/** Returns whether a text has one of some names. */
+function hasName(text, names) {
+  return names.some((it) => new RegExp(`(?<!\\w)${it}(?!\\w)`).test(text));
+}
+
+/** Returns a line without the remark after its values, unless that has a value and another one of the names. */
+function dropRemark(line, names) {
+  const [, code, remark] = /^(.*(?:=|<-|←).*?)\s*(?:\/\/|--\s)(.*)$/.exec(line) ?? [];
+  const others = names.filter((it) => !hasName(code ?? "", [it]));
+  return code && !(hasName(remark, others) && (/\b(?:[1-9]\d*|true)\b/i.test(remark) || !/;\s*$/.test(code))) ? code : line;
+}
 
 /** Returns the initial words that lines declare, by names, with the words of an array in a list. Throws Unread if a line says something else. */
 function readInitial(lines, names) {
   const words = new Map();
   for (const line of lines) {
-    const typed = line.replace(/^\s*(?:\/\/|#|--)/, "").replace(ATOMIC_TYPE, "int").replace(INITIALIZER, "$1 = $2");
+    const declared = dropRemark(line.replace(/^\s*(?:\/\/|#|--)/, ""), names);
+    const typed = declared.replace(TYPE_AFTER, "").replace(ALL_ZERO, "").replace(ATOMIC_TYPE, "int").replace(INITIALIZER, "$1 = $2");
     const bare = typed.replace(INITIALLY, "").replace(/[.;]\s*$/, "");
     // A line without values is a title, or declares names that begin with 0.
     if (!/=|:=|<-|←/.test(bare)) {
-      if (OTHER_VALUE.test(line) && (SAYS_INITIAL.test(line) || names.some((it) => new RegExp(`(?<!\\w)${it}(?!\\w)`).test(line)))) throw new Unread();
+      if (OTHER_VALUE.test(typed.replace(/\[\d+\]/g, "")) && (SAYS_INITIAL.test(line) || hasName(line, names))) throw new Unread();
       continue;
     }
+    // The word may be that of the last name only.
+    if (!TYPED.test(line) && SET_LAST.test(bare)) throw new Unread(`\`${bare.trim()}\`: write the word of each name`);
     const code = toC(bare).replace(/==/g, "=").replace(TYPE, "").replace(/&&?|;|(?<=\w)\s+(?=\w)/g, ",");
-    for (const entry of code.split(/,(?![^{[]*[}\]])/).map((it) => it.trim()).filter(Boolean)) readEntry(entry, words);
+    const entries = code.split(/,(?![^{[(]*[}\])])/).map((it) => it.trim()).filter(Boolean);
+    for (const entry of entries) readEntry(entry, words, TYPED.test(line) && !/\b0$/.test(entry));
   }
   return words;
 }
 
 /** Adds the words of an entry, as `x = y = 0` or `flag[2] = {0, 0}`, to those of names. */
-function readEntry(entry, words) {
+function readEntry(entry, words, isTyped) {
   const parts = entry.split("=").map((it) => it.trim());
   const last = parts.length > 1 ? parts.pop() : "0";
-  const list = /^[{[]([\d\s,]*)[}\]]$/.exec(last)?.[1].split(",").map((it) => it.trim()).filter(Boolean);
+  const list = /^[{[(]([\d\s,]*)[}\])]$/.exec(last)?.[1].split(",").map((it) => it.trim()).filter(Boolean);
   if (!list && !/^\d+$/.test(last)) throw new Unread();
   for (const part of parts) {
     const [, name, index] = /^\[?\s*_?([A-Za-z_]\w*)\s*\]?(?:\[(\d*)\])?$/.exec(part) ?? [];
     if (!name) throw new Unread();
-    words.set(index && !list && entry.includes("=") ? `${name}[${index}]` : name, list ?? last);
+    const isElement = index && !list && entry.includes("=");
+    // The word of an array that has a size may be that of each element.
+    if (isElement && isTyped) throw new Unread(`\`${entry}\`: write the word of each element, as \`{1, 1}\``);
+    words.set(isElement ? `${name}[${index}]` : name, list ?? last);
   }
+}
+
+/** Throws Unread if an initial word other than 0 is that of a name or an element which code does not have. */
+function refuseUnused(initial, code) {
+  const isUnused = ([name, word]) => [word].flat().some((it) => Number(it) !== 0) && !hasName(code, [name.replace(/[[\]]/g, "\\$&")]);
+  const [unused] = [...initial].find(isUnused) ?? [];
+  if (unused) throw new Unread(`the initial word of \`${unused}\`, which no thread has`);
 }
 
 /** Returns the names in code, without those of C. */
@@ -73,17 +149,32 @@ function listNames(code) {
   return (code.match(/(?<![\w.:>]|->)[A-Za-z_]\w*\b(?!\s*(?:\(|::))/g) ?? []).filter((it) => !KEYWORDS.has(it));
 }
 
-/** Throws Unread if names may be those of constants: they have capital letters only, no thread sets them, and they have no initial value. */
-function refuseConstants(codes, initial) {
+/**
+ * Throws Unread if lines around the threads may say more than what is asked: initial words, or words of locations that no sentence asks for. A location is
+ * a name of the code that is no thread's own.
+ */
+function refuseOthers(after, asking, codes, own) {
+  const locations = listNames(codes.join(" ")).filter((it) => !own.some((names) => names.includes(it)));
+  const isStart = (it) => /\binit/i.test(it) || (OF_START.test(it) && OTHER_VALUE.test(it) && hasName(it, locations));
+  const isWord = (it) => !ASKS_BELOW.test(it) && hasName(it, locations) && (it.search(ATOM) >= 0 || (SAYS_WORD.test(it) && OTHER_VALUE.test(it)));
+  if ([...asking, ...after].some(isStart) || after.some(isWord)) throw new Unread();
+}
+
+/**
+ * Throws Unread if names of several letters may be those of constants, as `up` and `READY`: no thread sets them, and the lines before the threads do
+ * not declare them, or only without a value if they are capital letters.
+ */
+function refuseConstants(codes, initial, before) {
   const code = codes.join(" ");
-  const isSet = (it) => new RegExp(`(?<!\\w)${it}\\b\\s*(?:[+-]?=(?!=)|\\+\\+|\\.|\\[)|&${it}\\b`).test(code);
-  if (listNames(code).some((it) => /^[A-Z]{2,}$/.test(it) && !initial.has(it) && !isSet(it))) throw new Unread();
+  const declared = before.filter((it) => TYPED.test(it) || INITIALLY.test(it)).join("\n").replace(/[{(][^{}()]*[})]/g, "");
+  const isSet = (it) => new RegExp(`(?<!\\w)${it}\\b\\s*(?:[+-]?=(?!=)|\\+\\+|\\.|->|\\[)|&${it}\\b`).test(code);
+  const isGiven = (it) => initial.has(it) || /^(?:(?![TF]$)[A-Za-z]\d?|true|false)$/.test(it) || (!/^[A-Z]{2,}$/.test(it) && hasName(declared, [it]));
+  if (listNames(code).some((it) => !isGiven(it) && !isSet(it))) throw new Unread();
 }
 
 /**
  * Returns the names of each thread that are its own: those that it declares, those of registers, which each thread sets that has them, and names that it sets
- * from another name and no other thread has. Throws Unread if one of them has an initial word other than 0, or if each thread loads a name first that may be
- * that of a location.
+ * from another name and no other thread has. Throws Unread if each thread loads a name first that may be that of a location.
  */
 function findOwnNames(codes, declared, initial) {
   const has = (code, name) => listNames(code).includes(name);
@@ -91,6 +182,8 @@ function findOwnNames(codes, declared, initial) {
   const isSet = (name, code, value = "") => new RegExp(`(?<![\\w\\]])${name} = ${value}`).test(code);
   const isOwn = (name, code, thread) => {
     if (MADE.test(name) || declared[thread].has(name)) return true;
+    if (OWN.test(name) && initial.has(name) && !isElsewhere(name, thread)) return true;
+    if (OWN.test(name) && initial.has(name) && !REGISTER.test(name)) return false;
     if (OWN.test(name)) return codes.every((it) => !has(it, name) || isSet(name, it));
     return isSet(name, code, "[A-Za-z_]") && !isElsewhere(name, thread) && !initial.has(name);
   };
@@ -101,7 +194,6 @@ function findOwnNames(codes, declared, initial) {
   };
   const names = [...new Set(codes.flatMap((code, thread) => listNames(code).filter((it) => !own[thread].includes(it))))];
   if (names.some((it) => !initial.has(it) && codes.every((code) => isLoaded(it, code)))) throw new Unread();
-  if (own.flat().some((it) => initial.has(it) && initial.get(it) !== "0")) throw new Unread();
   return own;
 }
 
@@ -133,25 +225,66 @@ function nameThreads(question, own) {
 }
 
 /** Returns the question of lines that ask of names, as the test's question; "" if none asks in a way that is known. */
-function readQuestion(lines, names, own, first) {
+function readQuestion(lines, codes, own, first) {
+  const names = listNames(codes.join(" "));
   const raw = lines.findIndex((it) => QUESTION.test(it));
   if (raw >= 0) return nameThreads(numberThreads(lines.slice(raw).join(" "), first), own);
   const asserted = lines.map((it) => /^\s*assert\b\s*([^;]*?)\s*;?\s*$/.exec(it)?.[1]).find(Boolean);
   if (asserted) return nameThreads(`forall (${negateSites(toCondition(asserted))})`, own);
-  const sentences = lines.flatMap((it) => it.split(/(?<=[?.])\s+/)).map(writeEquations).filter((it) => it.search(ATOM) >= 0);
-  const sentence = sentences.find((it) => it.includes("?")) ?? sentences[0];
-  if (!sentence || OTHER_CONNECTIVE.test(sentence.replace(/\((?:or|and)[^)]*\)/gi, ""))) return "";
-  const atoms = [...sentence.matchAll(ATOM)].flatMap(([, sites, word]) => {
-    return sites.split(/\s*==?\s*/).map((it) => `${it.replace(/^(?:P|T|Proc|Thread)\s*(?=\d)|[\s%]/gi, "")}=${toC(word)}`);
-  });
+  const sentence = findAsking(lines);
+  if (!sentence || !isConjunction(sentence, names)) return "";
+  const atoms = [...sentence.matchAll(ATOM)].flatMap(({ 1: sites, 2: word, index }) => sites.split(/\s*==?\s*/).map((it) => {
+    const site = it.replace(/^(?:P|T|Proc|Thread)\s*(?=\d)|[\s%]/gi, "");
+    return `${readSite(site, sentence, index, { codes, own, first })}=${toC(word)}`;
+  }));
   const sites = atoms.map((it) => it.split("=")[0]);
-  if (new Set(sites).size < sites.length || sites.some((it) => !names.includes(/(\w+)(?:\[\d\])?$/.exec(it)[1]))) return "";
+  const [bare, isLocation] = [sites.map((it) => it.replace(/^\d:/, "")), (it) => /^[A-Za-z_]/.test(it) && !own.some((all) => all.includes(it))];
+  const isTwice = new Set(sites).size < sites.length || sites.some((it, at) => it !== bare[at] && sites.includes(bare[at]));
+  if (isTwice || bare.some((it) => !names.includes(/^\w+/.exec(it)?.[0])) || (CONDITIONAL.test(sentence) && sites.some(isLocation))) return "";
   return nameThreads(numberThreads(`exists (${atoms.join(" /\\ ")})`, first), own);
 }
 
-/** Returns a sentence in which pairs, and words as `both be 0`, are equations. */
+/** Returns the sentence of lines that asks of sites; undefined if there is none, or another one may ask, too. */
+function findAsking(lines) {
+  const joined = lines.join("\n").replace(/\n\s*(?=(?:and|or|with|while|when|but|then|if)\b)|(?<=[,:]|\b(?:and|or|if|can|with))\s*\n/gi, " ");
+  const sentences = joined.split(/(?<=[?.])\s+|\n/).map(writeEquations).filter((it) => it.search(ATOM) >= 0);
+  const asking = sentences.filter((it) => it.includes("?"));
+  const chosen = (asking.length ? asking : sentences).filter((it) => !FOLLOWS.test(it));
+  return chosen.length === 1 ? chosen[0] : undefined;
+}
+
+/** Returns whether a sentence asks whether all its sites have their words at once: it has no names beside them, and no words that may change that. */
+function isConjunction(sentence, names) {
+  const rest = sentence.replace(/\((?:or|and)[^)]*\)/gi, "").replace(ATOM, " ").replace(THREAD, " ");
+  const words = rest.match(/[A-Za-z_][\w'-]*/g) ?? [];
+  if (OF_START.test(sentence) || (CONDITIONAL.test(rest) && !POSSIBLE.test(rest))) return false;
+  return words.every((it) => ASKING_WORDS.has(it.toLowerCase()) && !names.includes(it)) && SIGNS.test(rest.replace(/[A-Za-z_][\w'-]*/g, ""));
+}
+
+/**
+ * Returns a site of a sentence at an index: if that asks what a thread reads, the register of the only load of a location, with its thread, or "" if
+ * it is not sure which one that is.
+ */
+function readSite(site, sentence, index, { codes, own, first }) {
+  const threads = [...sentence.matchAll(THREAD)].map((it) => ({ index: it.index, thread: Number(it[1] ?? it[2]) - first }));
+  const isLocation = /^[A-Za-z_]/.test(site) && !own.some((it) => it.includes(site));
+  if (!isLocation || (!READING.test(sentence) && !threads.length)) return site;
+  const last = threads.findLast((it) => it.index < index)?.thread;
+  const escaped = site.replace(/[[\]]/g, "\\$&");
+  const loads = codes.flatMap((code, thread) => {
+    const [, register] = new RegExp(`(?<!\\w)(\\w+) = ${escaped};`).exec(code) ?? [];
+    const count = code.match(new RegExp(`(?<!\\w)${escaped}(?!\\w| = )`, "g"))?.length ?? 0;
+    return count && (last === undefined || last === thread) ? [{ thread, register: count === 1 && register }] : [];
+  });
+  const [{ thread, register } = {}] = loads;
+  const isOnce = register && own[thread].includes(register) && codes[thread].match(new RegExp(`(?<!\\w)${register} `, "g")).length === 1;
+  return loads.length === 1 && isOnce ? `${thread + first}:${register}` : "";
+}
+
+/** Returns a sentence in which pairs, and words as `both be 0`, are equations, and what is not allowed is forbidden. */
 function writeEquations(sentence) {
-  return sentence.replace(PAIRS, "$1 = $3, $2 = $4").replace(BOTH, (_, one, other) => (other ? `${one} = ${other} = ` : `${one} = `));
+  const pairs = sentence.replace(NOT_ALLOWED, "is forbidden").replace(PAIRS, "$1 = $3, $2 = $4");
+  return pairs.replace(BOTH, (_, one, other) => (other ? `${one} = ${other} = ` : `${one} = `));
 }
 
 /** Returns a condition with negations as those of a question. */
@@ -159,16 +292,32 @@ function negateSites(condition) {
   return condition.replace(/(\w[\w[\]]*)\s*!=\s*(\w+)/g, "~$1=$2").replace(/!(?=\s*\()/g, "~");
 }
 
+/** Returns propositions with a sign between them, in parentheses if there are several. */
+function join(parts, sign) {
+  return parts.length > 1 ? `(${parts.join(` ${sign} `)})` : parts[0];
+}
+
+/** Returns the sets of two or more of some writers that have all those that are not in branches. */
+function listEntered(sections) {
+  const sets = sections.reduce((all, it) => [...all.map((set) => [...set, it]), ...(it.isBranched ? all : [])], [[]]);
+  return sets.filter((it) => it.length > 1).reverse();
+}
+
 /** Returns the question whether two threads can be in the critical section at once; "" if no two have one. */
 function askOfSections(writers) {
   const sections = writers.filter((it) => it.hasSection);
   if (sections.length < 2) return "";
-  const entered = sections.filter((it) => it.isBranched).map((it) => `inside${it.number}=1`);
-  const lost = sections.slice(1).map((_, at) => `critical=${at + 1}`);
   // Who does nothing after its section stays in it.
   const isStaying = sections.every((it) => it.isBranched && !it.isAfterSection);
-  const parts = isStaying ? entered : [...entered, lost.length > 1 ? `(${lost.join(" \\/ ")})` : lost[0]];
-  return `~exists (${parts.join(" /\\ ")})`;
+  const pairs = sections.flatMap((one, at) => sections.slice(at + 1).map((other) => [one, other]));
+  const sets = isStaying ? pairs : listEntered(sections);
+  const cases = sets.map((set) => {
+    const others = isStaying ? [] : sections.filter((it) => !set.includes(it));
+    const entered = [...set.filter((it) => it.isBranched).map((it) => `inside${it.number}=1`), ...others.map((it) => `inside${it.number}=0`)];
+    const lost = join(set.slice(1).map((_, at) => `critical=${at + 1}`), "\\/");
+    return (isStaying ? entered : [...entered, lost]).join(" /\\ ");
+  });
+  return `~exists (${cases.length > 1 ? cases.map((it) => (/ /.test(it) ? `(${it})` : it)).join(" \\/ ") : cases[0]})`;
 }
 
 /** Returns statements without what the question on critical sections does not need. */
@@ -180,59 +329,89 @@ function dropUnasked(code, section) {
 /**
  * Returns the program in C of a text, what it asks of critical sections, and whether the text itself asks. Throws Unread if a part of the text is not read.
  */
-function writeProgram({ before, threads, after, first }) {
+function writeProgram({ before, threads, after, first }, isEntry) {
   const writers = threads.map((it, number) => new StatementWriter(it, number));
-  const codes = writers.map((it) => it.writeThread());
+  const whole = writers.map((it) => it.writeThread());
+  const codes = isEntry ? whole.map(enterAtOnce) : whole;
+  for (const [at, writer] of writers.entries()) writer.isBranched ||= codes[at] !== whole[at];
   const section = askOfSections(writers);
   const written = codes.map((it) => dropUnasked(it, section));
   const asking = before.filter((it) => ASKS.test(it));
   const initial = readInitial(before.filter((it) => !asking.includes(it)), listNames(codes.join(" ")));
-  if ([...asking, ...after].some((it) => /\binit/i.test(it))) throw new Unread();
-  refuseConstants(written, initial);
+  refuseUnused(initial, codes.join(" "));
+  refuseConstants(written, initial, before);
   const own = findOwnNames(written, writers.map((it) => it.declared), initial);
-  const asked = readQuestion([...after, ...asking], listNames(written.join(" ")), own, first);
+  if (hasOutcome(written, own)) throw new Unread();
+  refuseOthers(after, asking, written, own);
+  const started = written.map((code, thread) => `${setOwnNames(own, thread, initial)}${code}`);
+  const asked = readQuestion([...after, ...asking], written, own, first);
   // A name of one thread is declared outside, where it begins with 0.
   const isLocal = (name) => own.filter((names) => names.includes(name)).length > 1;
   const declare = (names) => names.map((it) => `int ${it}; `).join("");
-  const bodies = written.map((code, thread) => `void P${thread}(void) { ${declare(own[thread].filter(isLocal))}${code} }\n`);
+  const bodies = started.map((code, thread) => `void P${thread}(void) { ${declare(own[thread].filter(isLocal))}${code} }\n`);
   const question = asked || nameThreads(section, own);
   const outside = `${declareShared(written, own, initial)} ${declare(own.flat().filter((it) => !isLocal(it)))}\n`;
-  return { program: `${outside}${bodies.join("")}${question && `// lw: ${question}\n`}`, section, asked };
+  const isEndless = writers.some((it) => it.isEndless);
+  const hasEntry = !isEntry && whole.some((it) => enterAtOnce(it) !== it);
+  return { program: `${outside}${bodies.join("")}${question && `// lw: ${question}\n`}`, section, asked, isEndless, hasEntry };
+}
+
+/** Returns what sets the names of one thread's own to initial words other than 0. Throws Unread if another thread has such a name, too. */
+function setOwnNames(own, thread, initial) {
+  const names = own[thread].filter((it) => initial.has(it) && initial.get(it) !== "0");
+  if (names.some((name) => own.filter((it) => it.includes(name)).length > 1 || Array.isArray(initial.get(name)))) throw new Unread();
+  return names.map((it) => `${it} = ${initial.get(it)}; `).join("");
 }
 
 /**
- * Returns a hint that offers an x86 test of pseudo code, with whether the text asks in words (`isAsked`); or says why it is not rewritten; or null if a text
- * is something else.
+ * Returns a hint that offers an x86 test of pseudo code, with whether the text asks in words (`isAsked`); or says why it is not rewritten, with whether that
+ * is a call of a function (`isCall`), as code of a language has; or null if a text is something else.
  * @param {string} text
- * @returns {Hint & {isAsked?: boolean} | null}
+ * @returns {Hint & {isAsked?: boolean, isCall?: boolean} | null}
  */
 export function explainPseudoProgram(text) {
   const test = rewritePseudoProgram(text);
   if (!test) return null;
   const why = test.why?.replace(/\. `tools.*/, "");
-  if (why) return { words: `This is pseudo code, which the page would rewrite as an x86 test, but not ${why}.`, change: null };
-  const sections = test.section.includes("critical") ? `${OF_SECTION}${test.asked ? "." : OF_LOST}` : test.section && !test.asked ? OF_STAYING : "";
-  const change = { begin: 0, end: text.length, text: test.made, title: "Make x86 code of it", done: "Rewritten." };
+  if (why) return { words: `This is pseudo code, and the page can't make a test of it because of ${why}.`, change: null, isCall: test.isCall };
+  const passes = `${test.isEndless ? OF_ENDLESS : ""}${test.isEntry ? OF_ENTRY : ""}`;
+  const staying = test.section.includes("\\/") ? OF_TWO_STAYING : OF_STAYING;
+  const sections = test.section.includes("critical") ? `${OF_SECTION}${test.asked ? "." : OF_LOST}` : test.section && !test.asked ? staying : "";
+  const change = { begin: 0, end: text.length, text: test.made, title: `Make x86 code of ${test.isEntry ? "its entry" : "it"}`, done: "Rewritten." };
   const isAsked = test.asked !== "" && !QUESTION.test(text);
   const locked = test.program.includes("__sync_") ? OF_LOCKED : "";
   const atomics = (test.program.includes("std::atomic<") ? OF_ATOMICS : "") + locked;
-  return { words: `${OF_ACCESSES}${atomics}${sections}${explainMade(test)}`, change, isOffer: true, isAsked };
+  return { words: `${OF_ACCESSES}${test.said}${atomics}${sections}${passes}${explainMade(test)}`, change, isOffer: true, isAsked };
 }
 
 /**
  * Returns the x86 test of pseudo code, as `rewriteProgram` does, with the question of its critical sections (`section`) and its own (`asked`), each "" if
- * there is none; or null if a text is something else.
+ * there is none, whether one pass is in place of an endless loop (`isEndless`), whether it has only the entries of critical sections (`isEntry`), and a
+ * sentence on the threads (`said`). If a part is not read for a reason (`isUnread`), it has only that, `why`. Returns null if a text is something else.
  * @param {string} text
  * @returns {object | null}
  */
 export function rewritePseudoProgram(text) {
-  const read = readPseudoText(text);
+  if (latest.text !== text) latest = { text, test: rewriteText(text) };
+  return latest.test;
+}
+
+/** Rewrites a text, as `rewritePseudoProgram` does for a text that is not the last one. */
+function rewriteText(text) {
+  const processes = writeProcesses(text);
+  const read = readPseudoText(processes?.text ?? text);
   if (!read) return null;
+  const rewrite = (isEntry) => {
+    const { program, ...asks } = writeProgram(read, isEntry);
+    const test = rewriteProgram(program, asks.section && !asks.asked ? `${IN_SECTION}${isEntry ? AT_FIRST : ""}` : "");
+    return { ...test, ...asks, program, isEntry, isUnread: false, said: processes?.words ?? "" };
+  };
   try {
-    const { program, ...asks } = writeProgram(read);
-    return { ...rewriteProgram(program), ...asks, program };
+    const test = rewrite(false);
+    const entry = test.made || !test.hasEntry ? test : rewrite(true);
+    return entry.made ? entry : test;
   } catch (error) {
-    if (error instanceof Unread) return null;
+    if (error instanceof Unread) return error.message ? { why: error.message, isUnread: true, isCall: error.isCall } : null;
     throw error;
   }
 }

@@ -2,19 +2,20 @@
 //
 // A `Line` is that of pseudo_lines.js.
 
+import { alignSections, CRITICAL, unwrapEndless } from "./pseudo_loops.js";
+
 // Operators and constants of pseudo code, and those of C. A negation in words is that of a whole comparison.
 const COMPARED = /(?:\bnot\b|¬)\s*([A-Za-z_][\w[\]]*\s*(?:==?|!=|<>|≠)\s*\w+)/gi;
 const WORDS = [
   [COMPARED, "!($1)"], [/:=|<-|←/g, "="], [/\band\b|∧/gi, "&&"], [/\bor\b|∨/gi, "||"], [/\bnot\b\s*|¬/gi, "!"], [/<>|≠|=\/=/g, "!="],
   [/\btrue\b/gi, "1"], [/\bfalse\b/gi, "0"], [/\b(?:NEW|SET)\b/g, "1"],
 ];
-// Statements that do nothing, a critical section, and fences with those of C.
+// Statements that do nothing, and fences with those of C.
 const NOTHING = new RegExp(
-  "^(?:skip|pass|continue|(?:cpu_relax|[\\w.:]*yield|pause)\\s*\\(\\)|nop|no-?op|do nothing|do|done|od|fi|begin|end(?:[ _]?(?:if|while))?|\\.{2,}|…|" +
-    "busy[ -]wait|spin|;|\\{\\s*\\})?$",
+  "^(?:skip|pass|continue|(?:cpu_relax|[\\w.:]*yield|pause)\\s*\\(\\)|nop|no-?op|do nothing|do|done|od|fi|begin|end(?:[ _]?(?:if|while|do))?|\\.{2,}|…|" +
+    "busy[ -]wait|spin|;|\\{\\s*\\}|<?(?:non-?[ _]?critical|remainder)(?:[ _](?:section|code|region))?>?(?:\\(\\))?)?$",
   "i",
 );
-const CRITICAL = /^<?\(?(?:in\s+)?(?:the\s+)?(?:critical(?:[\s_]section)?|CS)\)?>?(?:\(\))?\.*$/i;
 const FENCES = [
   [/^<?(?:(?:general|full)[ _])?(?:memory[ _])?(?:barrier|fence)>?(?:\(\))?$/i, "smp_mb();"],
   [/^(?:mfence|smp_mb|__sync_synchronize|mb|(?:membar )?#?StoreLoad(?: (?:barrier|fence))?)\s*(?:\(\))?$/i, "smp_mb();"],
@@ -31,6 +32,10 @@ const HEAD = new RegExp(
 const BEGIN = /(^|\b(?:then|do|else)\s+)begin\b(?=\s*(?:$|[A-Za-z_]))/i;
 const ELSE = /\s*(?:;\s*)?\belse\b:?\s*/i;
 const ASSIGNMENT = /^([A-Za-z_]\w*(?:\[\d\])?)\s*(\+=|-=|=(?!=))\s*(.+)$/;
+const LOADED = /^(?:(?:load|read)\s+|(?:load|read)\s*(?=\()|(?:\.{2,}|…)\s*=\s*)[[(]?\s*_?([A-Za-z_]\w*(?:\[\d\])?)\s*[\])]?$/i;
+const STORED = /^(?:store|write)\s*(?:\(\s*|\s)\[?(\w+)\]?\s*,\s*(\w+)\s*\)?$/i;
+const LOADS = /(?<=(?::=|<-|←|=)\s*)(?:load|read)\s*(?:\(\s*\[?(\w+)\]?\s*\)|\s\[?(\w+)\]?)$/i;
+const SWAP = /^xchg\s+(?:\[\s*_?(\w+)\s*\]\s*,\s*(\w+)|(\w+)\s*,\s*\[\s*_?(\w+)\s*\])$/i;
 const MOVE = /^mov[lq]?\s+([^\s,<][^,<]*?)\s*(?:,|<-)\s*(.+)$/i;
 const EXPRESSION = /^[\w\s+()[\]-]+$/;
 const CONDITION = /^[\w\s=!&|()[\]+.,:-]+$/;
@@ -47,12 +52,18 @@ const ATOMICS = [
   [/\b(?:fetch_?and_?add|fetch_add|FAA|get_?and_?add)\s*\(\s*&?(\w+)\s*,\s*(\w+)\s*\)/gi, "__sync_fetch_and_add(&$1, $2)"],
   [/\b(?:CAS|compare_?and_?(?:swap|set))\s*\(\s*&?(\w+)\s*,\s*(\w+)\s*,\s*(\w+)\s*\)/gi, "__sync_bool_compare_and_swap(&$1, $2, $3)"],
 ];
+// A compare-exchange whose result is compared with a number, or which a name gets.
+const CALL_OF_CAS = "\\b(?:CAS|compare_?and_?swap)\\s*\\([^()]*\\)";
+const COMPARED_CAS = new RegExp(
+  `${CALL_OF_CAS}\\s*(?:[=!]?=|<>|≠)\\s*(?!true|false)\\w+|\\w+\\s*(?::=|<-|\u2190|[=!]?=|<>|≠)\\s*${CALL_OF_CAS}`, "i",
+);
 const BUILTIN = /^(?:\w+ ?=(?!=) ?)?__sync_\w+\(&\w+(?:, \w+)*\)$/;
+const UNKNOWN_CALL = /^[A-Za-z_]\w*\s*\(\s*\)$/;
 const LOCK = /^(un)?lock\s*\(\s*&?(\w+)\s*\)$|^(?:acquire|(release))\s*\(\s*&?(\w+)\s*\)$/i;
 // Names of the C code that pseudo code can't have.
-const TAKEN = /\b(?:critical|inside\d|printed\d)\b/;
+const TAKEN = /\b(?:critical|inside\d|(?:printed|loaded)\d)\b/;
 
-/** Thrown if a text is not read as pseudo code. */
+/** Thrown if a text is not read as pseudo code; its message is the reason, "" if there is none that helps. */
 export class Unread extends Error {}
 
 /**
@@ -74,12 +85,20 @@ function nameAtomics(code) {
   return ATOMICS.reduce((all, [pattern, call]) => all.replace(pattern, call), code);
 }
 
+/** Throws Unread if the result of a compare-exchange may be the old word, or whether it stored. */
+function refuseOldWord(code) {
+  const [compared] = COMPARED_CAS.exec(code) ?? [];
+  if (!compared) return;
+  throw new Unread(`\`${compared.trim()}\`: it may return the old word, or whether it stores, so write it as a condition, \`if CAS(..)\``);
+}
+
 /**
  * Returns a condition as C writes it. Throws Unread if it is something else.
  * @param {string} code
  * @returns {string}
  */
 export function toCondition(code) {
+  refuseOldWord(code);
   const condition = toC(nameAtomics(code.replace(KERNEL_LOAD, "$1"))).replace(/(?<![=!<>])=(?!=)/g, "==");
   if (!CONDITION.test(condition) || !condition.trim() || TAKEN.test(condition)) throw new Unread();
   return nameOrders(condition);
@@ -97,10 +116,12 @@ function convertBlocks(lines) {
 export class StatementWriter {
   /** `written` are the lines of the thread with this `number`. */
   constructor(written, number) {
-    const lines = convertBlocks(written);
+    const unwrapped = unwrapEndless(written);
+    const lines = alignSections(convertBlocks(unwrapped ?? written));
     // `depth` is the number of branches and braces around the present statement, `isHead` whether the last one was the head of a branch, and `isBranched`
     // whether a critical section is in one. `declared` has the names that the thread declares.
-    // `branch` is the indentation of the `if` before the present statement.
+    // `branch` is the indentation of the `if` before the present statement. `isEndless` is set if one pass is in place of an endless loop.
+    Object.assign(this, { isEndless: unwrapped !== null, loaded: 0 });
     Object.assign(this, { lines, number, at: 0, printed: 0, depth: 0, branch: -1, isHead: false, declared: new Set() });
     Object.assign(this, { hasSection: false, isBranched: false, isAfterSection: false });
     this.hasBraces = lines.some((it) => /[{}]/.test(it.code.replace(/\{\s*\}/g, "")));
@@ -131,10 +152,18 @@ export class StatementWriter {
 
   /** Returns a part of a line without braces: the head of a branch or loop, perhaps with a statement, or statements. */
   writePart(code) {
+    // What `do` begins with a brace is a loop whose condition is at its end.
+    if (/^do$/i.test(code)) return this.beginLoop();
     const [head, rest] = this.splitHead(code) ?? [];
     if (head === undefined) return this.writeSimples(code);
     this.isHead = true;
     return `${head} ${rest && this.writePart(rest)}`;
+  }
+
+  /** Returns the word before the brace of a loop whose condition is at its end. */
+  beginLoop() {
+    this.isHead = true;
+    return "do";
   }
 
   // Code with indentation.
@@ -150,6 +179,9 @@ export class StatementWriter {
   writeStatement() {
     const { code, indent } = this.lines[this.at];
     this.at += 1;
+    if (/^repeat:?$/i.test(code)) return this.writeRepeat(indent);
+    const [, repeated, until] = /^repeat\s+(?!(?:until|while|for)\b)(.+?)\s+until\s+(.+?);?$/i.exec(code) ?? [];
+    if (until) return `do { ${this.writeSimples(repeated)} } while (!(${toCondition(until)})) ;`;
     const [head, rest, sign] = this.splitHead(code) ?? [];
     if (head === undefined) return this.writeSimples(code);
     // An `else` is below its `if`.
@@ -166,6 +198,17 @@ export class StatementWriter {
     // A line below a loop without a body may be its body.
     if (!head.startsWith("while") || (next === indent && !NOTHING.test(this.lines[this.at].code))) throw new Unread();
     return `${head} ;`;
+  }
+
+  /** Returns the loop of the lines up to the one that begins with `until`. Throws Unread if there is none. */
+  writeRepeat(indent) {
+    const next = this.lines[this.at]?.indent ?? -1;
+    const body = next > indent ? this.writeBlock(next).join(" ").trim() : "";
+    const [, condition] = /^until\s+(.*?)\s*;?$/i.exec(this.lines[this.at]?.code ?? "") ?? [];
+    if (!condition || this.lines[this.at].indent !== indent) throw new Unread();
+    this.at += 1;
+    const ended = `while (!(${toCondition(condition)})) ;`;
+    return body ? `do { ${body} } ${ended}` : ended;
   }
 
   /**
@@ -203,7 +246,7 @@ export class StatementWriter {
 
   /** Returns the statements of code without branches. */
   writeSimples(code) {
-    const parts = MOVE.test(code) ? [code] : code.split(/;\s*|,(?![^([]*[)\]])\s*/);
+    const parts = [MOVE, SWAP, STORED].some((it) => it.test(code)) ? [code] : code.split(/;\s*|,(?![^([]*[)\]])\s*/);
     const written = parts.map((it) => this.writeSimple(it.trim().replace(/[.;]$/, ""))).join(" ");
     this.isHead = false;
     return written;
@@ -218,6 +261,10 @@ export class StatementWriter {
     this.isAfterSection ||= this.hasSection;
     const [, shown] = /^print\s*\(?\s*([\w[\]]+)\s*\)?$/i.exec(code) ?? [];
     if (shown) return `printed${this.number}${(this.printed += 1) > 1 ? `_${this.printed}` : ""} = ${shown};`;
+    const [, to, word] = STORED.exec(code) ?? [];
+    if (to) return writeAssignment(`${to} = ${word}`);
+    const [, read] = LOADED.exec(code) ?? [];
+    if (read) return `loaded${this.number}${(this.loaded += 1) > 1 ? `_${this.loaded}` : ""} = ${read};`;
     const [, asserted] = /^assert\b\s*(.+)$/i.exec(code) ?? [];
     if (asserted) return `assert(${toCondition(asserted)});`;
     const [locked, isUnlocked, mutex, isReleased, other = mutex] = LOCK.exec(code) ?? [];
@@ -226,11 +273,16 @@ export class StatementWriter {
     if (counted) return `${counted}++;`;
     const [, type, name] = /^((?:const\s+)?(?:auto|int|unsigned|bool|long)\s+)(\w+)\s*=/.exec(code) ?? [];
     if (name) this.declared.add(name);
-    return writeAssignment(type ? code.slice(type.length) : code);
+    if (!/\bbool\b/.test(type ?? "")) refuseOldWord(code);
+    const bare = (type ? code.slice(type.length) : code).replace(LOADS, "$1$2");
+    // Such a text may be code of a language, too.
+    if (UNKNOWN_CALL.test(bare)) throw Object.assign(new Unread(`\`${bare}\`: write what it does to the names that threads share`), { isCall: true });
+    return writeAssignment(bare.replace(/^(?:store|write)\s+(?=\w+\s*(?::=|<-|←|=))/i, ""));
   }
 
-  /** Returns a critical section: it sets a variable, and adds to a location, which is lost if another thread is there, too. */
+  /** Returns a critical section: it sets a variable, and adds to a location, which is lost if another thread is there. Throws Unread for a second. */
   writeSection() {
+    if (this.hasSection) throw new Unread();
     this.hasSection = true;
     this.isBranched ||= this.depth > 0 || this.isHead;
     return `inside${this.number} = 1; critical++;`;
@@ -241,6 +293,8 @@ export class StatementWriter {
 function writeAssignment(code) {
   const [, to, from] = MOVE.exec(code) ?? [];
   const clean = (it) => it.replace(/^\[\s*_?(\w+)\s*\]$|^\$?(\w+)$/, "$1$2");
+  const [swap, memory, after, before, other = memory] = SWAP.exec(code) ?? [];
+  if (swap) return `${after ?? before} = __sync_lock_test_and_set(&${other}, ${after ?? before});`;
   const [, stored, word] = KERNEL_STORE.exec(code) ?? [];
   const plain = to ? `${clean(to)} = ${clean(from)}` : stored ? `${stored} = ${word}` : nameAtomics(code.replace(KERNEL_LOAD, "$1"));
   if (TAKEN.test(plain)) throw new Unread();
