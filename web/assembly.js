@@ -6,9 +6,11 @@
 // `locations` that variables are, with the index of the line that first names each (`mentions`), and what `readThreads` returns.
 
 import { alignCells } from "./aligned.js";
+import { nameAddresses } from "./assembly_addresses.js";
 import { findLocations, formatList, guessQuestion, REGISTER } from "./assembly_question.js";
 import { readBlocks, rewriteReturns } from "./assembly_reader.js";
 import { describeUnset, limitTest, lowerText } from "./assembly_test.js";
+import { addEnds } from "./c_question.js";
 import { rewriteListing } from "./disassembly.js";
 import { rewriteWhole } from "./notation.js";
 import { explainProcessor } from "./other_processors.js";
@@ -77,7 +79,7 @@ const NOT_LINKED = "These are instructions of an object file, which lacks the ad
 const BEGIN = "These are instructions without a test around them";
 const TOO_LARGE = "a test has eight locations at most, and each thread of it 32 instructions";
 const OF_GUESS = "The question is a guess: change it to yours.";
-const OF_TRUE = "The question `true` holds always: look at the list of states.";
+const OF_TRUE = "The question `true` asks nothing: look at the list of states, and ask what must not happen.";
 // The question of a test of which none is guessed.
 const TRUE = "exists (true)\n";
 const OTHER_BEGIN = "write the initial values as `{ x=1; }`";
@@ -294,7 +296,7 @@ function readSource(text) {
   const read = readThreads(listing.text);
   const [locations, mentions] = [new Map(), new Map()];
   const findPlace = ({ row, column }) => front.length + listing.begins[row] + column;
-  const lines = read.threads.map((it) => rewriteReturns(it).map((line) => ({ code: line.code, index: findPlace(line) })));
+  const lines = read.threads.map((it) => rewriteReturns(nameAddresses(it)).map((line) => ({ code: line.code, index: findPlace(line) })));
   const threads = lines.map((it) => it.map((line) => rewriteVariables(line, locations, mentions)));
   const places = lines.map((it) => it.map((line) => line.index));
   const tail = numberThreads(text.slice(end), read.first);
@@ -344,7 +346,7 @@ function formatLowered({ lines, own, block, isShown, tail, ends, say, isBegin, l
   const markers = guess ? [] : ends.map((it) => it.name);
   const list = formatList(own, false, guess ?? "", isShown, markers);
   const { text } = rewriteWhole(formatTest(head, lines, `${list}${guess ?? TRUE}`));
-  const { text: made } = guess ? limitTest(text, ends, QUESTION) : { text };
+  const { text: made } = guess ? limitTest(text, ends, QUESTION) : { text: addEnds(text, ends) };
   return isRead(made) ? { text: made, isAsked: guess !== null, said: say(guess !== null) } : { why: `: ${TOO_LARGE}` };
 }
 

@@ -103,6 +103,12 @@ function makeOperation(name, operands) {
   return plain ? { name: plain, width, operands } : null;
 }
 
+/** Returns the least number of operands of an operation. */
+function countOperands(name) {
+  if (/^(?:mov|add|sub|adc|sbb|and|x?or|cmp|test|xchg|xadd|lea)/.test(name)) return 2;
+  return /^(?:inc|dec|neg|not|set|cmov)$/.test(name) ? 1 : 0;
+}
+
 /**
  * Returns the operation that code is, without labels; null if it is not known.
  * @param {string} code
@@ -123,7 +129,8 @@ export function parseOperation(code, isAtt) {
   const operation = kind ? { name: kind, condition, width, operands } : makeOperation(name, operands);
   const isNarrow = operation?.from || kind === "set";
   // Registers of another width than the operation's are a fault.
-  if (!operation || (!isNarrow && operands.some((it) => it.register && it.width !== operation.width))) return null;
+  if (!operation || operation.operands.length < countOperands(operation.name)) return null;
+  if (!isNarrow && operands.some((it) => it.register && it.width !== operation.width)) return null;
   return { ...operation, isLocked: Boolean(lock) };
 }
 

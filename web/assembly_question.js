@@ -73,8 +73,8 @@ function findAdded(value, location, count) {
 }
 
 /**
- * Changes what is known before a statement to what is known after it. Returns the access that it is: its `location`, whether it is a load (`isLoad`), and
- * the constant that it adds (`added`) or null; null if it is no access.
+ * Changes what is known before a statement to what is known after it. Returns the access that it is: its `location`, whether it is a load (`isLoad`), the
+ * constant that it adds (`added`) or null, and the position of the load whose word it stores (`from`) or undefined; null if it is no access.
  */
 function applyStatement(state, { kind, register, location, value }, position) {
   const { values, counts } = state;
@@ -88,11 +88,12 @@ function applyStatement(state, { kind, register, location, value }, position) {
   }
   if (!["store", "xchg", "xadd"].includes(kind)) return null;
   const stored = kind === "store" ? getValue(state, value) : values.get(register);
+  const from = kind === "store" && stored?.added === 0 ? stored.position : undefined;
   const added = kind === "store" ? findAdded(stored, location, count) : kind === "xadd" ? stored?.constant ?? null : null;
   counts.set(location, count + 1);
   // The old word is in the register, and is no part of a sum.
   if (kind !== "store") values.set(register, { position, location, added: 0, count: NaN });
-  return { location, position, register, added, isLoad: false, isLocked: kind === "xadd" };
+  return { location, position, register, added, from, isLoad: false, isLocked: kind === "xadd" };
 }
 
 /** Returns what is known after two ways, on which different things are known. */
@@ -149,29 +150,63 @@ function listLostAdditions({ locations, words }, threads) {
 }
 
 /**
- * Returns the loads of a thread, except those in loops, each with a `site` that has its word at the end, its `location` and the first `word` of that; null
- * if a run may leave one out, or no register has its word at the end, or a branch may depend on it; or if only a locked sum loads.
+ * Returns the names of the locations of results by the positions of the loads of a thread whose words they have at the end: each run stores such a word
+ * there, and no other instruction accesses the location.
  */
-function listLoads({ locations, words }, { accesses, values, isBranching }, thread, isShown) {
-  const listSites = ({ position, register }) => {
-    const holding = [...values].filter(([, it]) => it.position === position && !it.added).map(([it]) => it);
-    return holding.sort((it) => (it === register ? -1 : 1)).map((it) => `${thread}:${REGISTERS.X86[it]}`).filter(isShown);
-  };
-  const own = accesses.filter((it) => !it.isInLoop);
-  const loads = own.filter((it) => it.isLoad);
-  // An exchange may be a store: compilers write those of C++ so.
-  if (!loads.length) return own.some((it) => it.isLocked && listSites(it).length) ? null : [];
-  const found = loads.map((it) => {
-    const [site] = listSites(it);
-    return it.isSure && site ? { site, location: locations[it.location], word: words[it.location] } : null;
-  });
-  return found.includes(null) || isBranching ? null : found;
+function findResults({ locations }, threads, thread) {
+  const all = threads.flatMap((it) => it.accesses);
+  const isResult = (it) => it.from !== undefined && it.isSure && !it.isInLoop && all.filter((other) => other.location === it.location).length === 1;
+  return new Map(threads[thread].accesses.filter(isResult).map((it) => [it.from, locations[it.location]]));
+}
+
+/** Returns the sites of the registers of a thread that have the word of an access at the end, that of its own register first. */
+function listSites({ values }, number, { position, register }, isShown) {
+  const holding = [...values].filter(([, it]) => it.position === position && !it.added).map(([it]) => it);
+  return holding.sort((it) => (it === register ? -1 : 1)).map((it) => `${number}:${REGISTERS.X86[it]}`).filter(isShown);
 }
 
 /**
- * Returns a question for a test that has none: whether no addition is lost, if a load and a store make one; otherwise whether loads find the first words, as
- * `guessProposition` says. Null if nothing is guessed. `looping` says which lines of each thread are in loops, after which its last line marks its end, and
- * `isShown` whether a register of a thread has a known word.
+ * Returns the loads of a thread, except those in loops, each with a `site` that has its word at the end, its `location` and the first `word` of that; null
+ * if a run may leave one out, or neither a register nor a location of `results` has its word at the end, or a branch may depend on it; or if only a locked
+ * sum loads.
+ */
+function listLoads({ locations, words }, thread, number, isShown, results) {
+  const own = thread.accesses.filter((it) => !it.isInLoop);
+  const loads = own.filter((it) => it.isLoad);
+  const findSite = (it) => listSites(thread, number, it, isShown)[0];
+  // An exchange may be a store: compilers write those of C++ so.
+  if (!loads.length) return own.some((it) => it.isLocked && findSite(it)) ? null : [];
+  const isHeld = loads.every(findSite);
+  const found = loads.map((it) => {
+    const site = isHeld ? findSite(it) : (results.get(it.position) ?? findSite(it));
+    return it.isSure && site ? { site, location: locations[it.location], word: words[it.location] } : null;
+  });
+  return found.includes(null) || thread.isBranching ? null : found;
+}
+
+/**
+ * Returns the proposition that two threads, which add the same constant to a location in a branch after an exchange, both found the first word by it, and
+ * that one addition is lost; null if threads do something else.
+ */
+function guessLocked({ locations, words }, threads, isShown) {
+  const found = threads.map((thread, number) => {
+    const [swap] = thread.accesses;
+    const adding = thread.accesses.filter((it) => !it.isLoad && it.added && !it.isSure);
+    const isTaking = swap && !swap.isLoad && swap.register !== undefined && swap.isSure && !swap.isLocked && !swap.isInLoop;
+    const [site] = isTaking ? listSites(thread, number, swap, isShown) : [];
+    return site && adding.length === 1 ? { site, lock: swap.location, ...adding[0] } : null;
+  });
+  const [one, other] = found;
+  if (found.length !== 2 || found.includes(null)) return null;
+  if (one.lock !== other.lock || one.location !== other.location || one.added !== other.added) return null;
+  const atoms = found.map(({ site, lock }) => `${site}=${words[lock]}`);
+  return [...atoms, `${locations[one.location]}=${(words[one.location] + one.added) % WORD}`].join(" /\\ ");
+}
+
+/**
+ * Returns a question for a test that has none: whether no addition is lost, if a load and a store make one, also after an exchange that takes a lock;
+ * otherwise whether loads find the first words, as `guessProposition` says. Null if nothing is guessed. `looping` says which lines of each thread are
+ * in loops, after which its last line marks its end, and `isShown` whether a register of a thread has a known word.
  * @param {Test} test
  * @param {boolean[][]} [looping]
  * @param {function(string): boolean} [isShown]
@@ -181,7 +216,9 @@ export function guessQuestion(test, looping = [], isShown = () => true) {
   const threads = test.threads.map((statements, thread) => followThread(statements, looping[thread] ?? []));
   const lost = listLostAdditions(test, threads);
   if (lost.length) return `~exists (${lost.join(" \\/ ")})\n`;
-  const loads = threads.map((it, thread) => listLoads(test, it, thread, isShown));
+  const locked = guessLocked(test, threads, isShown);
+  if (locked) return `~exists (${locked})\n`;
+  const loads = threads.map((it, thread) => listLoads(test, it, thread, isShown, findResults(test, threads, thread)));
   const proposition = loads.includes(null) ? "true" : guessProposition(loads);
   return proposition === "true" ? null : `exists (${proposition})\n`;
 }

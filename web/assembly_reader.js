@@ -10,8 +10,8 @@ import { orderSteps } from "./block_order.js";
 // A line before the code of a thread, as `P0:` or `// Thread 1`: the groups are the mark of its comment, its name, the number in it, and the code after the
 // colon.
 const HEADING = /^(?:(#|\/\/|;)\s*)?((?:P|T|CPU|core|processor|thread)[\s_]*(\d+))\s*(?:\(\)\s*)?(?::(?!:)(.*))?$/i;
-// Where a comment begins. (`#1` may be a constant.)
-const COMMENT = /(?:^|[ \t])(?:#(?!\d)|;|\/\/).*$/;
+// Where a comment begins. (`#1` may be a constant, and `#1.5` is a place in the program.)
+const COMMENT = /(?:^|[ \t])(?:#(?!\d)|#(?=\d+\.\d+\s*$)|;|\/\/).*$/;
 // The name of a function in C++ has blanks only if it has one of these.
 const OF_FUNCTION = /\(|::/;
 // A label before more in its line.
@@ -28,7 +28,9 @@ const BYTES = { long: 4, int: 4, "4byte": 4, quad: 8, "8byte": 8, value: 2, shor
 const TEXT = /^\.(?:ascii|asciz|string)\b/i;
 // What is left out: directives, lines around segments and procedures, and instructions without effect.
 const DIRECTIVE = "\\.|(?:section|segment|global|extern|bits|default|align|public|extrn|include\\w*|comm|end|title|npad|assume|res[bwdq])\\b";
-const IGNORED = new RegExp(`^(?:${DIRECTIVE}|\\S+\\s+(?:segment|ends|endp)\\b|endbr(?:32|64)$|(?:data16\\s+|cs\\s+)*nop\\w*(?:\\s|$)|xchg\\s+%?ax,\\s*%?ax$)`, "i");
+const IGNORED = new RegExp(
+  `^(?:${DIRECTIVE}|[\\w$]+\\s*=\\s*-?\\d+$|\\S+\\s+(?:segment|ends|endp)\\b|endbr(?:32|64)$|(?:data16\\s+|cs\\s+)*nop\\w*(?:\\s|$)|xchg\\s+%?ax,\\s*%?ax$)`, "i",
+);
 // The line that begins a procedure of Microsoft's assembler.
 const PROCEDURE = /^(\S+)\s+proc\b/i;
 // A directive with the name of a function or of a variable.

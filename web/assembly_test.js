@@ -4,7 +4,7 @@
 
 import { parseRegister } from "./assembly_operations.js";
 import { listUnset, lowerThreads } from "./assembly_lowering.js";
-import { limitQuestion } from "./c_question.js";
+import { addEnds, limitQuestion } from "./c_question.js";
 import { Refusal } from "./register_state.js";
 
 const WORD = 2 ** 32;
@@ -77,7 +77,7 @@ function describeLowering({ written, widths, pairs }, isLimited) {
   return [
     other && `\`${other[0]}\` has ${other[1]} bits: all its values fit, so a word of lw does the same.`,
     pair && `\`lock cmpxchg\` is an \`XCHG\` here, since \`${pair}\` only has the two words that it expects and writes.`,
-    ends.length && `A loop that waits is one pass here: ${ends.join(", ")}. Other states are in the list, too${isLimited ? OF_LIMITED : "."}`,
+    ends.length && `A loop that waits is one pass here: ${ends.join(", ")}. The list hides other states${isLimited ? OF_LIMITED : "."}`,
   ];
 }
 
@@ -139,5 +139,5 @@ export function lowerText({ threads, places, locations, variables, front, tail, 
 export function limitTest(text, ends, question) {
   const index = text.search(question);
   const limited = ends.length ? limitQuestion(text.slice(index).trim(), ends) : text.slice(index).trim();
-  return limited === null ? { why: OF_QUESTION } : { text: `${text.slice(0, index)}${limited}\n` };
+  return limited === null ? { why: OF_QUESTION } : { text: addEnds(`${text.slice(0, index)}${limited}\n`, ends) };
 }

@@ -17,6 +17,24 @@ const SYMBOL = /^\s*(?:0x)?([\da-f]+)(?:\s+<([^>+]+)(?:\+(?:(0x[\da-f]+)|(\d+)))
 const JUMP = /^((?:(?:bnd|notrack)\s+)?(?:j\w+|callq?)\s+)(?:0x)?([\da-f]+)(?:\s+<([^>+]+(?:>[^>+]*)*)(\+\w+)?>)?\s*$/i;
 const MANGLED = /"?\?([A-Za-z_]\w*)((?:@[A-Za-z_]\w*)*)@@[\w@?$]*"?/g;
 
+// Lines of a listing of Microsoft's compiler in which names have their types: those of a procedure, of its end, and of data; and an operand. The groups are
+// the names, and what follows them.
+const TYPED_PROCEDURE = /^[^\n;]*?([\w:~]+)\([^\n;]*\)[^\n;()]*?\b(PROC|ENDP)\b/gm;
+const INITIALIZER = /^[^\n;]*`dynamic (?:initializer|atexit destructor) for '([^']*)''[^\n;]*?\b(PROC|ENDP)\b/gm;
+const TYPED_DATA = /^(?=[^\n;]*[\w>*&][ \t]+[\w:]+[ \t]+D[BWDQ]\b)[A-Za-z_][^\n;]*?([\w:]+)([ \t]+D[BWDQ][ \t])/gm;
+const TYPED_OPERAND = new RegExp(
+  "\\b((?:BYTE|[DQ]?WORD)[ \\t]+PTR[ \\t]+|OFFSET[ \\t]+FLAT:[ \\t]*)[A-Za-z_][\\w:<>, *&]*?[>*&\\w][ \\t]+([\\w:]+(?:\\+\\d+)?)" +
+    "(?=[ \\t]*(?:$|[;,[]))",
+  "gm",
+);
+
+/** Returns a listing in which the names of procedures and variables have no types. */
+function dropTypes(text) {
+  if (!/\bPROC\b/.test(text)) return text;
+  const bare = text.replace(INITIALIZER, "_GLOBAL__sub_I_$1 $2").replace(TYPED_PROCEDURE, "$1 $2");
+  return bare.replace(TYPED_DATA, "$1$2").replace(TYPED_OPERAND, "$1$2");
+}
+
 /** Returns the lines of a text, each with the index at which it begins. */
 function listLines(text) {
   let end = 0;
@@ -93,7 +111,7 @@ function formatLines(lines) {
  */
 export function rewriteListing(text) {
   const isDisassembly = text.split("\n").some((it) => FUNCTION.test(it) || LINE.test(it) || (it.includes("#") && ADDRESS.test(it)));
-  const { text: plain, begins } = isDisassembly ? formatLines(readLines(text)) : { text, begins: listLines(text).map(([, begin]) => begin) };
+  const { text: plain, begins } = isDisassembly ? formatLines(readLines(text)) : { text: dropTypes(text), begins: listLines(text).map(([, begin]) => begin) };
   const rename = (_, name, classes) => [...classes.split("@").slice(1).reverse(), name].join("::");
   return { text: plain.includes("?") ? plain.replace(MANGLED, rename) : plain, isDisassembly, begins };
 }

@@ -2,6 +2,7 @@
 // proved.
 
 import { rewriteProgram } from "./c_program.js";
+import { findSlip } from "./c_slips.js";
 import { findBareEntries } from "./initial_values.js";
 import { isAllIn } from "./other_language.js";
 import { rewriteRust } from "./rust_program.js";
@@ -19,7 +20,8 @@ const C = new RegExp(
     "using\\s|(?:inline\\s+)?namespace\\b|extern\\s+\"C|alignas\\b|template\\b|typedef\\s|\\[\\[|" +
     "(?:(?:extern|static|inline|volatile|const|constexpr|thread_local|_Atomic)\\s+)*" +
     "(?:class\\s+\\w+[\\w\\s]{0,40}\\{|enum\\s*(?:\\w+\\s*)?\\{|" +
-    "(?:atomic_\\w+|int|void|(?:un)?signed|long|short|char|s?size_t|bool|auto|struct|u?int(?:\\d+|ptr)_t|pthread_\\w+_t|mtx_t)\\s|" +
+    "(?:atomic_\\w+|int|void|(?:un)?signed|long|short|char|s?size_t|bool|auto|struct|u?int(?:\\d+|ptr)_t|pthread_(?:\\w+_)?t|" +
+    "mtx_t|thrd_t|cnd_t|sem_t|spinlock_t|LONG(?:64)?|U?INT|U?LONG|DWORD|BOOL|HANDLE|CRITICAL_SECTION|SRWLOCK)\\s|" +
     "atomic<|std::|_Atomic\\())",
 );
 // A procedure in a listing of Microsoft's compiler.
@@ -33,17 +35,22 @@ const OF_GUESS = " The question is a guess: change it to yours.";
 const OF_BUTTON =
   "The button makes an x86 test of it: each access as gcc and clang compile it, in the order of the program. That is not proved, and a compiler may " +
   "also reorder or merge relaxed and plain accesses.";
-const OF_WAITING = " A loop that waits is one pass here: states in which it has not ended are in the list, too";
+const OF_WAITING = " A loop that waits is one pass here: the list hides the states in which it has not ended";
 const OF_SWAPPING = " A compare-exchange is an `XCHG` here, which does the same, since its variable has no third word.";
-const OF_LOCKING = " A mutex is a word that `XCHG` takes and gives back: states in which a thread did not get it are in the list, too";
+const OF_LOCKING = " A mutex is a word that `XCHG` takes and gives back: the list hides the states in which a thread did not get it";
+const OF_TRYING = " A mutex is a word here, which `XCHG` takes if it is free.";
 const LEFT_OUT = ", and the question leaves them out";
 const OF_WIDE = " Words of 64 bits are words of 32 bits here, which no sum of this program exceeds.";
 const OF_REPEATED = " The loop in `main` is one run here, which is enough, since the page lists all final states.";
-const NOT_ASKED = " The question `true` holds always: look at the list of states.";
+const OF_ENTRY =
+  " A loop that stores before its critical section is no single pass, so a thread that would begin one ends there: what this test finds can happen, but " +
+  "runs with such passes are left out.";
+const OF_DELAYS = " A loop that only delays its thread is left out.";
+const NOT_ASKED = " The question `true` asks nothing: look at the list of states, and ask what must not happen.";
 // How programs in Rust, Java and Go begin, what only C++ has, and how a thread in C begins.
 const RUST = /^\s*(?:use\b|(?:unsafe\s+)?fn\b|pub\b|(?:static|const)\s+(?:mut\s+)?\w+\s*:|extern\s+crate\b|mod\s+\w+\s*\{|#!?\[)/;
 const JAVA = /^(?:import\s+(?:static\s+)?java|package\s+[\w.]+;|(?:(?:public|final|abstract)\s+)*class\s+\w+[^;{]{0,80}\{)/;
-const GO = /^(?:package\s+\w+[ \t]*\r?(?:\n|$)|func\s+\w*\()/;
+const GO = /^(?:package\s+\w+[ \t]*\r?(?:\n|$)|func\s+\w*\(|import\s+(?:\(|")|var\s+\w+(?:,\s*\w+)*\s+(?:u?int\d*|bool|atomic\.\w+|sync\.\w+)\b)/;
 const CPP = /\bstd::|<atomic>|\batomic<|\busing\s|\bnamespace\b/;
 const IS_READ = "The page reads C, C++, Rust and x86 assembly.";
 const THREAD_IN_C = /^(?:X86|SRC)\s(?:[^{]*\{[^}]*\})?\s*P0\s*[({]/;
@@ -62,7 +69,7 @@ const TYPED = new RegExp(`(?:[{;]|^)\\s*${TYPES}(?:\\d\\s*:\\s*)?\\w`);
  * @param {string} words
  * @param {string} text
  * @param {FaultPlace} place
- * @returns {{words: string, more: string, document: string, command: string, at?: object}}
+ * @returns {{words: string, more: string, document: string, command: string, at?: object, change?: object}}
  */
 function explainProgram(words, text, place) {
   const name = /^\s*(?:C|X86|SRC)\s+([\w+.-]+)/.exec(text)?.[1] ?? "mine";
@@ -78,9 +85,11 @@ function explainProgram(words, text, place) {
   const isRust = RUST.test(text.replace(C_COMMENTS, ""));
   const test = isRust ? rewriteRust(text) : rewriteProgram(text);
   if (!test) return { words: `${words} ${IS_READ}`, ...hint };
+  const slip = test.made || isRust ? null : findSlip(text, test, rewriteProgram);
+  if (slip) return { ...explainSlip(text, slip, place.text), ...hint };
   if (!test.made) return { words: explainRefusedProgram(text, test.why, test.index), ...hint, at: findPart(place.text, text, test.index) };
   place.proposeChange(test.made, 0, place.text.length);
-  Object.assign(place.change, { title: "Rewrite it as an x86 test", done: "Rewritten." });
+  Object.assign(place.change, { title: "Rewrite it as an x86 test", done: "Rewritten.", isCompiled: true });
   const compiled = isRust ? OF_BUTTON.replace("gcc and clang compile", "rustc compiles") : OF_BUTTON;
   return { words: `${words} ${compiled}${explainMade(test)}`, ...hint };
 }
@@ -90,11 +99,14 @@ function explainProgram(words, text, place) {
  * @param {object} test
  * @returns {string}
  */
-export function explainMade({ made, isGuess, isOpen, races, isWaiting, isSwapping, isLocking, isWide, isRepeated }) {
+export function explainMade({ made, isGuess, isOpen, races, isWaiting, isSwapping, isLocking, isTrying, isWide, isRepeated, isDelayed, isEnding, pointed, users = "" }) {
   const end = `${isOpen ? "" : LEFT_OUT}.`;
-  const parts = [[isWaiting, OF_WAITING + end], [isSwapping, OF_SWAPPING], [isLocking, OF_LOCKING + end], [isWide, OF_WIDE], [isRepeated, OF_REPEATED]];
+  const objects = ` A pointer is a word here, 0 for null and 1 for the object, whose members are variables, as \`${pointed}\`; a null pointer reads them, too.`;
+  const ofLocks = [[isLocking, OF_LOCKING + end], [isTrying, OF_TRYING]];
+  const ofLoops = [[isWaiting, OF_WAITING + end], [isSwapping, OF_SWAPPING]];
+  const parts = [[pointed, objects], ...ofLoops, ...ofLocks, [isWide, OF_WIDE], [isRepeated, OF_REPEATED], [isDelayed, OF_DELAYS], [isEnding, OF_ENTRY]];
   const question = made.endsWith("(true)\n") ? NOT_ASKED : isGuess ? OF_GUESS : "";
-  return `${explainRaces(races)}${parts.map(([isSo, sentence]) => (isSo ? sentence : "")).join("")}${question}`;
+  return `${users}${explainRaces(races)}${parts.map(([isSo, sentence]) => (isSo ? sentence : "")).join("")}${question}`;
 }
 
 /** Returns a sentence on plain variables, if there are some, on which threads race in a program; or "". */
@@ -105,10 +117,22 @@ function explainRaces(names) {
   return ` ${list} ${are} plain: each access is one \`MOV\` here, which a compiler need not keep if threads race on ${them}.`;
 }
 
+/** Returns the begin of a sentence that says why a program is not rewritten. */
+function beginRefusal(text) {
+  const program = `this program in ${RUST.test(text.replace(C_COMMENTS, "")) ? "Rust" : CPP.test(text) ? "C++" : "C"}`;
+  return `The page can't make a test of ${program}`;
+}
+
 /** Returns a sentence that says why a program is not rewritten: for its part at an index, or, without an index, for what lw refuses in its test. */
 function explainRefusedProgram(text, why, index) {
-  const program = `this program in ${RUST.test(text.replace(C_COMMENTS, "")) ? "Rust" : CPP.test(text) ? "C++" : "C"}`;
-  return `The page would rewrite ${program} as an x86 test, ${index === undefined ? "which lw refuses:" : "but not"} ${why}.`;
+  return `${beginRefusal(text)}${index === undefined ? ", since lw refuses it:" : " because of"} ${why}.`;
+}
+
+/** Returns words on a slip in a program that ends a text, its place, and the change of the text that puts it right. */
+function explainSlip(program, { words, index, change }, text) {
+  const front = text.length - program.length;
+  const moved = change && { ...change, begin: front + change.begin, end: front + change.end };
+  return { words: `${beginRefusal(program)}: ${words}`, at: findPart(text, program, index), change: moved };
 }
 
 /** Returns where an index is of a program that ends a text, as a row, a column and an index of the text; undefined if the index is. */
