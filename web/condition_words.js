@@ -1,9 +1,11 @@
 // Writes the condition of a test in words: what the threads read, and the words of registers and memory at the end; of a condition with `\/` each
 // alternative. A condition with more than `MAX_ATOMS` atoms is not put into words. Not proved.
 //
-// An `Atom` is a site, a word, and whether the condition denies that the site has the word.
+// An `Atom` is a site, a word, and whether the condition denies that the site has the word. Conjuncts and phrases are those of phrases.js.
 
-import { formatSite, isTrueIn, makeSiteKey } from "./propositions.js";
+import { listConjuncts, readPhrases, sayPhrases, WAITS_END } from "./phrases.js";
+import { formatSite, isTrueIn, listObservedSites, listSites, makeSiteKey } from "./propositions.js";
+import { listVariables } from "./register_names.js";
 import { parseReportLine } from "./replays.js";
 import { readTest } from "./tests.js";
 
@@ -13,13 +15,14 @@ const READS = ["load", "xchg", "xadd", "swap", "fetchadd"];
 const SETS = ["set", "add", "sum"];
 
 /**
- * Reads a text as a test. Returns null if the page's own reader does not read it.
+ * Reads a text as a test, with the `variables` that its registers have in the program from which it was made. Returns null if the page's own reader does not
+ * read it.
  * @param {string} text
- * @returns {Test | null}
+ * @returns {(Test & {variables: Map<string, string>}) | null}
  */
 function readTestOrNull(text) {
   try {
-    return readTest(text);
+    return { ...readTest(text), variables: listVariables(text) };
   } catch {
     return null;
   }
@@ -54,6 +57,12 @@ function findRead(test, { thread, register }) {
   return writes.length === 1 && READS.includes(writes[0].kind) ? writes[0] : null;
 }
 
+/** Returns the name that a register has in the program from which a test was made, unless a location has it, too; and otherwise the register's own. */
+function findName(test, site) {
+  const [name, variable] = [formatSite(test, site), test.variables.get(formatSite(test, site))];
+  return variable === undefined || test.locations.includes(variable) ? name.slice(2) : variable;
+}
+
 /**
  * Returns what one thread does, in words: its reads in the order of its code, and the words that it ends with. A register that several of its atoms name is no
  * read, since it has one word only.
@@ -65,7 +74,7 @@ function describeThread(test, atoms) {
   const isNamedOnce = ({ site }) => atoms.filter((it) => it.site.register === site.register).length === 1;
   const observations = atoms.map((it) => ({ ...it, read: isNamedOnce(it) ? findRead(test, it.site) : null }));
   const reads = observations.filter((it) => it.read).sort((first, second) => first.read.position - second.read.position);
-  const others = observations.filter((it) => !it.read).map((it) => formatAtom(formatSite(test, it.site).slice(2), it));
+  const others = observations.filter((it) => !it.read).map((it) => formatAtom(findName(test, it.site), it));
   const parts = [];
   if (reads.length) parts.push(`reads ${reads.map((it) => formatAtom(test.locations[it.read.location], it)).join(", then ")}`);
   if (others.length) parts.push(`ends with ${others.join(" and ")}`);
@@ -110,34 +119,69 @@ function describeAlternative(test, atoms) {
   return phrases.join(phrases.length > 2 ? "; " : " and ");
 }
 
+/** Returns conjuncts in words, each alternative of them; "" if there are none, and null if they are not put into words. */
+function describeConjuncts(test, conjuncts, isDenied = false) {
+  if (!conjuncts.length) return "";
+  const parts = conjuncts.map((it) => (it.isDenied ? { kind: "Not", parts: [it.proposition] } : it.proposition));
+  const alternatives = listAlternatives(parts.reduce((one, other) => ({ kind: "And", parts: [one, other] })), isDenied);
+  return alternatives && alternatives.map((it) => describeAlternative(test, it)).join(", or ");
+}
+
+/** Returns words that hold together, as one sentence has them. */
+function joinWords(words) {
+  return [words.slice(0, -1).join(", "), words.at(-1)].filter(Boolean).join(" and ");
+}
+
 /**
- * Returns the condition in words, in which code is between backquotes; or null.
+ * Returns the condition in `words`, in which code is between backquotes, with the words of the test's phrases in place of their propositions; and of a
+ * condition that all runs are to have, in which every wait ends, this phrase as the `premise`, or else "", and what is so `otherwise`, or "". Null if it is not
+ * put into words.
  * @param {string} text
- * @returns {string | null}
+ * @returns {{words: string, premise: string, otherwise: string} | null}
  */
 export function describeCondition(text) {
   const test = readTestOrNull(text);
-  const alternatives = test && listAlternatives(test.proposition);
-  return alternatives && alternatives.map((it) => describeAlternative(test, it)).join(", or ");
+  if (!test) return null;
+  const isRequired = test.quantifier === "forall";
+  const phrases = readPhrases(text).filter((it) => !isRequired || it.words === WAITS_END);
+  const { said, left } = sayPhrases(listConjuncts(test.proposition, isRequired), phrases);
+  const words = describeConjuncts(test, left, isRequired);
+  if (words === null || !(words || said.length)) return null;
+  const all = joinWords([...said, words].filter(Boolean));
+  if (!isRequired) return { words: all, premise: "", otherwise: "" };
+  return { words: words || "false", premise: said.join(""), otherwise: describeConjuncts(test, left) ?? "" };
+}
+
+/**
+ * Returns whether in the state of a report's line all loops that wait have ended, as a function; null if the test has no phrase on them.
+ * @param {string} text
+ * @returns {(function(string): boolean) | null}
+ */
+export function makeEndTest(text) {
+  const { proposition } = readPhrases(text).find((it) => it.words === WAITS_END) ?? {};
+  const test = proposition && readTestOrNull(text);
+  const shown = new Set((test ? listObservedSites(test) : []).map(makeSiteKey));
+  const isShown = proposition && listSites(proposition).every((it) => shown.has(makeSiteKey(it)));
+  return isShown ? (line) => isTrueIn(proposition, parseOutcome(test, line)) : null;
 }
 
 /**
  * Returns what a test's question is about: `isAsked` says of a state's line whether the condition asks about it, and `words` has, by the names of
- * sites, the words that it names there. In a text that is not read, the question is about all states.
+ * sites, the words that it names there. The condition `isRequired` of all states, or not. In a text that is not read, the question is about all states.
  * @param {string} text
- * @returns {{isAsked: function(string): boolean, words: Map<string, number[]>}}
+ * @returns {{isAsked: function(string): boolean, words: Map<string, number[]>, isRequired: boolean}}
  */
 export function parseQuestion(text) {
   const test = readTestOrNull(text);
-  if (!test) return { isAsked: () => true, words: new Map() };
-  const wanted = test.quantifier !== "forall";
+  if (!test) return { isAsked: () => true, words: new Map(), isRequired: false };
+  const isRequired = test.quantifier === "forall";
   const words = new Map();
   const collect = ({ kind, parts, site, word }) => {
     if (kind === "Eq") words.set(formatSite(test, site), [...(words.get(formatSite(test, site)) ?? []), word]);
     parts.forEach(collect);
   };
   collect(test.proposition);
-  return { isAsked: (line) => isTrueIn(test.proposition, parseOutcome(test, line)) === wanted, words };
+  return { isAsked: (line) => isTrueIn(test.proposition, parseOutcome(test, line)) !== isRequired, words, isRequired };
 }
 
 /**

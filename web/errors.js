@@ -1,7 +1,9 @@
 // Shows why there is no answer: a fault, with its place and the sentence of docs/FORMAT.md for it, or an error. `Hints` are the functions of hints.js.
 
 import { ask } from "./ask.js";
+import { isOtherText } from "./change.js";
 import { el, findById, makeButton, renderSentence } from "./dom.js";
+import { keepCode } from "./made_from.js";
 import { copy } from "./output.js";
 import { fold } from "./placing.js";
 import { documents, fetchTable, loadHints } from "./supplies.js";
@@ -70,7 +72,7 @@ async function showFault(fault, notice, editor, before) {
   const words = [...describeFault(fault, hint), ...end];
   if (!editor.isAlone) return notice.append(...words, makeFaultLine(fault));
   const { isOffer = false } = hint;
-  findById("answers").classList.toggle("unanswered", isOffer || Boolean(hints?.isOtherText(before, text)));
+  findById("answers").classList.toggle("unanswered", isOffer || isOtherText(before, text));
   notice.className = `no-answer${isOffer ? " offer" : ""}`;
   const [reason, apply] = [describeFault(fault, hint), makeApplyButtons(hint, editor)];
   if (isOffer) {
@@ -159,7 +161,11 @@ function makeReading({ document, command, more, change }) {
 /** Returns buttons that apply what a hint proposes. That a question is a guess is said then, too. */
 function makeApplyButtons({ words, change, also, isOffer }, editor) {
   const guess = words?.includes(GUESS) ? ` ${GUESS}` : "";
-  const apply = (it) => applyChange({ ...it, done: it.done && it.done + guess }, editor);
+  const apply = (it) => {
+    const code = editor.text;
+    applyChange({ ...it, done: it.done && it.done + guess }, editor);
+    if (isOffer) keepCode(code, Boolean(it.isCompiled));
+  };
   const makeApply = (it) => makeButton(it.title ?? `Change it to ${it.text}`, () => apply(it), { class: isOffer ? "apply main" : "apply" });
   return [change, also].filter(Boolean).map(makeApply);
 }

@@ -15,6 +15,7 @@ import { explainPseudoCode } from "./pseudo_code.js";
 import { explainPseudoProgram } from "./pseudo_program.js";
 import { explainRaggedRows } from "./ragged.js";
 import { TEMPLATE } from "./template.js";
+import { explainOutput } from "./tool_outputs.js";
 import { readTest } from "./tests.js";
 import { REGISTERS, WORD } from "./token_reader.js";
 import { explainTypography } from "./typography.js";
@@ -490,6 +491,8 @@ export function explainFault(fault, text) {
   const place = new FaultPlace(text, index);
   const typography = ODD.test(place.token) || ODD.test(text[0]) ? explainTypography(place) : "";
   if (typography) return { words: typography, change: place.change };
+  const output = kind === "text" ? explainOutput(text) : null;
+  if (output) return (output.isPromela && explainPseudoProgram(text)) || output;
   const rewriting = name === "TooManyRows" ? null : findRewriting(text, index);
   const other = kind === "text" && findOtherLanguage(place);
   const choice = rewriting?.also ? " The other button makes x86 code of the rows, which may have more states." : "";
@@ -497,8 +500,8 @@ export function explainFault(fault, text) {
   if (other && place.change) return { ...other, change: place.change, isOffer: true };
   const program = kind === "text" ? explainPseudoProgram(text) : null;
   const pseudo = program?.isAsked ? program : kind === "text" ? explainPseudoCode(text) ?? program : null;
-  if (pseudo) return pseudo;
-  if (other) return { ...other, change: null };
+  if (pseudo && !(pseudo.isCall && other)) return pseudo;
+  if (other) return { ...other, change: other.change ?? null };
   const rows = explainSpareEnds(name, text) ?? explainRowsWithoutEnd(fault, text) ?? (/^(?:Ragged|Form|Unexpected)$/.test(name) ? explainRaggedRows(text) : null);
   if (rows) return rows;
   const words = SENTENCES[`${kind} ${name}`]?.(place) ?? null;

@@ -162,7 +162,8 @@ export function wait(text, place, notice, show, isUntilAnswered = false) {
  */
 export function makeQuestionParts(text, { report, words }) {
   const tints = findTints(text);
-  const inWords = describeCondition(text);
+  const { words: condition = null, premise = "" } = describeCondition(text) ?? {};
+  const inWords = condition && `${premise && `if ${premise}, `}${condition}`;
   const formula = el("code", {}, renderCode(parseProposition(report), tints, null));
   const sign = el("span", { class: "sign", "aria-hidden": "true" }, "?");
   const asked = el("span", {}, el("strong", {}, `${words.question}:`), " ", inWords ? renderTintedSentence(inWords, tints) : formula, "?");

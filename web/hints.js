@@ -1,8 +1,20 @@
-// The hints on faults: the part of the page's code that is loaded after the first answer, or when a text has a fault.
+// The hints on faults and slips, the words on the page, and the walk through it: the part of the page's code that is loaded after the first answer, or when a text has a fault.
 
-import { isOtherText } from "./change.js";
+import { fillAbout } from "./about.js";
 import { explainFault, explainMissingRowEnd } from "./faults.js";
 import { findFurtherFaults } from "./further_faults.js";
+import { takeWalk } from "./guided_walk.js";
+import { makeSlipNotes } from "./slips.js";
 
-/** The functions that errors.js calls. */
-export const hints = { explainFault, explainMissingRowEnd, findFurtherFaults, isOtherText };
+/** Returns the hint on a fault; one without words if the code that looks for it fails, so that lw's own sentence is shown. */
+function explainSafely(fault, text) {
+  try {
+    return explainFault(fault, text);
+  } catch (error) {
+    console.error(error);
+    return { words: null, change: null };
+  }
+}
+
+/** The functions that errors.js and main.js call. */
+export const hints = { explainFault: explainSafely, explainMissingRowEnd, fillAbout, findFurtherFaults, makeSlipNotes, takeWalk };

@@ -9,7 +9,7 @@ const SHORT = 4;
  * @param {string} other
  * @returns {number}
  */
-function countChanges(word, other) {
+export function countChanges(word, other) {
   let [before, row] = [[], Array.from({ length: other.length + 1 }, (_, at) => at)];
   for (let i = 1; i <= word.length; i += 1) {
     const next = [i];

@@ -7,6 +7,7 @@
 // second as NoAnswer, or as NoTest if the page's own reader does not read the test; `answerQuestion` catches them.
 
 import { formatCanonicalText, listSourceCells, listX86Cells } from "./canonical.js";
+import { makeEndTest, parseQuestion } from "./condition_words.js";
 import { describeEvent, describeRefusal } from "./effects.js";
 import { findEnoughTogether, makeExchangeTable } from "./exchanges.js";
 import { makeExecution } from "./executions.js";
@@ -23,7 +24,7 @@ import { readTest } from "./tests.js";
 import { REGISTERS } from "./token_reader.js";
 import { NoTest } from "./tokens.js";
 import { describeReport } from "./verdicts.js";
-import { explainStates } from "./why_not.js";
+import { explainStates, findCandidateState } from "./why_not.js";
 
 // One byte more than a text may have.
 const MAX_TEXT = 65537;
@@ -201,33 +202,54 @@ function answerCompile(program, text) {
 /** Returns the table of fences, with the maker of its lists (with `search` a search), and for each row the text without its fence. */
 function answerFences(program, text, { everything, search = false }, onProgress) {
   const test = readTest(program.ask(["compile"], text));
-  const listOf = (canonical) => listOrNull(program, encodeText(canonical), { search, onProgress });
+  const leaveOut = makeEndedList(text);
+  const listOf = (canonical) => leaveOut(listOrNull(program, encodeText(canonical), { search, onProgress }));
   const compared = everything ? showEverything(test) : test;
   const texts = listFences(compared).map((fence) => formatCanonicalText(removeFences(compared, [fence])));
   return { table: makeFenceTable(compared, listOf), condition: formatCondition(test), texts, language: parseLanguage(text) };
 }
 
-/** Returns a function that lists the states of a text, as listOrNull does. It throws NoAnswer if more lists are made than a limit has, or later than that. */
-function makeLister(program, { search = false, limit = { lists: Infinity, milliseconds: Infinity } }, onProgress) {
+/**
+ * Returns a function that leaves out of a list of states, or null, those in which a wait has not ended, as a phrase of the text says; unless that would be all.
+ * @param {Uint8Array} text
+ * @returns {function(({lines: string[], positive: number} | null)): ({lines: string[], positive: number} | null)}
+ */
+function makeEndedList(text) {
+  const decoded = decodeText(text);
+  const hasEnded = parseLanguage(text) === "X86" ? makeEndTest(decoded) : null;
+  if (!hasEnded) return (list) => list;
+  const { isAsked, isRequired } = parseQuestion(decoded);
+  return (list) => {
+    const lines = list?.lines.filter(hasEnded) ?? [];
+    return lines.length ? { lines, positive: lines.filter((it) => isAsked(it) !== isRequired).length } : list;
+  };
+}
+
+/**
+ * Returns a function that lists the states of a text, as listOrNull does, in which every wait has ended. It throws NoAnswer if more lists are made than a limit
+ * has, or later than that.
+ */
+function makeLister(program, of, { search = false, limit = { lists: Infinity, milliseconds: Infinity } }, onProgress) {
+  const leaveOut = makeEndedList(of);
   const end = performance.now() + limit.milliseconds;
   let count = 0;
   return (canonical) => {
     count += 1;
     if (count > limit.lists || performance.now() > end) throw new NoAnswer("This takes longer than it may.");
-    return listOrNull(program, encodeText(canonical), { search, onProgress });
+    return leaveOut(listOrNull(program, encodeText(canonical), { search, onProgress }));
   };
 }
 
 /** Returns which exchanges of a test need their lock, by its question or by everything. Throws NoAnswer as answerMoreFences does. */
 function answerExchanges(program, text, fields, onProgress) {
   const test = readTest(program.ask(["compile"], text));
-  return { exchanges: makeExchangeTable(fields.everything ? showEverything(test) : test, makeLister(program, fields, onProgress)) };
+  return { exchanges: makeExchangeTable(fields.everything ? showEverything(test) : test, makeLister(program, text, fields, onProgress)) };
 }
 
 /** Returns which fences and locks of a test are enough together, by its question or by everything. Throws NoAnswer as answerMoreFences does. */
 function answerEnoughTogether(program, text, fields, onProgress) {
   const test = readTest(program.ask(["compile"], text));
-  return { together: findEnoughTogether(fields.everything ? showEverything(test) : test, test, makeLister(program, fields, onProgress)) };
+  return { together: findEnoughTogether(fields.everything ? showEverything(test) : test, test, makeLister(program, text, fields, onProgress)) };
 }
 
 /**
@@ -236,7 +258,7 @@ function answerEnoughTogether(program, text, fields, onProgress) {
  */
 function answerMoreFences(program, text, fields, onProgress) {
   if (parseLanguage(text) === "SRC") return { fenced: null };
-  return { fenced: findHelpingSets(readTest(program.ask(["compile"], text)), makeLister(program, fields, onProgress)) };
+  return { fenced: findHelpingSets(readTest(program.ask(["compile"], text)), makeLister(program, text, fields, onProgress)) };
 }
 
 /**
@@ -285,6 +307,14 @@ function answerWhyNot(program, text, { state }) {
   }
 }
 
+/** Returns a state that the condition asks about, that a list lacks, and that some candidate execution has, in the names of the test; null if none is found. */
+function answerCandidate(program, text, { listed }) {
+  const isX86 = parseLanguage(text) === "X86";
+  const lines = isX86 ? listed : listed.map((it) => renameRegisters(it, REGISTERS.SRC, REGISTERS.X86));
+  const state = findCandidateState(readTest(program.ask(["compile"], text)), lines);
+  return { state: isX86 || state === null ? state : renameToSource(state) };
+}
+
 /** Returns words on a compiled program, in which registers have the names of its source. */
 const renameToSource = (words) => renameRegisters(words, REGISTERS.X86, REGISTERS.SRC);
 
@@ -315,6 +345,7 @@ const QUESTIONS = {
   picture: answerPicture,
   graph: answerGraph,
   "why not": answerWhyNot,
+  candidate: answerCandidate,
 };
 
 /**

@@ -98,15 +98,15 @@ def describe_alternative(test: Test, atoms: list[Atom]) -> str:
     return ("; " if len(phrases) > 2 else " and ").join(phrases)
 
 
-def describe_condition(test: Test) -> str | None:
-    """Returns the condition of a test in words, in which code is between backquotes; or None."""
-    alternatives = list_alternatives(test.proposition)
+def describe_condition(test: Test, is_denied: bool = False) -> str | None:
+    """Returns the condition of a test in words, or what is so if it is denied, in which code is between backquotes; or None."""
+    alternatives = list_alternatives(test.proposition, is_denied)
     return None if alternatives is None else ", or ".join(describe_alternative(test, it) for it in alternatives)
 
 
 def describe_verdict(test: Test, positive: int, count: int) -> tuple[str, str, str]:
     """Returns the verdict on a test whose condition holds in `positive` of `count` states: its kind, the word for it, and the sentence on what runs
-    do.
+    do. The kind is `yes` or `wrong` if the test claims something: whether that is so; and `can` or `cannot` if it only asks.
     """
     runs = " by interleaving" if test.language == "SRC" else ""
     words = describe_condition(test) or "the condition holds"
@@ -114,8 +114,11 @@ def describe_verdict(test: Test, positive: int, count: int) -> tuple[str, str, s
     if test.quantifier == "forall":
         if positive == count:
             return "yes", "Always.", f"In every run{runs} {words}."
-        return ("no", "Not always.", f"Not in every run{runs} {words}.") if positive else ("no", "Never.", f"{none}; the test requires that of every run.")
+        if not positive:
+            return "wrong", "Never.", f"{none}; the test requires that of every run."
+        otherwise = describe_condition(test, True)
+        return "wrong", "Not always.", f"There is a run{runs} in which {otherwise}." if otherwise else f"Not in every run{runs} {words}."
     if not positive:
-        return "yes" if test.quantifier == "~exists" else "no", "Forbidden.", f"{none}."
+        return "yes" if test.quantifier == "~exists" else "cannot", "Forbidden.", f"{none}."
     some = f"There is a run{runs} in which {words}"
     return ("wrong", "Allowed.", f"{some}; the test forbids that.") if test.quantifier == "~exists" else ("can", "Allowed.", f"{some}.")
