@@ -1,6 +1,6 @@
 // Explains the page in a few sentences, and its words and keys.
 
-import { el, findById, makeButton, makePlainMark, renderSentence } from "./dom.js";
+import { el, makeButton, makePlainMark, renderSentence } from "./dom.js";
 import { archive, documents, origin } from "./supplies.js";
 
 const TERMS = [
@@ -26,7 +26,7 @@ const KEYS = [
   ["Esc", "leave the projector's view"],
 ];
 const WHAT =
-  "lw answers a question about a small parallel program, a litmus test: in which states can it end? On x86 a store waits in its processor's " +
+  "lw answers a question about a small multithreaded program, a litmus test: in which states can it end? On x86 a store waits in its processor's " +
   "store buffer, while loads after it go ahead; so there are final states that no interleaving explains. It is for students of concurrency and " +
   "for programmers of lock-free code. A test has at most four threads, eight locations, and six registers a thread; jumps go forward only, and there " +
   "is no general compare-and-swap.";
@@ -40,6 +40,14 @@ const ARCHIVED =
   " has the programs `lw` and `beyond`, the tools that the page and the documents name, the library, and all examples. It needs Linux on x86-64 " +
   "and Python, and nothing is built: unpack it, and begin with its README.md.";
 const THEOREMS = "theorems.html";
+// The documents by their readers, each by the name of its file, in the order in which they are read.
+const READERS = [
+  ["First steps", ["tutorial", "page", "families", "terms"]],
+  ["For a class", ["lab", "sheet", "slides", "quiz", "solutions"]],
+  ["Your own programs", ["your-code", "from-c", "algorithms", "fences", "on-machine", "from-herd", "limits"]],
+  ["Reference", ["card", "format", "examples", "axioms"]],
+  ["What is proved", ["theorems", "believe", "proof", "trusted"]],
+];
 const PLAIN = ". What the page's own code finds, which is not proved, is marked ";
 
 /** Returns a link to the document that says what is proved, as children for `el`; none if the page is no site that carries it. */
@@ -48,10 +56,16 @@ function makeTheoremsLink() {
   return found ? [" ", el("a", { href: THEOREMS, target: "reading" }, "What is proved, in plain words"), "."] : [];
 }
 
-/** Returns a heading and links to the documents, as children for `el`; none if the page is no site that carries some. */
+/** Returns a heading and links to the documents by their readers, as children for `el`; none if the page is no site that carries some. */
 function makeReadingList() {
   const link = ([file, words]) => el("li", {}, el("a", { href: file, target: "reading" }, words));
-  return documents.length ? [el("h3", {}, "To read"), el("ul", { class: "reading" }, documents.map(link))] : [];
+  const named = READERS.flatMap(([, names]) => names);
+  const findDocument = (name) => documents.find(([file]) => file === `${name}.html`);
+  const others = documents.filter(([file]) => !named.includes(file.replace(/\.html$/, "")));
+  const groups = READERS.map(([title, names]) => [title, names.map(findDocument).filter(Boolean)]).concat([["Other documents", others]]);
+  const lists = groups.filter(([, found]) => found.length);
+  const describe = ([title, found]) => [el("dt", {}, title), el("dd", {}, el("ul", { class: "reading" }, found.map(link)))];
+  return lists.length ? [el("h3", {}, "To read"), el("dl", { class: "readers" }, lists.flatMap(describe))] : [];
 }
 
 /** Returns a heading and a link to the archive with the programs and the tools, as children for `el`; none if the page is no site that carries one. */
@@ -62,14 +76,15 @@ function describeArchive() {
 }
 
 /**
- * Fills the dialog that says what the page is, and opens it on a click.
+ * Fills the dialog that says what the page is, below its title. `openWalk` begins the walk for beginners.
  * @param {Element} place
+ * @param {function(): void} openWalk
  */
-export function fillAbout(place) {
+export function fillAbout(place, openWalk) {
   const list = (pairs) => el("dl", {}, pairs.flatMap(([name, words]) => [el("dt", {}, name), el("dd", {}, renderSentence(words))]));
   place.append(
-    el("h2", { id: "about-title", tabindex: "-1", autofocus: true }, "What is this?"),
     el("p", {}, WHAT),
+    el("p", {}, "New to this? ", makeButton("Take the two-minute walk", openWalk, { class: "link" }), ". It explains the first test, step by step."),
     el("p", {}, OWN),
     el("p", {}, PROVED, el("span", { id: "where" }), PLAIN, makePlainMark(), ". Nothing is sent anywhere."),
     el("p", {}, NOT_CLAIMED, ...makeTheoremsLink()),
@@ -81,5 +96,4 @@ export function fillAbout(place) {
     el("p", { class: "row" }, makeButton("Close", () => place.close(), { class: "main" })),
   );
   place.addEventListener("click", (event) => event.target === place && place.close());
-  findById("open-about").addEventListener("click", () => place.showModal());
 }
