@@ -341,11 +341,13 @@ class Way:
         if other.weight < self.weight:
             self.execution, self.broken, self.drawbacks = other.execution, other.broken, other.drawbacks
 
-    def make_rank(self) -> tuple[int, bool, int, int]:
-        """Returns the key by which the ways of a state are sorted: the clearest are first, then those of several threads, the shortest, and the most
-        frequent.
+    def make_rank(self) -> tuple[int, bool, bool, int, int]:
+        """Returns the key by which the ways of a state are sorted: the clearest are first, then those of several threads, those through a fence or a locked
+        instruction, the shortest, and the most frequent.
         """
-        return self.weight, len({it.source.thread for it in self.broken[1]}) == 1, len(self.events), -self.times
+        events = [it.source for it in self.broken[1]]
+        is_plain = all(self.execution.find_instruction(it).kind in ("store", "load") for it in events)
+        return self.weight, len({it.thread for it in events}) == 1, is_plain, len(self.events), -self.times
 
 
 def list_constants(test: plain.Test) -> set[int]:

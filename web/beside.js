@@ -18,7 +18,11 @@ import { blankComments, parseName } from "./tokens.js";
 // The second tests that are made from the first one, by the names that an answer has for them.
 const MADE = { compiled: "what it is compiled to", bare: "that without its fences", fenced: "that with the fewest fences it needs" };
 
+// The fields of the address that have the places in both runs.
+const NO_PLACES = { left: null, right: null };
+
 const NO_FENCES = "No fence makes a difference to what this test asks.";
+const NOT_ASKED = "This test asks nothing, so no fence can be needed for it: ask what must not happen.";
 
 // A low window in which two tests are side by side, and the arrangements there, each with how the machines are drawn: with the texts, and without them,
 // with the list beside the verdict, or below it; and the store buffers below the code, or beside it.
@@ -46,7 +50,10 @@ export class Beside {
     Object.assign(this, { editor, examples, own, isOpen: false, made: null });
     this.place = findById("beside");
     const onReveal = () => this.compare();
-    const onStep = () => this.lockstep?.follow();
+    const onStep = () => {
+      this.lockstep?.follow();
+      this.keepPlaces();
+    };
     const fitted = () => {
       onDraw();
       this.fitLater();
@@ -122,8 +129,15 @@ export class Beside {
   take({ beside = null, beside_text = null }) {
     const { example, text } = address.read();
     const first = example || text ? {} : { example: this.examples.name };
-    address.put({ ...first, beside, beside_text }, true);
+    address.put({ ...first, beside, beside_text, ...(beside || beside_text ? {} : NO_PLACES) }, true);
     this.follow();
+  }
+
+  /** Writes into the address where both runs are. */
+  keepPlaces() {
+    if (!this.isOpen || !this.lockstep.isReady) return;
+    const [left, right] = this.sides.map((it) => it.formatPlace());
+    address.put({ left, right });
   }
 
   /** Shows what the address says. */
@@ -135,18 +149,18 @@ export class Beside {
     this.place.hidden = !this.isOpen;
     for (const name of ["test", "answers"]) findById(name).hidden = this.isOpen;
     document.body.classList.toggle("two", this.isOpen);
-    if (this.isOpen) this.show(text, example);
+    if (this.isOpen) this.show(text, example, link);
     document.title = `${(this.isOpen ? [this.editor.text, text] : [this.editor.text]).map(parseName).join(" beside ")} - lw`;
   }
 
-  /** Shows a second test beside the first. */
-  show(text, example) {
+  /** Shows a second test beside the first, with the places in their runs that a link has. */
+  show(text, example, { left, right }) {
     this.notices.replaceChildren();
-    this.first.put(this.editor.text, this.examples.name, this.examples.makeOptions());
+    this.first.put(this.editor.text, this.examples.name, this.examples.makeOptions(), left);
     const derived = Object.entries(MADE).map(([value, words]) => el("option", { value: `=${value}` }, words));
     const options = [...this.examples.makeOptions(), el("optgroup", { label: "The first test" }, derived)];
     const isMade = this.made?.of === this.editor.text && this.made.text === text;
-    this.second.put(text, isMade ? `=${this.made.kind}` : example, options);
+    this.second.put(text, isMade ? `=${this.made.kind}` : example, options, right);
   }
 
   /** Takes for the second test what is chosen in its list. */
@@ -179,7 +193,7 @@ export class Beside {
     }
     const { isOpen } = this;
     if (!isOpen) this.takeExample(parseName(text));
-    if ("fenced" in answer) this.notices.append(makeNotice(NO_FENCES));
+    if ("fenced" in answer) this.notices.append(makeNotice(/exists\s*\(true\)\s*$/.test(text) ? NOT_ASKED : NO_FENCES));
     else if (isOpen) showError(answer, this.notices, this.first.sheet);
   }
 
@@ -219,7 +233,7 @@ export class Beside {
 
   /** Says how the lists of states differ, once both are shown, and marks in each what the other has not. */
   compare() {
-    const reports = this.sides.map((it) => it.states.report);
+    const reports = this.sides.map(({ states }) => states.report && states.shortReport);
     const { why, both, alone = [null, null] } = reports.every(Boolean) ? compareReports(...reports) : {};
     for (const [index, side] of this.sides.entries()) side.states.mark(alone[index]);
     const [first, second] = alone.map((lines) => lines?.length);

@@ -77,10 +77,10 @@ export class Execution {
    */
   computeWords() {
     for (;;) {
-      const before = JSON.stringify([...this.written]);
+      const before = new Map(this.written);
       const ends = this.paths.map((path, thread) => this.followPath(thread, path));
       if (ends.includes(null)) return null;
-      if (JSON.stringify([...this.written]) === before) return ends;
+      if ([...this.written].every(([event, word]) => before.get(event) === word)) return ends;
     }
   }
 
@@ -424,12 +424,14 @@ function listPaths(code, at = 0) {
 }
 
 /**
- * Yields all candidate executions of a test. Throws TooMany after `limit` of them.
+ * Yields all candidate executions of a test, or only those that `fits` does not leave out: it is asked of an execution with its words and without its
+ * coherence orders. Throws TooMany after `limit` of them all.
  * @param {Test} test
  * @param {number} limit
+ * @param {function(Execution): boolean} [fits]
  * @returns {Generator<Execution>}
  */
-export function* listCandidates(test, limit) {
+export function* listCandidates(test, limit, fits = () => true) {
   let number = 0;
   for (const paths of listChoices(test.threads.map((code) => listPaths(code)))) {
     const events = listEventsOnPaths(paths);
@@ -446,7 +448,12 @@ export function* listCandidates(test, limit) {
       if (number > limit) throw new TooMany();
       const execution = new Execution(test, paths, new Map(reads.map((read, index) => [read, chosen[index]])), writes);
       if (execution.ends === null) continue;
-      for (const rows of listChoices([...writes.values()].map(listPermutations))) {
+      const orders = [...writes.values()].map(listPermutations);
+      if (!fits(execution)) {
+        number += orders.reduce((product, it) => product * it.length, 1);
+        continue;
+      }
+      for (const rows of listChoices(orders)) {
         number += 1;
         yield execution.withOrders(new Map([...writes.keys()].map((location, index) => [location, rows[index]])));
       }

@@ -2,21 +2,22 @@
 // is refused by count can be made by a search instead.
 
 import { ask } from "./ask.js";
-import { describeCondition, parseQuestion } from "./condition_words.js";
+import { describeCondition, makeEndTest, parseQuestion } from "./condition_words.js";
 import { makeStateKey } from "./differences.js";
 import { el, makeButton, makePlainMark, renderSentence } from "./dom.js";
 import * as guess from "./guess.js";
 import { countDifferences, findClosest, findMissingState } from "./missing.js";
+import { makeMoreButton, markCut } from "./placing.js";
 import { largeType } from "./preferences.js";
 import { describeLeftOut, formatReport, saveReport } from "./reports.js";
 import { Run } from "./run.js";
 import { countPrediction } from "./score.js";
-import { isTooLong, makeSearchOffer } from "./search.js";
+import { askOrSearch, isTooLong, makeSearchOffer } from "./search.js";
 import { SeenHere } from "./seen_here.js";
 import { Strip } from "./strip.js";
 import { findTints, renderCode, renderTestName, renderTintedSentence } from "./tint.js";
 import { showError, clearFault } from "./errors.js";
-import { describeBuffered, describeCount, describeInterleaved, describeVerdict } from "./verdicts.js";
+import { describeBuffered, describeCount, describeInterleaved, describeVerdict, isUnasked } from "./verdicts.js";
 
 // How many milliseconds it may take to find which states interleaving gives.
 const MAX_MILLISECONDS = 10000;
@@ -30,10 +31,12 @@ const BY = {
   searched: ["complete (proved), by a search", "lw searched the states of the machine. That lists all final states and no others, which is proved."],
 };
 // The kind, the word and the sentence of a test that asks nothing.
-const NO_QUESTION = ["can", "No question.", "The list has all states in which a run ends."];
+const NO_QUESTION = ["can", "No question.", "The list has all states in which a run ends. Ask what must not happen, as `~exists (x=1)`."];
 const SIGNS_IN_WORDS = "/\\ and, \\/ or, ~ not";
-const SIGNS = { can: "○", yes: "✓", no: "⊘", wrong: "!" };
-const VEILED = "The answer comes when a run of yours decides it, when you have found all states, or in Watch.";
+const SIGNS = { can: "○", yes: "✓", cannot: "⊘", wrong: "!" };
+const ENDED = " in which every wait ends";
+const STUCK = "In none of these states every wait has ended: no run of the program comes to its end.";
+const VEILED = "The answer comes when a run of yours decides it or you have found all states";
 /** Returns, as children for `el`, why states are not marked. */
 const makeUnmarkedNote = () => [
   "States are not marked, since the page's own reader ", makePlainMark(), " does not find as many in which the condition holds as lw counts.",
@@ -64,8 +67,9 @@ export class States {
     const { why = null, runPanel = panel, graphPlace = null, firstStep = "telling", next = null, ...others } = more;
     const { onVeil = () => null, ownOf = () => null, noteOf = () => "", onWatch = null, onUnlisted = () => null, ...called } = others;
     Object.assign(this, { editor, onReveal, onVeil, ownOf, noteOf, firstStep, why, onWatch, onUnlisted });
-    // `found` has the keys of the states that are found by hand, `answered` the text of which the verdict was shown.
-    Object.assign(this, { report: null, isByHand: false, isSearched: false, isVeiled: false, found: new Set(), answered: null });
+    // `found` has the keys of the states that are found by hand, `answered` the text of which the verdict was shown, and `hidden` the states of the
+    // report that the list leaves out, since a wait has not ended in them.
+    Object.assign(this, { report: null, isByHand: false, isSearched: false, isVeiled: false, found: new Set(), answered: null, hidden: new Set() });
     this.verdict = el("div", { role: "status", tabindex: "-1", class: "verdicts" });
     this.list = el("div", { class: "list-place" });
     this.strip = new Strip(editor, { choose: (line) => this.choose(line), why });
@@ -99,10 +103,10 @@ export class States {
     if (!isKept) this.clear();
     clearFault(this.editor);
     const { text } = this.editor;
-    const answer = await ask(this.editor, "states", { text, search }, { place: this.list, timeout });
+    const answer = await askOrSearch(this.editor, "states", { text, search }, { place: this.list, timeout });
     if (!answer) return false;
     this.list.replaceChildren();
-    this.isSearched = search;
+    this.isSearched = answer.isSearched;
     if (!answer.report) return this.fail(answer, text, link, search);
     if (guess.isAwaited(text)) this.askForGuess(answer, text, link);
     else await this.reveal(answer, link);
@@ -139,7 +143,8 @@ export class States {
 
   /** Shows the list after the guess. The verdict is kept back if the reader looks for the states by hand. */
   revealGuessed(answer, link) {
-    const isHere = this.list.contains(document.activeElement);
+    const { activeElement } = document;
+    const isHere = activeElement === document.body || this.list.contains(activeElement);
     this.list.replaceChildren();
     this.reveal(answer, link);
     if (isHere) this.verdict.focus({ preventScroll: true });
@@ -151,6 +156,7 @@ export class States {
     if (this.foundIn !== this.editor.text) Object.assign(this, { foundIn: this.editor.text, found: new Set() });
     Object.assign(this, { report, language, words, isVeiled: this.isKeptBack(this.isByHand || link?.view === "hand") });
     this.missing = findMissingState(report, parseQuestion(this.editor.text));
+    this.hidden = this.findHidden();
     this.strip.buffered = new Set();
     this.showVerdict();
     this.showNotes();
@@ -169,7 +175,53 @@ export class States {
   /** Says what the list leaves out, and that its states are not marked, if that is so. */
   showNotes() {
     const { report } = this;
-    this.list.replaceChildren(describeLeftOut(report) ?? "", report.is_marked ? "" : el("p", { class: "small" }, makeUnmarkedNote()));
+    const unmarked = report.is_marked ? "" : el("p", { class: "small" }, makeUnmarkedNote());
+    this.list.replaceChildren(describeLeftOut(report) ?? "", unmarked, this.makeHiddenNote());
+  }
+
+  /** Returns the states in which a wait has not ended, as the phrase of the test says; none if that is so in all states (`isStuck`). */
+  findHidden() {
+    const hasEnded = makeEndTest(this.editor.text);
+    const hidden = this.report.states.filter(({ line }) => hasEnded && !hasEnded(line));
+    this.isStuck = hidden.length > 0 && hidden.length === this.report.number;
+    return new Set(this.isStuck ? [] : hidden);
+  }
+
+  /** Returns a sentence on the states that the list hides, with a button that shows them; "" if there are none, unless no wait ends in any state. */
+  makeHiddenNote() {
+    const { size } = this.hidden;
+    if (this.isByHand) return "";
+    if (!size) return this.isStuck ? el("p", { class: "small hidden-states" }, STUCK) : "";
+    const isSingle = size === 1;
+    const words = `${isSingle ? "1 state" : `${size} states`} more, in which a wait has not ended, ${isSingle ? "is" : "are"} hidden. `;
+    const show = makeButton(isSingle ? "Show it" : "Show them", () => this.showHidden(), { class: "link" });
+    return el("p", { class: "small hidden-states" }, words, show);
+  }
+
+  /** Shows all states of the report. */
+  showHidden() {
+    this.hidden = new Set();
+    this.showAnswer();
+    this.showNotes();
+    this.showList();
+    if (!this.editor.isAlone) this.onReveal();
+  }
+
+  /** Shows all states if the list hides the one of a line. */
+  uncover(line) {
+    if ([...this.hidden].some((it) => it.line === line)) this.showHidden();
+  }
+
+  /** Returns the states of the report that the list does not hide. */
+  get listed() {
+    return this.report.states.filter((it) => !this.hidden.has(it));
+  }
+
+  /** Returns the report with only these states; all that is counted is counted in it. */
+  get shortReport() {
+    if (!this.hidden.size) return this.report;
+    const states = this.listed;
+    return { ...this.report, states, number: states.length, positive: states.filter((it) => it.holds).length };
   }
 
   /** Returns whether the verdict is kept back from a reader who looks for the states: one who was shown it on this text knows it. */
@@ -189,7 +241,7 @@ export class States {
     const { text } = this.editor;
     const note = guess.findGuess(text) === null ? "" : "Your guess is kept. ";
     const [question, asked] = guess.makeQuestionParts(text, this);
-    asked.append(" ", el("span", { class: "by" }, `${note}${VEILED} `), makeButton("Show the answer", () => this.unveil(), { class: "unveil" }));
+    asked.append(" ", el("span", { class: "by" }, `${note}${VEILED}`, el("span", { class: "of-tabs" }, ", or in Watch"), ". "), makeButton("Show the answer", () => this.unveil(), { class: "unveil" }));
     this.verdict.className = "verdicts veiled";
     this.verdict.replaceChildren(question, asked);
   }
@@ -214,7 +266,7 @@ export class States {
     const { report, found, isByHand, isVeiled } = this;
     const known = report.states.filter(({ line }) => isVeiled && found.has(makeStateKey(line))).map((it, index) => ({ ...it, index }));
     this.strip.hide(isByHand ? found : null);
-    const shown = isVeiled ? { ...report, states: known, number: known.length, positive: 0 } : report;
+    const shown = isVeiled ? { ...report, states: known, number: known.length, positive: 0 } : isByHand ? report : this.shortReport;
     this.strip.show(shown, findTints(this.editor.text), this.missing);
   }
 
@@ -226,14 +278,14 @@ export class States {
     const tints = findTints(text);
     const guessed = guess.findGuess(text);
     if (guessed !== null) countPrediction(text, guessed === words.is_so);
-    const asksNothing = report.condition === "exists (true)";
+    const asksNothing = isUnasked(report);
     const [kind, word, sentence] = asksNothing ? NO_QUESTION : describeVerdict(this.language, report, describeCondition(text));
     const [by, way] = BY[this.isSearched ? "searched" : "enumerated"];
-    const note = this.noteOf(text, kind === "can" || kind === "wrong");
+    const note = this.noteOf(text, word === "Allowed.");
     // Of an example the count is in the note, or beside the condition's if there is none; of another test the note says it.
     const counted = el("span", { class: "by buffer-words" });
     const said = note && el("span", { class: note.length < SHORT_NOTE ? "short" : null }, note, " ");
-    const noted = note === "" ? "" : el("p", { class: "small note" }, note === null ? "…" : [said, counted]);
+    const noted = note === "" ? "" : el("p", { class: "small note", id: this.editor.makeId("note") }, note === null ? "…" : [said, counted]);
     const [place, describe] = note === null ? [noted, describeInterleaved] : [counted, describeBuffered];
     if (this.language === "X86") setTimeout(() => this.noteInterleaved(place, report, describe));
     this.verdict.className = `verdicts ${kind}`;
@@ -242,10 +294,10 @@ export class States {
       el("p", { class: "verdict" }, el("span", { class: "sign", "aria-hidden": "true" }, SIGNS[kind]),
         el("span", {}, el("strong", {}, word), " ", el("span", { class: "in-words", title: words.bounds }, renderTintedSentence(sentence, tints)))),
       el("p", { class: "asked" }, renderTestName(text), el("code", { title: SIGNS_IN_WORDS }, renderCode(report.condition, tints, null)),
-        el("span", { class: "count-words" }, ` ${describeCount(report)}`), " ",
+        el("span", { class: "count-words" }, ` ${describeCount(this.shortReport, this.hidden.size ? ENDED : "")}`), " ",
         el("span", { class: "by", title: way }, el("span", { class: "long-by" }, "The list is "), `${by}.`),
-        report.is_proved ? "" : [" ", el("span", { class: "by" }, "Its ticks are "), makePlainMark(), "."], " ", note === "" ? counted : ""),
-      noted,
+        report.is_proved ? "" : [" ", el("span", { class: "by" }, "Its ticks are ", makePlainMark(), ".")], " ", note === "" ? counted : ""),
+      noted && el("div", { class: "noted" }, noted, makeMoreButton(noted)),
     );
   }
 
@@ -254,11 +306,14 @@ export class States {
     const fields = { text: this.editor.text, search: this.isSearched };
     const answer = place.isConnected && (await ask(this.editor, "interleaved", fields, { timeout: MAX_MILLISECONDS }));
     if (!answer || !place.isConnected) return;
-    const interleaved = report.left_out ? null : (answer.interleaved ?? null);
-    const others = interleaved && report.states.filter(({ line }) => !interleaved.includes(line)).map(({ line }) => line);
+    const all = report.left_out ? null : (answer.interleaved ?? null);
+    const others = all && report.states.filter(({ line }) => !all.includes(line)).map(({ line }) => line);
     this.strip.markBuffered(others ?? []);
-    const words = describe(report, interleaved);
+    const listed = this.shortReport;
+    const interleaved = all && this.hidden.size ? all.filter((line) => listed.states.some((it) => it.line === line)) : all;
+    const words = describe(listed, interleaved);
     place.replaceChildren(el("span", { class: "state-words", title: words.replaceAll("`", "") }, renderSentence(words)), " ", makePlainMark("this note"));
+    markCut(place.closest(".note"));
     this.run.onDraw();
   }
 
@@ -275,7 +330,7 @@ export class States {
 
   /** Returns the state whose run shows what the verdict says, or else that which comes closest, or the first; undefined if there is none. */
   get telling() {
-    const { states } = this.report;
+    const states = this.listed;
     return states.find((it) => it.index === this.words.telling) ?? findClosest(states, this.missing) ?? states[0];
   }
 
@@ -287,7 +342,7 @@ export class States {
     const { report, missing } = this;
     const byTurns = isByTurns ? "This run is an interleaving: each store goes to memory at once." : null;
     if (report?.positive !== 0 || report.asked === "Required") return { words: byTurns, explain: null };
-    const isClosest = missing !== null && countDifferences(line, missing) === countDifferences(findClosest(report.states, missing).line, missing);
+    const isClosest = missing !== null && countDifferences(line, missing) === countDifferences(findClosest(this.listed, missing).line, missing);
     const shown = isClosest ? "comes closest" : isOwn ? "is the test's example" : "ends in the first state";
     return { words: `No run ends as asked: this one ${shown}.`, explain: missing !== null && this.why ? () => this.why(missing) : null };
   }
@@ -310,6 +365,7 @@ export class States {
     const own = isOwn ? this.ownOf(this.editor.text) : null;
     const otherwise = this.telling?.line ?? null;
     if (!state && !otherwise) return this.run.clear();
+    if (state) this.uncover(state);
     if (state || own === null) this.strip.select(state ?? otherwise);
     const opening = state ? null : (answer) => this.describeOpening(answer);
     const isByTurns = isOwn && own === null;
@@ -359,6 +415,7 @@ export class States {
   showAll() {
     this.unveil();
     this.showNotes();
+    this.showList();
     this.strip.hide(null);
   }
 
@@ -370,6 +427,7 @@ export class States {
     if (!state) return this.showOther(line, program);
     const isNew = !this.found.has(key);
     this.found.add(key);
+    this.uncover(state.line);
     this.strip.select(state.line);
     if (!this.isByHand) return;
     this.showFound(isNew, isNew && this.decides(state));

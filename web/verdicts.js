@@ -36,40 +36,55 @@ export function describeReport(language, report) {
 }
 
 /**
- * Returns the verdict: its kind (`can`; `yes` if the test claims it; `no`; or `wrong` if the test forbids what is allowed), the word for it, and the
- * sentence on what runs do. The condition may be put into words.
+ * Returns the verdict: its kind, the word for it, and the sentence on what runs do. The kind is `yes` or `wrong` if the test claims something: whether that
+ * is so; and `can` or `cannot` if it only asks. The condition may be put into words, as `describeCondition` returns them.
  * @param {string} language
  * @param {Report} report
- * @param {string | null} [condition]
+ * @param {{words: string, premise: string, otherwise: string} | null} [condition]
  * @returns {[string, string, string]}
  */
 export function describeVerdict(language, { asked, verdict, positive }, condition = null) {
   const isOk = verdict === "Ok";
   const runs = language === "SRC" ? " by interleaving" : "";
-  const words = condition ?? "the condition holds";
+  const { words, premise, otherwise } = condition ?? { words: "the condition holds", premise: "", otherwise: "" };
   const some = `There is a run${runs} in which ${words}.`;
   const none = `There is no run${runs} in which ${words}.`;
-  if (asked === "Required" && isOk) return ["yes", "Always.", `In every run${runs} ${words}.`];
-  if (asked === "Required" && !positive) return ["no", "Never.", `${none.slice(0, -1)}; the test requires that of every run.`];
-  if (asked === "Required") return ["no", "Not always.", `Not in every run${runs} ${words}.`];
+  const every = `every run${runs}${premise && ` in which ${premise},`} ${words}.`;
+  if (asked === "Required" && isOk) return ["yes", "Always.", `In ${every}`];
+  if (asked === "Required" && !positive) return ["wrong", "Never.", `${none.slice(0, -1)}; the test requires that of every run.`];
+  const against = `There is a run${runs} in which ${premise && `${premise} and `}${otherwise}.`;
+  if (asked === "Required") return ["wrong", "Not always.", otherwise ? against : `Not in ${every}`];
   if (asked === "Forbidden") return isOk ? ["yes", "Forbidden.", none] : ["wrong", "Allowed.", `${some.slice(0, -1)}; the test forbids that.`];
-  return isOk ? ["can", "Allowed.", some] : ["no", "Forbidden.", none];
+  return isOk ? ["can", "Allowed.", some] : ["cannot", "Forbidden.", none];
 }
 
 /**
- * Returns a sentence that says in how many states the condition holds.
+ * Returns a sentence that says in how many states the condition holds. `which` says which final states the report has, if it has not all.
  * @param {Report} report
+ * @param {string} [which]
  * @returns {string}
  */
-export function describeCount({ positive, number }) {
-  if (number === 1) return `The condition ${positive ? "holds" : "does not hold"} in the only final state.`;
+export function describeCount({ positive, number }, which = "") {
+  if (number === 1) return `The condition ${positive ? "holds" : "does not hold"} in the only final state${which}.`;
   const formatNumber = (it) => it.toLocaleString("en");
-  return `The condition holds in ${positive === number ? "all" : positive ? `${formatNumber(positive)} of` : "none of"} ${formatNumber(number)} final states.`;
+  return `The condition holds in ${positive === number ? "all" : positive ? `${formatNumber(positive)} of` : "none of"} ${formatNumber(number)} final states${which}.`;
 }
 
 const NOT_KNOWN = "Which of these states interleaving gives is not known: the list that would say so is refused.";
-// The largest number of states that interleaving does not give whose lines a sentence has.
+// The largest number of states that interleaving does not give whose lines a sentence has, and of the letters of these.
 const MAX_LINES = 3;
+const MAX_LETTERS = 150;
+
+/** Returns whether a report, or another answer with a condition, is of a test that asks nothing. */
+export function isUnasked({ condition }) {
+  return condition === "exists (true)";
+}
+
+/** Returns the words that interleaving gives all of some states, and what this does not mean of a test that asks nothing. */
+function describeAll(report, why = "") {
+  const all = `Interleaving gives ${report.number === 1 ? "the only state" : `all ${report.number.toLocaleString("en")} states`}, too`;
+  return isUnasked(report) ? `${all}. The test asks nothing, and what no list names may still need a fence.` : `${all}${why}.`;
+}
 
 /**
  * Returns a sentence that says which states of an x86 test interleaving gives, too, given the lines of these; null if they are not known.
@@ -77,14 +92,17 @@ const MAX_LINES = 3;
  * @param {string[] | null} interleaved
  * @returns {string}
  */
-export function describeInterleaved({ states, number }, interleaved) {
+export function describeInterleaved(report, interleaved) {
+  const { states, number } = report;
   if (!interleaved) return NOT_KNOWN;
   const lines = new Set(interleaved);
   const others = states.filter(({ line }) => !lines.has(line)).map(({ line }) => `\`${line.replace(/;$/, "")}\``);
-  if (!others.length) return `Interleaving gives ${number === 1 ? "the only state" : `all ${number.toLocaleString("en")} states`}, too: store buffers add none in what the question names.`;
+  if (!others.length) return describeAll(report, ": store buffers add none in what the question names");
   const rest = others.length - MAX_LINES;
   const more = rest > 0 ? ` · and ${rest} other${rest === 1 ? "" : "s"}` : "";
-  return `Interleaving gives ${lines.size} of the ${number} states. Only with store buffers (◆): ${others.slice(0, MAX_LINES).join(" · ")}${more}.`;
+  const listed = `${others.slice(0, MAX_LINES).join(" · ")}${more}`;
+  const begin = `Interleaving gives ${lines.size} of the ${number} states.`;
+  return listed.length > MAX_LETTERS ? `${begin} Only store buffers give the others (◆).` : `${begin} Only with store buffers (◆): ${listed}.`;
 }
 
 /**
@@ -94,9 +112,10 @@ export function describeInterleaved({ states, number }, interleaved) {
  * @param {string[] | null} interleaved
  * @returns {string}
  */
-export function describeBuffered({ number }, interleaved) {
+export function describeBuffered(report, interleaved) {
+  const { number } = report;
   if (!interleaved) return NOT_KNOWN;
   const others = number - interleaved.length;
   if (others) return `◆ ${others.toLocaleString("en")} of ${number.toLocaleString("en")} only by store buffers.`;
-  return `Interleaving gives ${number === 1 ? "the only state" : `all ${number.toLocaleString("en")} states`}, too.`;
+  return describeAll(report);
 }

@@ -137,10 +137,9 @@ export class Why {
 
   /** Returns a state that the condition asks about and that some candidate execution has, in place of the proposed one, which none has; null if there is none. */
   async findTelling(text) {
-    const { isAsked } = parseQuestion(text);
-    const answer = await ask(this.editor, "why not", { text, state: "all" }, { place: this.answers });
-    const states = answer?.lines?.filter((it) => it.startsWith(FORBIDS)).map((it) => it.slice(FORBIDS.length)) ?? [];
-    return states.find((it) => /;$/.test(it) && !it.includes("=?;") && isAsked(it)) ?? null;
+    const listed = this.report.states.map((it) => it.line);
+    const answer = await ask(this.editor, "candidate", { text, listed }, { place: this.answers });
+    return answer?.state ?? null;
   }
 
   /** Draws the first cycle, or a run, as large as the column of the answers has room for, in a window in which the column is scrolled by itself. */

@@ -13,6 +13,8 @@ import { WORD } from "./token_reader.js";
 const MAX_EXECUTIONS = 400000;
 const MAX_CYCLES = 6;
 const MAX_DRAWN = 3;
+// The milliseconds in which states are looked for, of which one is explained, and the largest numbers of these, and of executions of one, that are looked at.
+const [MAX_MILLISECONDS, MAX_STATES, MAX_LOOKED_AT] = [4000, 40, 40];
 // What the axioms forbid if a word of it is `?`: no state.
 const UNKNOWN_WORDS = "executions whose words are not known";
 const NONE_FORBIDDEN = "x86-TSO allows every state that some candidate execution has.";
@@ -74,6 +76,60 @@ function addExecution(way, other) {
   if (computeWeight(other) < computeWeight(way)) Object.assign(way, { execution: other.execution, violation: other.violation, kinds: other.kinds });
 }
 
+/** Returns whether a proposition is true, given a function that returns the word of a site, or null if it is not known; null if that decides. */
+function evaluate({ kind, parts, site, word }, findWord) {
+  if (kind === "Eq") return findWord(site) === null ? null : findWord(site) === word;
+  const truths = parts.map((it) => evaluate(it, findWord));
+  if (kind === "Not") return truths[0] === null ? null : !truths[0];
+  if (kind !== "And" && kind !== "Or") return kind === "True";
+  const deciding = kind === "Or";
+  return truths.includes(deciding) ? deciding : truths.includes(null) ? null : !deciding;
+}
+
+/**
+ * Yields the candidate executions whose outcomes are wanted, each with its words of the sites that the test shows. `isWanted` is given a function that returns
+ * the word of a site, or null if it is not known. Throws TooMany if there are too many candidates.
+ * @param {Test} test
+ * @param {function(function(Site): (number | null)): boolean} isWanted
+ * @returns {Generator<{execution: Execution, words: (number | null)[]}>}
+ */
+function* listWanted(test, isWanted) {
+  // The words of registers do not depend on the coherence orders.
+  const fits = ({ ends }) => isWanted(({ thread, register }) => (register === undefined ? null : ends[thread][register]));
+  for (const execution of listCandidates(test, MAX_EXECUTIONS, fits)) {
+    const outcome = execution.makeOutcome();
+    const findWord = (site) => readWord(site, outcome) ?? null;
+    if (isWanted(findWord)) yield { execution, words: listObservedSites(test).map(findWord) };
+  }
+}
+
+/**
+ * Returns the line of a state that some candidate execution has, that the condition asks about, and that is none of the `listed` ones; null if there is none, or
+ * if there are too many candidates. It is the one of the least words of those with a coherent execution, among those that are found in some
+ * time, since its cycle teaches more; or otherwise of all.
+ * @param {Test} test
+ * @param {string[]} listed
+ * @returns {string | null}
+ */
+export function findCandidateState(test, listed) {
+  const isAsked = (findWord) => evaluate(test.proposition, findWord) !== (test.quantifier === "forall");
+  const [known, found, end] = [new Set(listed), new Map(), performance.now() + MAX_MILLISECONDS];
+  try {
+    for (const { execution, words } of listWanted(test, isAsked)) {
+      const line = words.includes(null) ? null : formatState(test, words);
+      if (line === null || known.has(line)) continue;
+      const { executions } = found.get(line) ?? found.set(line, { line, words, executions: [] }).get(line);
+      if (executions.length < MAX_LOOKED_AT) executions.push(execution);
+      if (performance.now() > end) break;
+    }
+  } catch (error) {
+    if (!(error instanceof TooMany)) throw error;
+  }
+  const states = [...found.values()].sort((one, other) => compareRows(one.words, other.words));
+  const isTelling = ({ executions }) => executions.some((it) => it.findBrokenAxiom()?.axiom !== "coherence");
+  return (states.slice(0, MAX_STATES).find(isTelling) ?? states[0])?.line ?? null;
+}
+
 /**
  * Returns the states that the axioms allow, and those that they forbid: each of these with the `ways` in which its candidate executions break an
  * axiom, by their keys. If `wanted` has words, other states are left out. Throws TooMany if there are too many candidates.
@@ -83,11 +139,9 @@ function addExecution(way, other) {
  */
 function listForbiddenStates(test, wanted) {
   const [allowed, forbidden, sites, constants] = [new Set(), new Map(), listObservedSites(test), listConstants(test)];
-  for (const execution of listCandidates(test, MAX_EXECUTIONS)) {
-    const outcome = execution.makeOutcome();
-    const words = sites.map((site) => readWord(site, outcome) ?? null);
-    const isOther = (word, index) => word !== null && word !== wanted.get(makeSiteKey(sites[index]));
-    if (allowed.has(String(words)) || (wanted && words.some(isOther))) continue;
+  const isWanted = (findWord) => wanted === null || sites.every((it) => [null, wanted.get(makeSiteKey(it))].includes(findWord(it)));
+  for (const { execution, words } of listWanted(test, isWanted)) {
+    if (allowed.has(String(words))) continue;
     const violation = execution.findBrokenAxiom();
     if (!violation) {
       allowed.add(String(words));
@@ -127,10 +181,15 @@ function explainState(test, { words, ways }) {
   return ways.length > MAX_CYCLES ? [...lines, `  and ${ways.length - MAX_CYCLES} other cycles`] : lines;
 }
 
-/** Returns what orders the ways of a state: the clearest are first, then those of several threads, the shortest, and the most frequent. */
+/**
+ * Returns what orders the ways of a state: the clearest are first, then those of several threads, those through a fence or a locked instruction, the shortest,
+ * and the most frequent.
+ */
 function makeRank(way) {
-  const isOfOneThread = new Set(way.violation.cycle.map((it) => findThread(it.source))).size === 1;
-  return [computeWeight(way), Number(isOfOneThread), way.events.length, -way.times];
+  const { execution, violation, events, times } = way;
+  const isOfOneThread = new Set(violation.cycle.map((it) => findThread(it.source))).size === 1;
+  const isPlain = violation.cycle.every((it) => ["store", "load"].includes(execution.findInstruction(it.source).kind));
+  return [computeWeight(way), Number(isOfOneThread), Number(isPlain), events.length, -times];
 }
 
 /** Compares two rows of numbers by the first ones that differ. */

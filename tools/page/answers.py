@@ -29,7 +29,7 @@ LinkMaker = Callable[..., str]
 
 # The largest list that is drawn with a column for each state.
 MAX_STATES, MAX_NAMES = 20, 5
-SIGNS = {"can": "○", "yes": "✓", "no": "⊘", "wrong": "!"}
+SIGNS = {"can": "○", "yes": "✓", "cannot": "⊘", "wrong": "!"}
 ROW = re.compile(r" .* ;")
 OBSERVATION = re.compile(r"Observation (\S+) (?:Never|Sometimes|Always) (\d+) (\d+)")
 REFUSAL = re.compile(r"(?:2> )?(lw: .*)")
