@@ -12,24 +12,24 @@ import { findNearest } from "./nearest.js";
 
 // Of a word that readers look for the words that the examples have for it, the best first.
 const SYNONYMS = {
-  acquire: ["mp", "publication", "seqlock"], relaxed: ["sb", "mp"], release: ["mp", "publication", "seqlock"], seq_cst: ["sb"],
-  exchange: ["xchg", "swap"], fetch_add: ["xadd", "fetchadd"],
-  atomic: ["locked", "xchg", "xadd", "swap"], barrier: ["mfence", "fence"], cas: ["trylock", "consensus", "xchg", "swap", "locked"],
-  cmpxchg: ["trylock", "consensus", "xchg", "swap", "locked"], coherence: ["co"], dcl: ["doublechecked"], deadlock: ["peterson", "dekker", "lock"],
-  deque: ["chaselev", "workstealing"], fence: ["mfence", "fences"], fifo: ["queue", "ring"], mesi: ["cache"], moesi: ["cache"],
-  mpsc: ["producer", "queue"],
-  mutex: ["spinlock", "peterson", "dekker", "ticketlock", "bakery", "lock"],
-  queue: ["ring", "workstealing", "chaselev"], rcu: ["urcu", "epoch"], reordering: ["buffering"], rmw: ["swap", "xchg", "xadd"],
-  rwlock: ["readerswriter", "bytelock"], semaphore: ["lock"], singleton: ["doublechecked"], spin: ["lock"], spsc: ["ringbuffer", "oneslot"],
-  stale: ["mp", "publication", "seqlock"],
-  stealing: ["chaselev"], swap: ["xchg"], tas: ["spinlock", "trylock", "testthenset"],
-  volatile: ["mp", "publication", "doublechecked"],
+  aba: ["hazardpointer", "epoch"], acquire: ["mp", "publication", "seqlock"], arc: ["counter"], atomic: ["locked", "xchg", "xadd", "swap"],
+  barrier: ["mfence", "fence"], cas: ["trylock", "consensus", "xchg", "swap", "locked"], channel: ["spscring", "ringbuffer", "queue"],
+  cmpxchg: ["trylock", "consensus", "xchg", "swap", "locked"], coherence: ["co"], condition_variable: ["wakeup"], condvar: ["wakeup"],
+  dcl: ["doublechecked"], deadlock: ["peterson", "dekker", "lock"], deque: ["chaselev", "workstealing"], eventcount: ["wakeup"],
+  exchange: ["xchg", "swap"], fence: ["mfence", "fences"], fetch_add: ["xadd", "fetchadd"], fifo: ["queue", "ring"], futex: ["wakeup", "spinlock"],
+  lazy: ["doublechecked", "publication"], lockfree: ["chaselev", "ringbuffer", "hazardpointer"], mesi: ["cache"], moesi: ["cache"],
+  mpsc: ["producer", "queue"], mutex: ["spinlock", "peterson", "dekker", "ticketlock", "bakery", "lock"], notify: ["wakeup"], once: ["doublechecked"],
+  queue: ["ring", "workstealing", "chaselev"], rcu: ["urcu", "epoch"], reclamation: ["hazardpointer", "epoch", "urcu"], refcount: ["counter", "xadd"],
+  reference: ["counter"], relaxed: ["sb", "mp"], release: ["mp", "publication", "seqlock"], reordering: ["buffering"], rmw: ["swap", "xchg", "xadd"],
+  rwlock: ["readerswriter", "bytelock"], semaphore: ["lock"], seq_cst: ["sb"], shared_ptr: ["counter", "xadd"], singleton: ["doublechecked"],
+  spin: ["lock"], spsc: ["ringbuffer", "oneslot"], stack: ["hazardpointer"], stale: ["mp", "publication", "seqlock"], stealing: ["chaselev"],
+  swap: ["xchg"], tas: ["spinlock", "trylock", "testthenset"], treiber: ["hazardpointer"], volatile: ["mp", "publication", "doublechecked"],
 };
 // The full names of the classics, each with the name that its tests have: these come first, also by the beginnings of their words.
 const FULL_NAMES = {
   "independent reads of independent writes": "iriw", "load buffering": "lb", "load buffer": "lb", "message passing": "mp", "read to write causality": "rwc",
   "store buffering": "sb", "store buffer": "sb", "store forwarding": "n6", "write to read causality": "wrc", "double checked locking": "doublechecked",
-  "test and set": "spinlock", "work stealing": "workstealing", "dekker lock": "dekker", "peterson lock": "peterson",
+  "reference count": "counter", "reference counting": "counter", "test and set": "spinlock", "work stealing": "workstealing", "dekker lock": "dekker", "peterson lock": "peterson",
   "false sharing": "sharing", "read copy update": "urcu", "compare and swap": "trylock",
 };
 // The number of letters with which the beginnings of two words of a full name are looked for.
@@ -50,6 +50,10 @@ const NOTES = [
   [["c11", "rust", "stdatomic"],
     "Paste a small program in C, C++ or Rust in place of the text: a button makes a test of it. `tools/from_c.py` asks a compiler."],
   [["at&t", "att", "movl", "intel"], "An instruction has its destination first, as in `MOV EAX,[x]`. The page turns a text in AT&T's order by a button."],
+  [["aba", "treiber", "stack", "pointer", "linked"],
+    "A test has words and no pointers: `HazardPointer` and `Epoch` ask whether a node may be freed while another thread reads it."],
+  [["refcount", "refcounting", "shared_ptr", "arc"], "`Counter-x86` adds by a locked instruction, as a reference count does, and `Counter+plain-x86` by a load and a store."],
+  [["litmus"], "Every example is a litmus test: search for a name or a subject, such as `SB` or lock."],
   [["sfence", "lfence"], "The only fence is `MFENCE`; a locked instruction does the same."],
 ];
 // How well a word fits, the best first; a synonym fits less than the word itself.

@@ -8,7 +8,7 @@
 // load (`loaded`), the `label` to which it jumps back, the `register` that it loads, and its `jumps`.
 
 import { alignCells } from "./aligned.js";
-import { limitQuestion } from "./c_question.js";
+import { addEnds, limitQuestion } from "./c_question.js";
 import { findFreeRegister, makeRowsBelow } from "./instead.js";
 import { parseCells } from "./other_language.js";
 import { REGISTERS } from "./token_reader.js";
@@ -193,11 +193,11 @@ function chooseRegister(text, loop, thread, language) {
 
 /**
  * Returns a text in which a thread leaves the last one of its loops that only wait, with the register that is put `instead` of its own, if it gets another one,
- * and whether the question leaves out the states in which it has not ended (`isAsked`); null if there is no such loop.
+ * and the formula that it has ended if the question asks only for the states in which that holds (`asked`), or null; null if there is no such loop.
  * @param {string} text
  * @param {number} thread
  * @param {string} language
- * @returns {{text: string, instead: {from: string, to: string} | null, isAsked: boolean} | null}
+ * @returns {{text: string, instead: {from: string, to: string} | null, asked: Formula | null} | null}
  */
 function leaveLastLoop(text, thread, language) {
   const patterns = PATTERNS[language];
@@ -209,11 +209,12 @@ function leaveLastLoop(text, thread, language) {
   const ended = describeEnd(loop, patterns);
   const to = ended && chooseRegister(text, loop, thread, language);
   const tail = text.slice(cells.at(-1).end + 1);
-  const question = to && limitQuestion(tail.trim(), [{ name: `${thread}:${language === "X86" ? to.toUpperCase() : to}`, ...ended }]);
+  const formula = to && { name: `${thread}:${language === "X86" ? to.toUpperCase() : to}`, ...ended };
+  const question = to && limitQuestion(tail.trim(), [formula]);
   const instead = question && to !== from ? { from, to } : null;
   const edits = [...(instead ? listRegisterEdits(loop, to) : []), ...listLeavingEdits(text, cells, loop, thread)];
   const code = edits.reduceRight((whole, it) => whole.slice(0, it.begin) + it.text + whole.slice(it.end), text.slice(0, text.length - tail.length));
-  return { text: code + (question ? `\n${question}\n` : tail), instead, isAsked: Boolean(question) };
+  return { text: code + (question ? `\n${question}\n` : tail), instead, asked: question ? formula : null };
 }
 
 /** Returns a text in which threads leave all loops that only wait, with what `leaveLastLoop` returns of each. */
@@ -225,7 +226,9 @@ function leaveLoops(text, language) {
     if (next) left.push(next);
     else thread += 1;
   }
-  const made = left.at(-1)?.text ?? text;
+  const bare = left.at(-1)?.text ?? text;
+  const asked = left.map((it) => it.asked).reverse();
+  const made = addEnds(bare, asked.includes(null) ? [] : asked);
   return { left, made: alignCells(text) === text ? alignCells(made) : made };
 }
 
@@ -246,8 +249,8 @@ function describeLoops(left) {
   const only = isSingle ? "This loop only waits" : "These loops only wait";
   const leave = isSingle ? "its thread can leave it by a jump forward" : "threads can leave them by jumps forward";
   const renamed = from ? `, with \`${to}\` in place of \`${from}\`, which is set again later` : "";
-  const asked = left.every((it) => it.isAsked) ? ", and the question leaves them out" : "";
-  return `${only}, so one try is enough: ${leave}${renamed}. States in which ${isSingle ? "it has" : "one has"} not ended are in the list, too${asked}.`;
+  const asked = left.every((it) => it.asked) ? "are hidden in the list, and the question leaves them out" : "are in the list, too";
+  return `${only}, so one try is enough: ${leave}${renamed}. States in which ${isSingle ? "it has" : "one has"} not ended ${asked}.`;
 }
 
 /**

@@ -19,14 +19,24 @@ def report_of(name: str) -> str:
 class Search(PageCase):
     """A search in place of orders."""
 
-    def test_offered(self) -> None:
-        """A list that is refused by count can be searched, and the verdict says by what it was listed."""
+    def test_at_once(self) -> None:
+        """A list that is refused by count is made by a search at once, and the verdict says so."""
         user = self.user
         user.open_listed()
         user.run_text(FIVE)
-        self.assertSays("lw: limit 2 TooManyOrders", "#outcome .notice")
-        user.click("#search-instead")
         self.assertSays("The condition holds in 1 of 2 final states.", "#outcome .asked")
+        self.assertSays("The list is complete (proved), by a search.", "#outcome .asked")
+        self.assertEqual([], user.all("#search-instead"))
+
+    def test_offered(self) -> None:
+        """A search that takes long ends by itself after five seconds, and is offered below the refusal."""
+        user = self.user
+        user.open_listed()
+        user.hold_searches()
+        user.run_text(FIVE)
+        self.assertSays("lw: limit 2 TooManyOrders", "#outcome .notice")
+        user.release_searches()
+        user.click("#search-instead")
         self.assertSays("The list is complete (proved), by a search.", "#outcome .asked")
         self.assertEqual([], user.all("#search-instead"))
 
@@ -36,7 +46,6 @@ class Search(PageCase):
         name = "3.TryLock"
         user.open_listed()
         user.run_text(read(f"examples/beyond/{name}.litmus"))
-        user.click("#search-instead")
         user.text_with("#outcome .asked", "final states")
         user.find("#watching .machine")
         user.press(user.keys.END)
@@ -53,29 +62,26 @@ class Search(PageCase):
         """A search says how long it takes, and is cancelled."""
         user = self.user
         user.open_listed()
+        user.hold_searches()
         user.run_text(read(TRY_LOCK))
-        user.find("#search-instead")
-        user.run("const post = Worker.prototype.postMessage; window.post = post; Worker.prototype.postMessage = () => null")
         user.click("#search-instead")
         self.assertSays(" s", "#outcome .asking")
         user.click("#outcome .asking .cancel")
         self.assertSays("Cancelled.", "#outcome .notice")
-        user.run("Worker.prototype.postMessage = window.post")
+        user.release_searches()
         user.click("#search-instead")
         self.assertSays("The condition holds in none of 7 final states.", "#outcome .asked")
         user.run_text(read("examples/SB-x86.litmus"))
         self.assertSays("The condition holds in 1 of 4 final states.", "#outcome .asked")
 
     def test_beside_and_compiled(self) -> None:
-        """The search is offered for a test beside another, and for a compiled program."""
+        """A compiled program, and a test beside another one, are searched, too."""
         user = self.user
         user.open_listed()
         user.type(FIVE)
         user.click("#tab-compile")
-        user.click("#search-compiled")
         self.assertSays(", by a search", "#compile h3")
         user.click("#set-beside")
-        user.click("#first-search-instead")
         self.assertSays("complete (proved), by a search.", ".side:first-child .asked")
 
 

@@ -261,6 +261,19 @@ class User:
         self.click("#run-it")
         self.wait(lambda: not self.all(".asking"), "an answer")
 
+    def hold_searches(self) -> None:
+        """Has the page wait for each search."""
+        self.run(
+            "window.post = Worker.prototype.postMessage; window.get = window.fetch;"
+            "const isSearch = (it) => it.includes('\"search\":true');"
+            "Worker.prototype.postMessage = function (it) { if (!isSearch(JSON.stringify(it))) window.post.call(this, it) };"
+            "window.fetch = (address, how) => (isSearch(String(how?.body)) ? new Promise(() => null) : window.get(address, how))"
+        )
+
+    def release_searches(self) -> None:
+        """Has the page wait for nothing."""
+        self.run("Worker.prototype.postMessage = window.post; window.fetch = window.get")
+
     def value(self, css: str = "#text") -> str:
         """Returns the value of a field."""
         return self.run("return document.querySelector(arguments[0]).value", css)
