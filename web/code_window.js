@@ -3,8 +3,9 @@
 
 import { largeType } from "./preferences.js";
 
-// The part of a line that may be missing at the end of a code that is shown as a whole.
+// The part of a line that may be missing at the end of a code that is shown as a whole; and in a machine that is fitted, since it may become a bit lower.
 const SPARE = 0.35;
+const FITTED = 0.2;
 // The number of columns of threads in a narrow window, and the least number of lines of codes that are fitted.
 const PHONE = "(max-width: 40rem)";
 const COLUMNS = 2;
@@ -24,7 +25,7 @@ export function showNext(machine) {
   for (const code of machine.querySelectorAll(".code")) {
     const next = code.querySelector(".next, .reached");
     code.style.paddingBottom = "";
-    const isWhole = countHiddenLines(code) === 0;
+    const isWhole = countHiddenLines(code, SPARE) === 0;
     code.classList.toggle("whole", isWhole);
     if (isWhole) code.scrollTop = 0;
     else if (next) scrollTo(code, next);
@@ -32,10 +33,10 @@ export function showNext(machine) {
   }
 }
 
-/** Returns how many lines of a code have no room in its box. */
-function countHiddenLines(code) {
+/** Returns how many lines of a code have no room in its box, of which a `spare` part of a line may be missing. */
+function countHiddenLines(code, spare = FITTED) {
   const line = code.firstElementChild.offsetHeight;
-  return Math.max(0, Math.ceil((code.scrollHeight - code.clientHeight) / line - SPARE));
+  return Math.max(0, Math.ceil((code.scrollHeight - code.clientHeight) / line - spare));
 }
 
 /**
@@ -50,7 +51,7 @@ export function measureCut(machine) {
   const isTooLong = (it) => it.scrollWidth > it.clientWidth + 1;
   const cut = codes.filter(isTooLong);
   const lines = largeType.isOn ? 0 : cut.flatMap((it) => [...it.querySelectorAll(".line")]).filter(isTooLong).length;
-  return Math.max(0, ...codes.map(countHiddenLines)) + lines * LONG_LINE + (cut.length ? TOO_LONG : 0);
+  return Math.max(0, ...codes.map((it) => countHiddenLines(it))) + lines * LONG_LINE + (cut.length ? TOO_LONG : 0);
 }
 
 /**

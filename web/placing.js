@@ -71,8 +71,21 @@ function placeNext(hasTwoColumns) {
   if (!isSeen()) below.append(next);
 }
 
-/** Returns a button that shows the whole of a text of which a phone shows the first line only. */
-function makeMoreButton(place) {
+/**
+ * Marks a note that is folded to one line and has no room in it.
+ * @param {Element | null} note
+ */
+export function markCut(note) {
+  const shown = note?.firstElementChild;
+  if (shown) note.classList.toggle("cut", shown.scrollWidth > shown.clientWidth + 1 && getComputedStyle(note).display === "flex");
+}
+
+/**
+ * Returns a button that shows the whole of a text of which the first line is shown.
+ * @param {Element} place
+ * @returns {Element}
+ */
+export function makeMoreButton(place) {
   const toggle = () => {
     const isWhole = place.classList.toggle("whole");
     more.setAttribute("aria-expanded", String(isWhole));

@@ -23,6 +23,8 @@ const TEXT_PLACES = ["below", "beside"];
 const LIST_BELOW = "list";
 const GRAPH_SIZES = [1.24, 1.12, 1];
 const MAX_GRAPH_SIZE = 1.6;
+// The least part of the width that the machine has beside a graph, if all fits then.
+const MIN_PART_OF_WIDTH = 0.6;
 // The elements that are no smaller than on the page itself, by the property of the style sheet that has their size there.
 const USUAL = {
   "--usual-verdict": "#outcome .verdict",
@@ -128,11 +130,12 @@ export class Present {
 
   /** Puts the graph, as large as can be, where all fits in the least size of type, or if there is no such place, nowhere. */
   placeGraph(dataset, least) {
-    const listTries = (places) => GRAPH_SIZES.flatMap((ofGraph) => places.map((place) => ({ place, ofGraph })));
+    const listTries = (places, part) => GRAPH_SIZES.flatMap((ofGraph) => places.map((place) => ({ place, ofGraph, part })));
     const isOfFour = document.querySelector("#watching .thread:nth-child(4)") !== null;
-    for (const { place, ofGraph } of [...listTries(isOfFour ? [GRAPH_BELOW] : []), ...listTries(GRAPH_PLACES)]) {
+    const below = isOfFour ? listTries([GRAPH_BELOW], 0) : [];
+    for (const { place, ofGraph, part } of [...below, ...listTries(GRAPH_PLACES, MIN_PART_OF_WIDTH), ...listTries(GRAPH_PLACES, 0)]) {
       dataset.graph = place;
-      if (this.fits(least, { ofMachine: 1, ofGraph })) return;
+      if (this.fits(least, { ofMachine: 1, ofGraph, part })) return;
     }
     dataset.graph = "none";
   }
@@ -179,7 +182,10 @@ export class Present {
     for (const it of document.querySelectorAll(".machine")) showNext(it);
   }
 
-  /** Returns whether all fits in a size of type, with the machine and the graph larger by factors, and leaves the page in that size. */
+  /**
+   * Returns whether all fits in a size of type, with the machine and the graph larger by factors, and the machine has its part of the width. Leaves the page
+   * in that size.
+   */
   fits(size, factors = {}) {
     const root = document.documentElement;
     Object.assign(this, factors);
@@ -188,7 +194,8 @@ export class Present {
     root.style.setProperty("--of-graph", this.ofGraph);
     const isWhole = (box) => box.scrollWidth <= box.clientWidth + 1 && box.scrollHeight <= box.clientHeight + 1;
     const scrolled = [...document.querySelectorAll(".code, .wide, .registers, #text")].filter((it) => it.offsetParent !== null);
-    return scrolled.every(isWhole) && root.scrollHeight <= innerHeight && root.scrollWidth <= innerWidth;
+    const isWide = findById("watching").offsetWidth >= this.part * findById("answers").offsetWidth;
+    return isWide && scrolled.every(isWhole) && root.scrollHeight <= innerHeight && root.scrollWidth <= innerWidth;
   }
 }
 

@@ -85,6 +85,8 @@ export class Rows {
     const isCrowded = innerHeight < LOW && (!this.strip.editor.isAlone || largeType.isOn);
     const number = Math.min(isCrowded ? MIN_ROWS : isSmall ? FEW_ROWS : ROWS_IN_SIGHT, this.shown.length);
     this.body.style.height = `${this.height * number + 2}px`;
+    // What is chosen stays in sight if the list becomes lower.
+    new ResizeObserver(() => this.bring(this.at)).observe(this.body);
     this.follow();
   }
 

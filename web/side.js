@@ -67,15 +67,22 @@ export class Side {
     this.states = new States(this.place, this.sheet, onReveal, { ...called, firstStep: 0 });
   }
 
-  /** Shows a test, and which of the options it is. If it was shown before, everything shown of it stays. */
-  put(text, option, options) {
+  /** Returns where the run is, as a link has it; null at the start of the run. */
+  formatPlace() {
+    const { isOpen, isByHand, isOther, goal, step } = this.states.run;
+    return isOpen && !isByHand && step ? String(new URLSearchParams({ state: goal, own: isOther ? "1" : "", step })) : null;
+  }
+
+  /** Shows a test, which of the options it is, and where in its run a link leads. What was shown before stays, if it is the same. */
+  put(text, option, options, link = null) {
     this.select.replaceChildren(...options);
     this.select.value = option;
-    if (text === this.sheet.text) return;
+    if (text === this.sheet.text && (link === this.link || link === this.formatPlace())) return;
+    this.link = link;
     this.sheet.text = text;
     this.title.textContent = parseName(text);
     endQuestions(this.sheet);
     this.states.clear();
-    this.states.ask();
+    this.states.ask(link && Object.fromEntries(new URLSearchParams(link)));
   }
 }

@@ -174,7 +174,10 @@ export class Strip {
     this.rows = null;
     const focused = this.place.contains(document.activeElement) ? document.activeElement.dataset.line : null;
     const scrolled = this.place.querySelector(".wide")?.scrollLeft ?? 0;
-    const showEdge = () => wide.classList.toggle("more-right", wide.scrollLeft + wide.clientWidth < wide.scrollWidth - 2);
+    const showEdge = () => {
+      wide.classList.toggle("more-left", wide.scrollLeft > 2);
+      wide.classList.toggle("more-right", wide.scrollLeft + wide.clientWidth < wide.scrollWidth - 2);
+    };
     const wide = el("div", { class: "wide", scroll: showEdge }, this.makeColumns());
     this.place.replaceChildren(wide);
     wide.scrollLeft = scrolled;

@@ -7,6 +7,7 @@ from urllib.parse import quote
 
 from gate.browser.lists import IN_SIGHT, MANY
 from gate.browser.page_case import PageCase
+from gate.browser.predicting import open_anew
 from gate.browser.user import User
 
 # The threads whose code, registers or entries extend beyond their boxes.
@@ -162,6 +163,8 @@ class Windows(PageCase):
             self.assertIn("Peterson in lw, a proved workbench", user.text("#paper h2"))
             self.assertIn(f"The run of Peterson: {user.schedule()}, shown after ", user.text("#paper"))
             self.assertIn(user.run("return location.href"), user.text("#paper"))
+            user.run("document.querySelector('#said').textContent = 'Copied.'")
+            self.assertEqual([], user.texts("#said"))
         finally:
             user.driver.execute_cdp_cmd("Emulation.setEmulatedMedia", {"media": ""})
 
@@ -404,6 +407,38 @@ class Projector(PageCase):
         user.press(user.keys.ESCAPE)
         user.find("#test > #graph-place svg.graph")
 
+    def test_width(self) -> None:
+        """The machine has at least 60 hundredths of the width beside the graph, and all of it while the key g has put the graph away; buffers are named."""
+        user = self.user
+        wide = "return document.querySelector('#watching .machine').clientWidth / innerWidth"
+        for name in ("SB-x86", "MP-x86"):
+            self.present(f"#example={name}", 1280, 720)
+            user.find("#answers > #graph-place svg.graph")
+            self.assertSoon(True, lambda: 0.58 < user.run(wide) < 0.9)
+            self.assertEqual({"store buffer"}, set(user.texts("#watching .buffer .caption")))
+            user.press("g")
+            self.assertSoon(True, lambda: user.run(wide) > 0.9)
+            self.assertEqual([], user.all("#graph-place svg.graph"))
+            user.click(".draw-execution")
+            user.find("#answers > #graph-place svg.graph")
+            user.press(user.keys.ESCAPE)
+
+    def test_answered(self) -> None:
+        """After a prediction no empty part has a frame, and all code and memory are in sight; by hand no word is said of a tab."""
+        user = self.user
+        user.resize(1280, 720)
+        open_anew(user, "#example=SB%2Bmfences-x86&predict=1")
+        user.find("#yes")
+        present(user)
+        user.run("document.querySelector('#yes').click()")
+        user.find("#outcome .said")
+        self.assertEqual("verdicts yes", user.focused().get_attribute("class"))
+        self.assertSoon(True, lambda: user.run(IN_SIGHT, "#watching .memory .word, #watching .code .end"))
+        user.press(user.keys.ESCAPE)
+        self.present("#example=SB-x86&view=hand", 1280, 720)
+        self.assertNotIn("Watch", user.text("#outcome .asked"))
+        user.press(user.keys.ESCAPE)
+
     def test_buffered(self) -> None:
         """The mark of the states that only store buffers reach has its sentence, and no other note is shown."""
         user = self.user
@@ -421,18 +456,17 @@ class Projector(PageCase):
             self.assertTrue(user.run(LETTERS_OF_GRAPH) >= least, (name, size))
             user.press(user.keys.ESCAPE)
 
-    def test_list_below_graph(self) -> None:
-        """If the type is larger then, the list is below the graph, which is larger, and all is in sight; four threads leave it above."""
+    def test_list_above_graph(self) -> None:
+        """The list is above the graph, since the machine has most of the width, and all is in sight, also of four threads."""
         user = self.user
-        below = """
+        above = """
         const [list, graph] = ["#outcome table.strip", "svg.graph"].map((css) => document.querySelector(css).getBoundingClientRect());
-        return list.top >= graph.bottom;
+        return list.bottom <= graph.top;
         """
-        for name, size, is_below in (("SB-x86", (1280, 720), True), ("SB-x86", (1920, 1080), True), ("IRIW-x86", (1920, 1080), False)):
+        for name, size in (("SB-x86", (1920, 1080)), ("IRIW-x86", (1920, 1080))):
             self.present(f"#example={name}", *size)
             user.find("#answers > #graph-place svg.graph")
-            self.assertSoon(is_below, lambda: user.run(below))
-            self.assertEqual(is_below, user.run(LETTERS_OF_GRAPH) >= 1.2, (name, size))
+            self.assertSoon(True, lambda: user.run(above))
             self.assertTrue(user.run(IN_SIGHT, "#outcome .states-place, #outcome .verdict, svg.graph, #watching .machine"), (name, size))
             user.press(user.keys.ESCAPE)
 

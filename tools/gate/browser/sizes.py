@@ -116,12 +116,32 @@ class InSight(PageCase):
         finally:
             user.click("#large")
 
+    def test_large_first(self) -> None:
+        """With large type no word lies over another on the first test, its whole schedule is in sight, and the graph is shown if asked for, at 1280 by 720."""
+        user = self.user
+        clear = """
+        const [mark, more] = [".note .plain", ".noted > button"].map((css) => document.querySelector(`#outcome ${css}`)?.getBoundingClientRect());
+        const events = document.querySelector("#watching .events");
+        return mark.width > 0 && (more.width === 0 || mark.right <= more.left || mark.bottom <= more.top) && events.scrollWidth <= events.clientWidth;
+        """
+        user.click("#large")
+        try:
+            self.open_at("SB-x86", 1280, 720)
+            self.assertSoon(True, lambda: user.run(clear))
+            self.assertEqual([], user.all("#graph-place svg.graph"))
+            user.click(".draw-execution")
+            user.find("#graph-place svg.graph")
+        finally:
+            user.click("#large")
+
     def test_claim(self) -> None:
-        """With large type it is still said that the list is complete, and the state that no run ends in is in sight, at 1280 by 720."""
+        """With large type the condition is whole, it is said that the list is complete, and the state that no run ends in is in sight, at 1280 by 720."""
         user = self.user
         inside = """
-        const [claim, box] = ["#outcome .asked .by", "#outcome .asked"].map((css) => document.querySelector(css).getBoundingClientRect());
-        return claim.right <= box.right + 1 && claim.bottom <= box.bottom + 1;
+        const box = document.querySelector("#outcome .asked").getBoundingClientRect();
+        const isWhole = ({ right, bottom }) => right <= box.right + 1 && bottom <= box.bottom + 1;
+        const [code, claim] = ["#outcome .asked > code", "#outcome .asked .by"].map((css) => document.querySelector(css));
+        return (code.clientWidth === 0 || code.scrollWidth <= code.clientWidth + 1) && [code, claim].every((it) => it.checkVisibility() && isWhole(it.getBoundingClientRect()));
         """
         self.open_at("IRIW-x86", 1280, 720)
         user.click("#large")
@@ -415,8 +435,8 @@ class Phone(PageCase):
         box = "const { top, bottom } = document.querySelector(arguments[0]).getBoundingClientRect(); return [top, bottom]"
         (_, verdict), (begin, end), (below, _) = (user.run(box, css) for css in ("#outcome .verdicts", "#about .about", "#outcome .states-place"))
         self.assertTrue(verdict <= begin < end <= below and end <= 844, (verdict, begin, end, below))
-        user.click(".brief button")
-        self.assertEqual("less", user.text(".brief button"))
+        user.click(".brief > button")
+        self.assertEqual("less", user.text(".brief > button"))
         self.assertTrue(user.run("const it = document.querySelector('#about .about'); return it.scrollHeight <= it.clientHeight + 1"))
         user.resize(1280, 720)
         self.assertSoon(1, lambda: len(user.all("#test > #about .about")))
@@ -431,6 +451,22 @@ class Phone(PageCase):
         self.assertSoon(True, lambda: all(it.startswith("lines ") for it in user.texts("#watching .lines-in-sight")))
         lines = "const it = document.querySelector('#watching .code'); return it.clientHeight / it.firstElementChild.offsetHeight"
         self.assertTrue(user.run(lines) >= 3.9, user.run(lines))
+
+    def test_machine(self) -> None:
+        """Of a machine of four threads all but memory is in sight on the first screen, with whole registers; the edges of the list show that it is scrolled."""
+        user = self.user
+        user.open_listed("#example=IRIW-x86")
+        user.wait(lambda: not user.all(".asking"), "the graph")
+        self.assertSoon([], lambda: [it for it in user.run(UNSEEN) if not it.startswith("word")])
+        over = """
+        return [...document.querySelectorAll(".thread")].flatMap((it) => [...it.querySelectorAll(".register")]
+          .filter((register) => register.getBoundingClientRect().bottom > it.getBoundingClientRect().bottom - 2).map((register) => register.textContent));
+        """
+        self.assertEqual([], user.run(over))
+        shadows = "return ['th[scope=row]', 'th.never'].map((css) => getComputedStyle(document.querySelector(`#outcome ${css}`)).boxShadow !== 'none')"
+        for part, expected in ((0, [False, True]), (0.5, [True, True]), (1, [True, False])):
+            user.run("const it = document.querySelector('#outcome .wide'); it.scrollLeft = arguments[0] * (it.scrollWidth - it.clientWidth)", part)
+            self.assertSoon(expected, lambda: user.run(shadows))
 
     def test_list(self) -> None:
         """Most of a list of 15 states is in sight, and so is the chosen one; the list is scrolled sideways, below the titles of its rows."""
