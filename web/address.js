@@ -133,6 +133,6 @@ export function makeLink() {
  * @returns {string}
  */
 export function makeQuestionLink() {
-  const { example, text } = read();
-  return `${location.href.split("#")[0]}#${new URLSearchParams({ ...(example ? { example } : { text }), predict: "1" })}`;
+  const kept = ["example", "text", "from", "compiled"].flatMap((name) => (fields.has(name) ? [[name, fields.get(name)]] : []));
+  return `${location.href.split("#")[0]}#${new URLSearchParams([...kept, ["predict", "1"]])}`;
 }

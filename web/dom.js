@@ -53,8 +53,8 @@ function makeCode(text) {
  * @returns {Element}
  */
 export function makePlainMark(what = "this") {
-  const words = what === "this" ? "not proved" : `${what}: not proved`;
-  return el("span", { class: "plain", title: `${what} is found by the page's own code, which is not proved` }, words);
+  const of = what === "this" ? "" : el("span", { class: "long-by" }, `${what}: `);
+  return el("span", { class: "plain", title: `${what} is found by the page's own code, which is not proved` }, of, "not proved");
 }
 
 /**

@@ -8,6 +8,9 @@ import { beginsWithX86, parseName } from "./tokens.js";
 // The suffixes after the `+` in the name of a test to which fences or locked exchanges were added: the clearest first.
 const FENCED = [/^mfences$/, /mfence/, /^(?:xchgs|xadds)$/, /^(?:xchg|swap)$/];
 
+// The example that the walk for beginners explains.
+const WALKED = "SB-x86";
+
 /** Returns the two parts of an example's name: what comes before `-x86`, and that. */
 function splitName(name) {
   const [, stem, form] = /^(.*?)(-x86)?$/.exec(name);
@@ -56,9 +59,12 @@ function explainFences({ name, text, known }, tests) {
 
 /** The examples, and what is said of the one in the editor. */
 export class Examples {
-  /** Takes the examples by family. It calls `choose` with the name of one that the reader follows from another's comment. */
-  constructor(families, choose) {
-    Object.assign(this, { families, choose });
+  /**
+   * Takes the examples by family. It calls `choose` with the name of one that the reader follows from another's comment, and `openWalk` for a beginner, to
+   * whom the first one is explained.
+   */
+  constructor(families, choose, openWalk) {
+    Object.assign(this, { families, choose, openWalk });
     caches.onChange(() => this.tests.has(this.name) && this.show(this.name, ""));
     this.tests = new Map(families.flatMap((family) => family.tests).map((it) => [it.name, { ...it, text: alignCells(it.text) }]));
   }
@@ -78,11 +84,16 @@ export class Examples {
     this.name = name;
     findById("example-name").textContent = test ? name : parseName(text);
     findById("example-shows").textContent = test ? "" : "my own";
-    const about = test && el("p", { class: "about" }, this.linkNames(`${removeCacheSentences(test.about)}${explainFences(test, this.tests)}`));
+    const about = test && el("p", { class: "about" }, name === WALKED && !isPredicting && this.makeWalkOffer(), this.linkNames(`${removeCacheSentences(test.about)}${explainFences(test, this.tests)}`));
     const known = test && el("p", {}, this.linkNames(test.known));
     const makeFold = (title, ...inner) => el("details", {}, el("summary", {}, title), inner);
     findById("about").replaceChildren(test && !isPredicting ? about : "");
     findById("known").replaceChildren(test ? (isPredicting ? makeFold("About it", about, known) : makeFold("What is known about it", known)) : "");
+  }
+
+  /** Returns the offer of the walk, as children for `el`. */
+  makeWalkOffer() {
+    return [el("span", { id: "offer" }, "New to this? ", makeButton("Take the two-minute walk", this.openWalk, { class: "link", id: "open-walk" }), ".", el("br", {}))];
   }
 
   /** Returns a sentence in which the name of another example leads to it. */
@@ -116,6 +127,12 @@ export class Examples {
     if (found) return found;
     const others = [...this.tests.keys()].filter((it) => it !== name);
     return others.reduce((best, it) => (measureCommonPrefix(name, it) > measureCommonPrefix(name, best) ? it : best));
+  }
+
+  /** Shows cache lines if an example is about caches, and otherwise if the reader has chosen that. */
+  showCaches(name) {
+    const isOn = caches.isChosen || this.families.some((it) => /^Caches/.test(it.name) && it.tests.some((test) => test.name === name));
+    if (isOn !== caches.isOn) caches.show(isOn);
   }
 
   /** Returns the text of an example, aligned; undefined if there is none of the name. */

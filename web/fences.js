@@ -2,14 +2,16 @@
 // without it. That does not show that a test with all its fences is right, so the table says in how many states the condition holds.
 
 import { ask } from "./ask.js";
+import { makeEndTest } from "./condition_words.js";
 import { el, makeButton, makePlainMark, renderSentence } from "./dom.js";
 import { insertFencesInText } from "./fence_edit.js";
 import { Film, makeWatchButton } from "./film.js";
 import * as guess from "./guess.js";
 import { describeMapping, listVariables } from "./register_names.js";
-import { isTooLong, makeSearchOffer } from "./search.js";
+import { askOrSearch, isTooLong, makeSearchOffer } from "./search.js";
 import { showError, clearFault } from "./errors.js";
 import { blankComments } from "./tokens.js";
+import { isUnasked } from "./verdicts.js";
 
 const MAX_SHOWN = 4;
 // The search for further fences that nobody has asked for: how many lists it may make, and after how many milliseconds it begins no further one.
@@ -18,6 +20,8 @@ const REACHABLE = "What is asked about is reachable with all locks. Once fences 
 const IN_PROGRAM =
   "In the program this fence is `std::atomic_thread_fence(std::memory_order_seq_cst)` at that place; or the last store before it becomes seq_cst, which " +
   "is an `XCHG` on x86.";
+const UNASKED = "The test asks nothing, so a fence may matter for what no list names: ask what must not happen.";
+const ENDED = "States in which a wait has not ended are left out here.";
 const TOGETHER = "Two that change nothing alone may matter together.";
 const BY_CLICK = "In Watch and By hand “+ fence” puts a fence between two instructions, where the pointer is, and “✕ fence” takes it out.";
 
@@ -65,14 +69,16 @@ export class Fences {
   /** Shows the table, if it is there within `timeout` milliseconds (null: no limit). With `search` its lists are made by a search. */
   async show(timeout, search = false) {
     const fields = { text: this.editor.text, everything: this.everything.checked, search };
-    const answer = await ask(this.editor, "fences", fields, { place: this.place, timeout });
+    const answer = await askOrSearch(this.editor, "fences", fields, { place: this.place, timeout });
     if (!answer) return;
     this.place.replaceChildren();
     if (!answer.table) return this.fail(answer);
-    this.isSearched = search;
+    this.isSearched = answer.isSearched;
     this.choice.hidden = !answer.table.rows.length && !hasExchange(this.editor.text);
     this.hint.hidden = answer.language === "SRC";
-    this.place.append(...this.makeParts(answer));
+    const isPartial = isUnasked(answer) && !this.everything.checked;
+    const ended = makeEndTest(this.editor.text) ? el("p", { class: "small" }, ENDED) : "";
+    this.place.append(...this.makeParts(answer), isPartial ? el("p", { class: "notice" }, UNASKED) : "", ended);
     if (answer.table.answered_by.includes("plain")) return;
     this.offerExchanges(answer);
     this.offerMore(answer);
@@ -155,7 +161,7 @@ export class Fences {
     return [
       el("p", {}, "Which exchanges need their lock, ", by, "? Each is tried alone without it."),
       el("div", { class: "wide" }, el("table", {}, el("thead", {}, head), el("tbody", {}, rows))),
-      isForbidden({ condition, table }) ? "" : el("p", { class: "notice" }, REACHABLE),
+      isForbidden({ condition, table }) || isUnasked({ condition }) ? "" : el("p", { class: "notice" }, REACHABLE),
       el("p", { class: "small" }, renderSentence("The page's own code writes the texts without a lock, as `tools/fences.py --exchanges` does "), makePlainMark(),
         ". The lists come from lw."),
     ];
@@ -166,7 +172,7 @@ export class Fences {
    * many lists.
    */
   async offerMore(shown) {
-    if (shown.language === "SRC" || isForbidden(shown)) return;
+    if (shown.language === "SRC" || isForbidden(shown) || isUnasked(shown)) return;
     const isForall = shown.condition.startsWith("forall");
     const words = isForall ? "Which fences would make it hold always?" : "Which fences would forbid it?";
     const offer = makeButton(words, () => this.showMore(isForall), { class: "main find-fences" });

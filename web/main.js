@@ -1,6 +1,5 @@
 // Puts the page together: the test, the verdict with its list, the panels below them, and the address, which keeps the reader's place.
 
-import { fillAbout } from "./about.js";
 import * as address from "./address.js";
 import { endQuestions } from "./ask.js";
 import { Beside } from "./beside.js";
@@ -14,6 +13,7 @@ import { decodeFile } from "./files.js";
 import { Gallery } from "./gallery.js";
 import * as guess from "./guess.js";
 import { lightNames } from "./lighting.js";
+import { followCode, NO_CODE, showCode } from "./made_from.js";
 import { isStill } from "./motion.js";
 import { copy, makeFileName, save } from "./output.js";
 import { Own } from "./own.js";
@@ -27,7 +27,6 @@ import { Tabs, VIEWS } from "./tabs.js";
 import { loadSentences, clearFault } from "./errors.js";
 import { findNearest } from "./nearest.js";
 import { showNextStep } from "./next.js";
-import { makeSlipNotes } from "./slips.js";
 import { listenToPrint } from "./paper.js";
 import { TEMPLATE } from "./template.js";
 import { parseName } from "./tokens.js";
@@ -46,7 +45,7 @@ const CHANGED = "Changed: Ctrl+Enter lists its states.";
 // How many letters of an unknown field of a link are named at most.
 const MAX_LETTERS = 40;
 // The other fields of the address; and those on a test, and on the reader's place in it.
-const CHOICES = { predict: null, beside: null, beside_text: null };
+const CHOICES = { predict: null, beside: null, beside_text: null, left: null, right: null };
 const NOWHERE = { text: null, example: null, state: null, own: null, step: null, run: null, protocol: null, schedule: null, view: null };
 
 const editor = new Editor(findById("editor"), followChange);
@@ -90,10 +89,17 @@ function updateOffers() {
   if (report && tabs.view === "why") why.askOnce();
   // A run by hand keeps the verdict back right after this.
   if (report) queueMicrotask(showAnswered);
-  findById("slips").replaceChildren(...(report && examples.findName(editor.text) === undefined ? makeSlipNotes(editor.text, mend) : []));
+  findById("slips").replaceChildren();
+  if (report && examples.findName(editor.text) === undefined) showSlips(report);
   findById("printed-place").hidden = report === null || states.isVeiled;
   findById("printed-place").open = false;
   findById("printed").replaceChildren();
+}
+
+/** Shows the slips of a test that is the reader's own, once the hints are there, if its report is shown then. */
+async function showSlips(report) {
+  const hints = await loadHints().catch(() => null);
+  if (hints && states.report === report) findById("slips").replaceChildren(...hints.makeSlipNotes(editor.text, mend));
 }
 
 /** Puts a text that the page proposes in place of the reader's. */
@@ -128,6 +134,7 @@ function followChange(before, isByPage) {
   guess.noteChange(before, editor.text);
   forgetAnswers();
   address.put({ ...NOWHERE, text: editor.text });
+  followCode(before, editor.text);
   show("", true);
   markStale(true);
   findById("said").textContent = CHANGED;
@@ -229,7 +236,9 @@ async function take(text, where, isOwn = false) {
   own.keep();
   editor.text = text;
   clear();
-  address.put({ ...NOWHERE, ...where }, true);
+  address.put({ ...NOWHERE, ...NO_CODE, ...where }, true);
+  showCode();
+  examples.showCaches(where.example);
   show(where.example ?? "", isOwn);
   if (tabs.view !== "hand" && tabs.view !== "why") tabs.show(VIEWS[0]);
   await list();
@@ -287,15 +296,23 @@ function follow() {
   own.keep();
   editor.text = examples.findText(example) ?? link.text ?? examples.findText(FIRST);
   clear();
+  showCode();
   findById("predict").checked = link.predict === "1";
   showUnknownExample([link.text === undefined && link.example, link.beside].filter((it) => it && examples.findText(it) === undefined));
   if (!link.example && link.text === undefined) showUnknownFields(link);
   const isOwn = !example && link.text !== undefined;
+  examples.showCaches(example);
   show(example || (isOwn ? "" : FIRST), isOwn);
   states.isByHand = link.view === "hand";
   tabs.show(VIEWS.includes(link.view) ? link.view : VIEWS[0]);
   if (!beside.isOpen) panels[tabs.view]?.askOnce(MAX_MILLISECONDS);
-  list({ link: link.state || link.view === "hand" ? link : null, timeout: MAX_MILLISECONDS });
+  return list({ link: link.state || link.view === "hand" ? link : null, timeout: MAX_MILLISECONDS });
+}
+
+/** Opens the fields of an address. Returns when its run is shown. */
+function open(link) {
+  address.put({ ...NOWHERE, ...CHOICES, ...NO_CODE, ...link }, true);
+  return follow();
 }
 
 /** Says that a link names examples that do not exist, and offers to open one of nearly the name of the first. An empty list clears the notice. */
@@ -315,7 +332,7 @@ function showUnlisted(line) {
  */
 function showUnknownFields(link) {
   if (/[#&]text=./.test(location.hash)) return showUnknown("The test in this link can't be decoded: a part of it may be missing.", "", INSTEAD);
-  const [field, value] = Object.entries(link).find(([name, it]) => name === "example" || !(name in NOWHERE || name in CHOICES)) ?? [];
+  const [field, value] = Object.entries(link).find(([name, it]) => name === "example" || !(name in NOWHERE || name in CHOICES || name in NO_CODE)) ?? [];
   if (field === undefined) return null;
   const part = `#${field}${value && `=${value.length > MAX_LETTERS ? `${value.slice(0, MAX_LETTERS)}…` : value}`}`;
   const how = `A link has example= with a name, or text= with a test; ${INSTEAD}`;
@@ -333,7 +350,7 @@ function showUnknown(words, name, otherwise) {
 
 /** Follows a link on the open page. If it names the same first test, everything shown of that test stays. */
 function followFrom(before) {
-  const formatFirst = ({ beside: _, beside_text: __, ...first }) => JSON.stringify(first);
+  const formatFirst = ({ beside: _, beside_text: __, left: ___, right: ____, ...first }) => JSON.stringify(first);
   if (formatFirst(before) === formatFirst(address.read())) beside.follow();
   else follow();
 }
@@ -429,6 +446,22 @@ function listenToSkip() {
   });
 }
 
+/** Opens the dialog that says what the page is, whose words come with the hints. */
+async function openAbout() {
+  const place = findById("about-dialog");
+  if (place.children.length === 1) {
+    (await loadHints()).fillAbout(place, openWalk);
+    await showWhere();
+  }
+  if (!place.open) place.showModal();
+}
+
+/** Begins the walk for beginners, which comes with the hints. */
+async function openWalk() {
+  findById("about-dialog").close();
+  (await loadHints()).takeWalk({ open, choose, run: states.run });
+}
+
 /** Says where the proved workbench runs: in the browser or on this machine. */
 async function showWhere() {
   const isHere = await hasModule();
@@ -444,15 +477,15 @@ async function begin() {
   listenToChoices();
   listenToSkip();
   listenToPrint(() => (beside?.isOpen ? beside.sides.map((it) => it.states) : [states]));
-  fillAbout(findById("about-dialog"));
+  findById("open-about").addEventListener("click", openAbout);
   const [families] = await Promise.all([fetchTable("examples"), loadSentences()]);
-  examples = new Examples(families, choose);
+  examples = new Examples(families, choose, openWalk);
   new Gallery(examples, choose);
   beside = new Beside(editor, examples, own, { choose, copyLink, onDraw: fitLater });
   follow();
   document.body.dataset.ready = "true";
   address.watchLinks(followFrom);
-  await Promise.all([showWhere(), keepSite()]);
+  await keepSite();
   // A fault asks for them again if they do not come.
   loadHints().catch(() => null);
 }

@@ -3,13 +3,20 @@
 /** A switch that is kept under a name. */
 class Preference {
   constructor(name) {
-    Object.assign(this, { name, listeners: [], isOn: readStored(name) === "1" });
+    const isOn = readStored(name) === "1";
+    Object.assign(this, { name, listeners: [], isOn, isChosen: isOn });
   }
 
-  /** Switches it, and calls back all that depends on it. */
+  /** Switches it as the reader has chosen. */
   set(isOn) {
-    this.isOn = isOn;
+    this.isChosen = isOn;
     store(this.name, isOn ? "1" : "0");
+    this.show(isOn);
+  }
+
+  /** Switches it, and calls back all that depends on it. The browser does not keep this. */
+  show(isOn) {
+    this.isOn = isOn;
     for (const listener of this.listeners) listener();
   }
 
@@ -20,7 +27,11 @@ class Preference {
 
   /** Lets a checkbox show and switch it. */
   bindTo(box) {
-    box.checked = this.isOn;
+    const follow = () => {
+      box.checked = this.isOn;
+    };
+    this.onChange(follow);
+    follow();
     box.addEventListener("change", () => this.set(box.checked));
   }
 }

@@ -344,7 +344,7 @@ export class Run {
     return !document.hidden && this.place.getClientRects().length > 0;
   }
 
-  /** Steps by keys, if they mean nothing else: arrows, and what presenters send. Digits carry out an instruction, with Shift they drain. */
+  /** Steps by keys, if they mean nothing else: arrows, and what presenters send. Digits carry out an instruction, with Shift they drain; g is the graph. */
   handleKey(event) {
     if (!this.isOpen || !this.isSeen() || !this.editor.hasKeys || event.altKey || event.ctrlKey || event.metaKey) return;
     const { key, target } = event;
@@ -355,6 +355,7 @@ export class Run {
     if (digit !== undefined && Number(digit) < this.cells.length) this.take(`${event.shiftKey ? "D" : "P"}${digit}`);
     else if (target.closest(HAS_ARROWS) || (key === " " && target.closest(PRESSED))) return;
     else if (key in steps) this.view.player.jump(steps[key]);
+    else if (key === "g") this.view.chooseGraph();
     else return;
     event.preventDefault();
   }

@@ -6,7 +6,7 @@ import { showGraph } from "./execution_graph.js";
 import { computeLeastHeight, listUsedRegisters } from "./machine_size.js";
 import { isStill } from "./motion.js";
 import { Player } from "./player.js";
-import { setRoom } from "./placing.js";
+import { markCut, setRoom } from "./placing.js";
 import { caches, hasStepped, largeType } from "./preferences.js";
 import { listVariables } from "./register_names.js";
 import { parseRegister } from "./replays.js";
@@ -27,12 +27,13 @@ const LISTED = [
 const SEEN = 0.9;
 const LOOKS = 20;
 // How a machine may be drawn, by its classes, the best first: as large as the window allows; if its code has no room then, with the store buffer beside
-// the code, in smaller type, with low lines and entries, with lines close to each other, and in fine type, unless the reader wants large type; and if a part
-// of it is out of sight even so, below a condition that is cut to one line.
-const WAYS = [
+// the code; below notes that are folded and a list of fewer rows; in smaller type, with low lines and entries, with lines close to each other, and in fine
+// type, unless the reader wants large type; and if a part of it is out of sight even so, below a condition that is cut to one line.
+const TERSE = [
   "", "beside", "small", "beside small", "small low", "beside small low", "beside small low close", "fine small", "fine small low", "fine small low close",
   "small low cramped", "beside small low cramped", "beside small low close cramped", "fine small low close cramped",
 ];
+const WAYS = ["", "beside", ...TERSE.map((it) => `terse ${it}`)];
 const KINDS = [...new Set(WAYS.join(" ").split(" "))].filter(Boolean);
 // More lines than any code has, for a machine that is out of sight in part.
 const OUT_OF_SIGHT = 10000;
@@ -56,7 +57,7 @@ export class RunView {
     });
     this.graph = graphPlace ?? el("div", { class: "graph-place", role: "status" });
     this.graphSwitch = makeButton("Graph", () => this.chooseGraph(), {
-      class: "draw-execution", "aria-pressed": "false", id: id("graph-switch"), title: "The run as a graph of events",
+      class: "draw-execution", "aria-pressed": "false", id: id("graph-switch"), title: "The run as a graph of events (g)",
     });
     this.isGraphSeen = false;
     const threshold = Array.from({ length: LOOKS + 1 }, (_, look) => look / LOOKS);
@@ -168,6 +169,7 @@ export class RunView {
       this.words.parentElement.style.minHeight = "";
       this.chooseWay();
     }
+    markCut(findById("outcome").querySelector(".note"));
     this.stage.fit();
   }
 
@@ -261,6 +263,7 @@ export class RunView {
   /** Shows the graph; one that is drawn out of sight comes into sight, and one in sight goes. */
   async chooseGraph() {
     if (this.hasGraph && this.isGraphSeen) return this.setGraph(false);
+    this.graph.classList.add("wanted");
     if (!this.hasGraph) await this.setGraph(true);
     return this.graph.scrollIntoView({ block: "nearest", behavior: isStill() ? "auto" : "smooth" });
   }

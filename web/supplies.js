@@ -74,7 +74,7 @@ let hints = null;
 
 /**
  * Returns the functions of hints.js, which are loaded when they are first asked for. Rejects if they do not come; then the next call asks again.
- * @returns {Promise<{explainFault: Function, explainMissingRowEnd: Function, findFurtherFaults: Function, isOtherText: Function}>}
+ * @returns {Promise<{explainFault: Function, explainMissingRowEnd: Function, findFurtherFaults: Function, makeSlipNotes: Function, fillAbout: Function, takeWalk: Function}>}
  */
 export function loadHints() {
   hints ??= site ? runHints() : import("./hints.js").then((it) => it.hints);

@@ -280,6 +280,7 @@ class Compiling(PageCase):
         self.assertEqual([], user.all("#compile .states-place *"))
         user.click("#compile .cancel")
         self.assertSoon(["Cancelled."], lambda: user.texts("#compile .notice"))
+        user.hold_searches()
         user.paste(FIVE)
         user.click("#tab-hand")
         user.click("#tab-compile")
@@ -358,8 +359,11 @@ class Fences(PageCase):
             self.assertEqual(verdict, user.text("#fences .verdict"))
 
     def test_more(self) -> None:
-        """If an outcome is allowed, the page shows the fewest fences that forbid it, of a small test at once, and tries them on a click."""
+        """If an outcome is allowed, the page shows the fewest fences that forbid it, of a small test at once, and tries them on a click; then the code is
+        whole, at 1280 by 720.
+        """
         user = self.user
+        user.resize(1280, 720)
         user.open_listed("#example=SB-x86&view=fences")
         before = user.value()
         self.assertSays("The fewest fences that forbid it:", "#fences .next-step")
@@ -369,6 +373,7 @@ class Fences(PageCase):
         user.click("#fences .take")
         self.assertSays("Forbidden.", "#outcome .verdict")
         self.assertEqual(before.replace(" MOV EAX", " MFENCE      | MFENCE      ;\n MOV EAX", 1), user.value())
+        self.assertSoon((2, []), lambda: (len(user.all("#watching .code")), user.all("#watching .code:not(.whole)")))
         user.open_listed("#example=MP-x86&view=fences")
         self.assertSays("No fence is needed", "#fences .verdict")
         self.assertEqual([], user.all("#fences .find-fences"))
@@ -432,11 +437,14 @@ class Fences(PageCase):
         self.assertEqual([], user.all("#fences .together *"))
 
     def test_search(self) -> None:
-        """If lw refuses a list, a search is offered, and then all lists come from lw."""
+        """If lw refuses a list, all lists are made by a search; it is offered if it has taken too long."""
         user = self.user
         user.open_listed()
+        user.hold_searches()
         user.paste(FIVE.replace("x := 2", "r0 := x", 1))
         user.click("#tab-fences")
+        user.find("#search-fences")
+        user.release_searches()
         user.click("#search-fences")
         self.assertSays("All lists come from lw, by a search.", "#fences .small")
         self.assertEqual([], user.all("#search-fences"))

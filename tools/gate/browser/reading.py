@@ -66,7 +66,7 @@ class Reading(PageCase):
         user.find("body[data-ready]")
         self.assertSays("MP-x86", "#example-name")
         user.driver.get("about:blank")
-        user.driver.get(f"{folder}/page.html#what-it-shows")
+        user.driver.get(f"{folder}/page.html#words-for-a-condition")
         user.find("main h1")
         self.assertEqual("page.html", user.run("return location.pathname.split('/').at(-1)"))
 
@@ -118,6 +118,7 @@ class Reading(PageCase):
         user.open_listed()
         user.click("#open-about")
         self.assertIn("Sheet for students: the lab's items, to print", user.texts("#about-dialog .reading li"))
+        self.assertEqual(["First steps", "For a class", "Your own programs", "Reference", "What is proved"], user.texts("#about-dialog .readers dt"))
 
     def test_dark(self) -> None:
         """A document is dark if the page is, and the page if the document is."""

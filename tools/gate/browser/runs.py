@@ -113,13 +113,6 @@ class Steps(PageCase):
         self.assertSoon([6, 0, 1, 2], lambda: user.recorded_steps()[:4])
         user.click("#play")
 
-    def test_quick(self) -> None:
-        """A step takes the page under 50 ms: of several tries the least, so that other work on the machine does not matter."""
-        self.user.open_listed(LISTED)
-        rounds = [self.user.run(STEPS) for _ in range(TRIES)]
-        least = [min(each) for each in zip(*rounds)]
-        self.assertTrue(max(least) < MAX_MILLISECONDS, least)
-
     def test_motion(self) -> None:
         """A step moves a word; if the system asks for less motion nothing moves, and a chosen run does not play."""
         user = self.user
@@ -135,6 +128,17 @@ class Steps(PageCase):
         user.click("table.strip .watch")
         self.assertEqual("▶ Play", user.text("#play"))
         user.driver.execute_cdp_cmd("Emulation.setEmulatedMedia", {"features": []})
+
+
+class Speed(PageCase):
+    """How quick a step is."""
+
+    def test_quick(self) -> None:
+        """A step takes the page under 50 ms: of several tries the least, so that other work on the machine does not matter."""
+        self.user.open_listed(LISTED)
+        rounds = [self.user.run(STEPS) for _ in range(TRIES)]
+        least = [min(each) for each in zip(*rounds)]
+        self.assertTrue(max(least) < MAX_MILLISECONDS, least)
 
 
 class Starts(PageCase):
@@ -358,6 +362,18 @@ class Caches(PageCase):
         user.choose("#protocol", "mesi")
         self.assertSoon("P1 P0 D0", user.done)
 
+    def test_family(self) -> None:
+        """A test about caches opens with its cache lines, and another one after it as the reader has chosen."""
+        user = self.user
+        self.show(False)
+        user.open_listed("#example=SB-x86")
+        for name, is_shown in (("Sharing-x86", True), ("SB-x86", False), ("PingPong-x86", True)):
+            user.run("location.hash = arguments[0]", f"#example={name}")
+            self.assertSoon(is_shown, lambda: bool(user.all("#watching .cacheline")))
+            self.assertEqual(is_shown, user.run("return document.getElementById('caches').checked"))
+        user.click("#caches")
+        self.assertSoon([], lambda: user.all("#watching .cacheline"))
+
     def test_eviction(self) -> None:
         """A line is given up by a click, if the cache holds it."""
         user = self.user
@@ -406,4 +422,4 @@ def cells(user: User, css: str) -> list[str]:
     return user.run(CELLS, css)
 
 
-SUBJECTS = (Steps, Starts, Sources, Caches, Pictures)
+SUBJECTS = (Steps, Speed, Starts, Sources, Caches, Pictures)

@@ -114,24 +114,6 @@ class Faults(PageCase):
             self.assertEqual(token, user.run("return document.querySelector('.marks mark').textContent").strip())
             self.assertIn("lw: ", user.text("#fault .fault-line"))
 
-    def test_meant(self) -> None:
-        """A word that is nearly one that lw has is named."""
-        user = self.user
-        user.open_listed()
-        rows = lambda row: f"X86 A\n{{}}\n P0 ;\n {row} ;\n LATER: MOV EAX,$1 ;\nexists (0:EAX=1)\n"
-        for text, sentence in (
-            (rows("MFENC"), "lw has no instruction of this name. Did you mean MFENCE?"),
-            (rows("FIRST: MVO EAX,$1"), "Did you mean MOV?"),
-            (rows("LOCK XDD [x],EAX"), "LOCK comes before XADD or XCHG. Did you mean XADD?"),
-            (rows("MOV EXA,$1"), "Did you mean EAX?"),
-            (rows("JMP LATR"), "The thread has no label LATR to jump to. Did you mean LATER?"),
-            (rows("MFENCE").replace("exists", "exist"), "lw has no question of the name exist. Did you mean exists?"),
-        ):
-            user.run_text(text)
-            self.assertSays(sentence, "#fault")
-        user.run_text(rows("PAUSES"))
-        self.assertSays("lw has no instruction of this name. An instruction is", "#fault")
-
     def test_instead(self) -> None:
         """What does the same as an instruction that lw lacks is put into the text by a button, in rows of its own; what lw can't do is named."""
         user = self.user
@@ -152,6 +134,111 @@ class Faults(PageCase):
         user.run_text(text.replace("INC [x]", "LOCK CMPXCHG [x],EBX"))
         self.assertSays("lw has no compare-and-swap", "#fault")
         self.assertEqual([], user.all("#fault .apply"))
+
+    def test_edit(self) -> None:
+        """While a test is edited the answer to the text before stays; it is gone after another text."""
+        user = self.user
+        user.open_listed(f"#text={quote(MENDED)}")
+        user.run_text(MENDED.replace("MOV EBX", "MVO EBX"))
+        self.assertSays("No answer: line 6 of the text has a fault.", "#outcome .no-answer")
+        self.assertEqual(1, len(user.all("#watching .machine")))
+        self.assertEqual([], user.all("#outcome .reason"))
+        user.run_text(FIVE.replace("x := 1", "x = 1"))
+        self.assertSays("No answer: line 4 of the text has a fault.", "#outcome .no-answer")
+        self.assertEqual([[], []], [user.all(it) for it in ("#watching .machine", ".states-place")])
+        user.run_text(MENDED)
+        self.assertSays("Forbidden.", "#outcome .verdict")
+        self.assertEqual(1, len(user.all("#watching .machine")))
+
+    def test_fault_on_a_phone(self) -> None:
+        """On a phone the sentence on a fault and its button are below the headline, too."""
+        user = self.user
+        user.resize(390, 844)
+        user.open_listed("#example=SB-x86")
+        user.run_text(MENDED.replace("MOV EBX", "MVO EBX"))
+        self.assertSays("Did you mean MOV?", "#outcome .reason")
+        user.click("#outcome .reason .apply")
+        self.assertSoon(MENDED, user.value)
+
+    def test_no_test(self) -> None:
+        """An empty text has a button that puts a small test into it; a test in C is named; and a changed text says which keys list its states."""
+        user = self.user
+        user.open_listed("#example=SB-x86")
+        user.run_text("")
+        self.assertSays("There is no text.", "#fault")
+        user.click("#fault .apply")
+        self.assertSays("There is a run in which P1 reads x=0.", "#outcome .verdict")
+        user.paste("C SB\n{}\n")
+        self.assertEqual("Changed: Ctrl+Enter lists its states.", user.run("return document.getElementById('said').textContent"))
+        self.assertSays("The page can't make a test of this program in C because of C SB {}: threads are functions P0, P1 and so on.", "#fault")
+        self.assertSoon("", lambda: user.run("return document.getElementById('said').textContent"))
+
+    def test_edit_is_answered(self) -> None:
+        """An edit pales what was answered, and is answered by itself."""
+        user = self.user
+        user.open_listed()
+        user.find("#text").send_keys("(* typed *)")
+        self.assertEqual([], user.all("#graph-place .asking"))
+        self.assertTrue("stale" in user.run("return document.getElementById('answers').className"))
+        self.assertSoon(False, lambda: "stale" in user.run("return document.getElementById('answers').className"))
+        self.assertSays("The condition holds in 1 of 4 final states.", "#outcome .asked")
+
+    def test_reload(self) -> None:
+        """A reload loses nothing, also at once after a letter."""
+        user = self.user
+        user.open_listed()
+        user.run_text(self.TEXT)
+        text = user.value()
+        user.driver.refresh()
+        user.find("body[data-ready]")
+        self.assertEqual(text, user.value())
+        user.find("#text").send_keys("(* typed *)")
+        user.driver.refresh()
+        user.find("body[data-ready]")
+        self.assertEqual(f"{text}(* typed *)", user.value())
+
+    def test_limit(self) -> None:
+        """A limit is reported, and the machine can be run by hand."""
+        user = self.user
+        user.open_listed()
+        user.hold_searches()
+        user.run_text(FIVE)
+        self.assertSays("lw: limit 2 TooManyOrders", "#outcome .notice")
+        user.find("#watching .machine")
+        user.carry_out("P0", "P1")
+        self.assertEqual("P0 P1", user.schedule())
+
+    def test_hostile_name(self) -> None:
+        """A test's name makes no elements."""
+        user = self.user
+        user.open_listed()
+        user.run_text("X86 <script>alert(1)</script><b>\n{}\n P0 ;\n MOV [x],$1 ;\nexists (x=1)\n")
+        user.click("table.strip button")
+        user.find("#watching .machine")
+        self.assertEqual(0, user.run("return document.querySelectorAll('main script, main b b, #example-name b').length"))
+        self.assertEqual("<script>alert(1)</script><b>", user.text("#example-name"))
+
+
+class Offers(PageCase):
+    """The hints on texts that are almost tests, or programs, and the buttons that make tests of them."""
+
+    def test_meant(self) -> None:
+        """A word that is nearly one that lw has is named."""
+        user = self.user
+        user.open_listed()
+        rows = lambda row: f"X86 A\n{{}}\n P0 ;\n {row} ;\n LATER: MOV EAX,$1 ;\nexists (0:EAX=1)\n"
+        for text, sentence in (
+            (rows("MFENC"), "lw has no instruction of this name. Did you mean MFENCE?"),
+            (rows("FIRST: MVO EAX,$1"), "Did you mean MOV?"),
+            (rows("LOCK XDD [x],EAX"), "LOCK comes before XADD or XCHG. Did you mean XADD?"),
+            (rows("MOV EXA,$1"), "Did you mean EAX?"),
+            (rows("JMP LATR"), "The thread has no label LATR to jump to. Did you mean LATER?"),
+            (rows("MFENCE").replace("exists", "exist"), "lw has no question of the name exist. Did you mean exists?"),
+        ):
+            user.run_text(text)
+            self.assertSays(sentence, "#fault")
+        user.run_text(rows("PAUSES"))
+        self.assertSays("lw has no instruction of this name. An instruction is", "#fault")
 
     def test_other_notations(self) -> None:
         """A message names notations of other tools or of the other language, and a button replaces them in the text."""
@@ -391,7 +478,7 @@ class Faults(PageCase):
         self.assertSoon(f"X86 Mine\n{{}}\n{rows}exists (0:EAX=0 /\\ 1:EAX=0)\n", user.value)
         self.assertSays("Allowed.", "#outcome .verdict")
         user.run_text("mov [x],1\nmov [y],1\n")
-        self.assertSays("The question true holds always: look at the list of states.", OFFER)
+        self.assertSays("The question true asks nothing: look at the list of states, and ask what must not happen.", OFFER)
         user.click(f"{OFFER} .apply")
         self.assertSoon("X86 Mine\n{}\n P0 ;\n mov [x],1 ;\n mov [y],1 ;\nlocations [x; y;]\nexists (true)\n", user.value)
         self.assertSays("No question. The list has all states in which a run ends.", "#outcome .verdict")
@@ -433,7 +520,7 @@ class Faults(PageCase):
         user.run_text(text.replace("MOV [x],$1", "atomic_store(&x,1)"))
         self.assertSays("atomic_store(&x,1) is a call in C, and no instruction. tools/from_c.py compiles programs in C", "#fault")
         user.run_text("X86 t\n{}\nP0 (atomic_int *x) {\n goto L;\n}\nexists (x=1)\n")
-        self.assertSays("The page would rewrite this program in C as an x86 test, but not goto L: goto and labels are not rewritten.", "#fault")
+        self.assertSays("The page can't make a test of this program in C because of goto L: goto and labels are not rewritten.", "#fault")
         self.assertSays("Its first word is C then.", "#fault")
         self.assertSays("save this as t.c, then python3 tools/from_c.py --show t.c prints a test for this page.", "#fault")
         user.run("document.execCommand = () => false; Object.defineProperty(navigator, 'clipboard', { value: undefined })")
@@ -473,7 +560,7 @@ class Faults(PageCase):
         self.assertSays("Rewritten. The question is a guess: change it to yours. Undo", "#said")
         user.run_text(program.replace("int r0 = x", "goto L;int r0 = x"))
         why = "goto and labels are not rewritten."
-        self.assertSays(f"Line 4, column 24: The page would rewrite this program in C as an x86 test, but not goto L: {why}", "#fault")
+        self.assertSays(f"Line 4, column 24: The page can't make a test of this program in C because of goto L: {why}", "#fault")
         self.assertEqual(["Copy the command"], user.texts("#fault .apply"))
 
     def test_offer(self) -> None:
@@ -494,31 +581,6 @@ class Faults(PageCase):
         user.run_text("No test.\n")
         self.assertSays("No answer: line 1 of the text has a fault.", "#outcome .no-answer")
         self.assertEqual([[], []], [user.all(it) for it in ("#watching .machine", ".states-place")])
-
-    def test_edit(self) -> None:
-        """While a test is edited the answer to the text before stays; it is gone after another text."""
-        user = self.user
-        user.open_listed(f"#text={quote(MENDED)}")
-        user.run_text(MENDED.replace("MOV EBX", "MVO EBX"))
-        self.assertSays("No answer: line 6 of the text has a fault.", "#outcome .no-answer")
-        self.assertEqual(1, len(user.all("#watching .machine")))
-        self.assertEqual([], user.all("#outcome .reason"))
-        user.run_text(FIVE.replace("x := 1", "x = 1"))
-        self.assertSays("No answer: line 4 of the text has a fault.", "#outcome .no-answer")
-        self.assertEqual([[], []], [user.all(it) for it in ("#watching .machine", ".states-place")])
-        user.run_text(MENDED)
-        self.assertSays("Forbidden.", "#outcome .verdict")
-        self.assertEqual(1, len(user.all("#watching .machine")))
-
-    def test_fault_on_a_phone(self) -> None:
-        """On a phone the sentence on a fault and its button are below the headline, too."""
-        user = self.user
-        user.resize(390, 844)
-        user.open_listed("#example=SB-x86")
-        user.run_text(MENDED.replace("MOV EBX", "MVO EBX"))
-        self.assertSays("Did you mean MOV?", "#outcome .reason")
-        user.click("#outcome .reason .apply")
-        self.assertSoon(MENDED, user.value)
 
     def test_variables(self) -> None:
         """The machine and the list of a test that was made of a program in C name the variable of each register, as a comment says."""
@@ -570,19 +632,6 @@ class Faults(PageCase):
         self.assertSays("An instruction has operands of 32 bits or of 64: all words and registers of lw have 32.", "#fault")
         self.assertEqual([], user.all("#fault .apply"))
 
-    def test_no_test(self) -> None:
-        """An empty text has a button that puts a small test into it; a test in C is named; and a changed text says which keys list its states."""
-        user = self.user
-        user.open_listed("#example=SB-x86")
-        user.run_text("")
-        self.assertSays("There is no text.", "#fault")
-        user.click("#fault .apply")
-        self.assertSays("There is a run in which P1 reads x=0.", "#outcome .verdict")
-        user.paste("C SB\n{}\n")
-        self.assertEqual("Changed: Ctrl+Enter lists its states.", user.run("return document.getElementById('said').textContent"))
-        self.assertSays("The page would rewrite this program in C as an x86 test, but not C SB {}: threads are functions P0, P1 and so on.", "#fault")
-        self.assertSoon("", lambda: user.run("return document.getElementById('said').textContent"))
-
     def test_other_tools(self) -> None:
         """A text of another tool is named, with what converts it, and on a site with a link to the document on that."""
         user = self.user
@@ -599,50 +648,6 @@ class Faults(PageCase):
             user.run_text(text)
             self.assertSays(words, "#fault")
             self.assertEqual([title] if is_site else [], user.texts("#fault a"))
-
-    def test_edit_is_answered(self) -> None:
-        """An edit pales what was answered, and is answered by itself."""
-        user = self.user
-        user.open_listed()
-        user.find("#text").send_keys("(* typed *)")
-        self.assertEqual([], user.all("#graph-place .asking"))
-        self.assertTrue("stale" in user.run("return document.getElementById('answers').className"))
-        self.assertSoon(False, lambda: "stale" in user.run("return document.getElementById('answers').className"))
-        self.assertSays("The condition holds in 1 of 4 final states.", "#outcome .asked")
-
-    def test_reload(self) -> None:
-        """A reload loses nothing, also at once after a letter."""
-        user = self.user
-        user.open_listed()
-        user.run_text(self.TEXT)
-        text = user.value()
-        user.driver.refresh()
-        user.find("body[data-ready]")
-        self.assertEqual(text, user.value())
-        user.find("#text").send_keys("(* typed *)")
-        user.driver.refresh()
-        user.find("body[data-ready]")
-        self.assertEqual(f"{text}(* typed *)", user.value())
-
-    def test_limit(self) -> None:
-        """A limit is reported, and the machine can be run by hand."""
-        user = self.user
-        user.open_listed()
-        user.run_text(FIVE)
-        self.assertSays("lw: limit 2 TooManyOrders", "#outcome .notice")
-        user.find("#watching .machine")
-        user.carry_out("P0", "P1")
-        self.assertEqual("P0 P1", user.schedule())
-
-    def test_hostile_name(self) -> None:
-        """A test's name makes no elements."""
-        user = self.user
-        user.open_listed()
-        user.run_text("X86 <script>alert(1)</script><b>\n{}\n P0 ;\n MOV [x],$1 ;\nexists (x=1)\n")
-        user.click("table.strip button")
-        user.find("#watching .machine")
-        self.assertEqual(0, user.run("return document.querySelectorAll('main script, main b b, #example-name b').length"))
-        self.assertEqual("<script>alert(1)</script><b>", user.text("#example-name"))
 
 
 class Slips(PageCase):
@@ -878,4 +883,4 @@ class Gallery(PageCase):
         self.assertEqual("#example=MP-x86", user.link().split("&")[0])
 
 
-SUBJECTS = (Faults, Slips, Files, OwnTest, Gallery)
+SUBJECTS = (Faults, Offers, Slips, Files, OwnTest, Gallery)

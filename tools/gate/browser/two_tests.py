@@ -140,6 +140,26 @@ class Compared(PageCase):
         words = ["There is a run in which P0 and P1 both end with ECX=1; the test forbids that.", "There is no run in which P0 and P1 both end with ECX=1."]
         self.assertSoon(words, lambda: user.texts(".side .in-words"))
 
+    def test_link(self) -> None:
+        """A link to both has the state and the step of each run."""
+        user = self.user
+        user.open(BOTH)
+        self.assertSoon(["Step 0 of 6", "Step 0 of 8"], lambda: user.run(STEPS))
+        self.assertNotIn("left=", user.link())
+        user.run("document.querySelectorAll('.side:last-child .watch')[2].click()")
+        ends = "return [...document.querySelectorAll('.side th.chosen')].map((it) => it.textContent)"
+        # The run to it is played to its end.
+        self.assertSoon(["3", "Step 8 of 8"], lambda: [user.run(ends)[1], user.run(STEPS)[1]])
+        user.run("document.querySelectorAll('.side .event')[2].click()")
+        self.assertSoon("Step 3 of 6", lambda: user.run(STEPS)[0])
+        user.run("document.querySelectorAll('.side:last-child .event')[1].click()")
+        self.assertSoon("Step 2 of 8", lambda: user.run(STEPS)[1])
+        user.open(user.link())
+        self.assertSoon(["Step 3 of 6", "Step 2 of 8"], lambda: user.run(STEPS))
+        self.assertEqual("3", user.run(ends)[1])
+        user.click("#close-beside")
+        self.assertNotIn("left=", user.link())
+
     def test_mark(self) -> None:
         """The mark on a state that only store buffers reach is explained above both lists; one badge says that this and the numbers are not proved."""
         user = self.user
@@ -180,7 +200,7 @@ class Films(PageCase):
     """Each of two tests has its run."""
 
     def test_keys(self) -> None:
-        """Keys are for the side that was used last; a run changes no address."""
+        """Keys are for the side that was used last; the address has the state that was chosen there."""
         user = self.user
         user.open(BOTH)
         user.wait(lambda: len(user.all(".side .machine")) == 2, "both runs")
@@ -197,7 +217,7 @@ class Films(PageCase):
         user.click("#second-play")
         self.assertSoon("Step 4 of 8", lambda: user.run(STEPS)[1])
         user.click("#second-play")
-        self.assertEqual(BOTH, user.link())
+        self.assertTrue(user.link().startswith(f"{BOTH}&right=state"), user.link())
         self.assertEqual(([], [[], []]), (user.run(UNNAMED), user.run(IDS)))
 
     def test_same_run(self) -> None:

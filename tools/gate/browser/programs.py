@@ -1,0 +1,132 @@
+"""Tests that a button makes of programs: the states in which a wait has not ended, the words of the verdict, and the code below the test."""
+from __future__ import annotations
+
+from urllib.parse import quote
+
+from gate.browser.page_case import PageCase
+from gate.browser.texts import OFFER
+from gate.browser.user import read
+
+LOCK = (
+    "std::atomic<int> l; int n;\nvoid work() { while (l.exchange(1)) {} n++; l.store(0); }\n"
+    "int main() { std::thread a(work), b(work); a.join(); b.join(); }\n"
+)
+# Two threads that wait for each other before they set what the other waits for.
+STUCK = LOCK.replace("int> l;", "int> l, m;").replace("void work() { while (l.exchange(1)) {} n++; l.store(0); }", "void work() { while (!l) {} m = 1; }")
+HIDDEN = "#outcome .hidden-states"
+CODE = "#made-from"
+
+
+class Waits(PageCase):
+    """The states of a test with a phrase on its waits."""
+
+    def test_hidden(self) -> None:
+        """The verdict says that every wait ends, and the list hides the states in which one has not, until a button shows them."""
+        user = self.user
+        user.open_listed()
+        user.run_text(LOCK)
+        user.click(f"{OFFER} .apply")
+        self.assertSays("Forbidden. There is no run in which every wait ends and an addition to n is lost.", "#outcome .verdict")
+        self.assertSoon("4 states more, in which a wait has not ended, are hidden. Show them", lambda: user.text(HIDDEN))
+        heads = lambda: user.texts("table.strip thead .watch")
+        self.assertEqual(["1", "never"], heads())
+        self.assertEqual("1", user.text("table.strip .chosen .watch"))
+        user.click(f"{HIDDEN} .link")
+        self.assertSoon(["1", "2", "3", "4", "5", "never"], heads)
+        self.assertEqual([], user.all(HIDDEN))
+
+    def test_reached(self) -> None:
+        """A link to a hidden state shows all; a reader who looks for the states by hand may find each of them."""
+        user = self.user
+        user.open_listed()
+        user.run_text(LOCK)
+        user.click(f"{OFFER} .apply")
+        user.find(HIDDEN)
+        link = f"#text={quote(user.value())}"
+        state = "0:EAX=0; 1:EAX=1; l=0; n=2;"
+        user.open_listed(f"{link}&state={quote(state)}")
+        self.assertSoon("3", lambda: user.text("table.strip .chosen .watch"))
+        self.assertEqual([], user.all(HIDDEN))
+        user.open_listed(link)
+        user.find(HIDDEN)
+        user.click("#tab-hand")
+        self.assertSoon("5", lambda: str(len(user.all("table.strip thead .watch"))))
+        self.assertEqual([], user.all(HIDDEN))
+        user.click("#tab-states")
+        self.assertSoon(["1", "never"], lambda: user.texts("table.strip thead .watch"))
+
+    def test_fences(self) -> None:
+        """*Fences* compares only the states in which every wait has ended: the locks that give back are not needed."""
+        user = self.user
+        user.open_listed()
+        user.run_text(LOCK)
+        user.click(f"{OFFER} .apply")
+        user.find(HIDDEN)
+        user.click("#tab-fences")
+        self.assertSays("States in which a wait has not ended are left out here.", "#fences")
+        self.assertSays("The fewest locks that are enough for the same state:", "#fences .together")
+        self.assertSoon(["P0, XCHG [l],EAX; P1, XCHG [l],EAX. Try it"], lambda: user.texts("#fences .fence-sets li"))
+
+    def test_stuck(self) -> None:
+        """If no state has every wait ended, all are listed, and the page says what that means."""
+        user = self.user
+        user.open_listed()
+        user.run_text(STUCK)
+        user.click(f"{OFFER} .apply")
+        self.assertSays("In none of these states every wait has ended: no run of the program comes to its end.", HIDDEN)
+
+    def test_premise(self) -> None:
+        """What all runs are to have is asked of those in which every wait ends; no other text has hidden states."""
+        user = self.user
+        user.open_listed()
+        user.run_text(LOCK.replace("b.join(); }", "b.join(); assert(n == 2); }"))
+        user.click(f"{OFFER} .apply")
+        self.assertSays("Always. In every run in which every wait ends, memory ends with n=2.", "#outcome .verdict")
+        user.open_listed("#example=SB-x86")
+        self.assertEqual([], user.all(HIDDEN))
+
+
+class MadeFrom(PageCase):
+    """The code from which a test was made."""
+
+    def test_code(self) -> None:
+        """The code is below the test that was made of it, with what a compiler may do; a link has it, an edited test keeps it, and another text has none."""
+        user = self.user
+        user.open_listed()
+        self.assertEqual([], user.all(CODE))
+        user.run_text(LOCK)
+        user.click(f"{OFFER} .apply")
+        self.assertSays("A compiler may also reorder or merge its relaxed and plain accesses.", CODE)
+        self.assertEqual([], user.all(f"{CODE} pre"))
+        user.click(f"{CODE} summary")
+        self.assertEqual(LOCK.split(), user.text(f"{CODE} pre").split())
+        made = user.value()
+        self.assertSoon(True, lambda: "&from=" in user.link())
+        user.open_listed(user.link())
+        self.assertEqual(made, user.value())
+        user.click(f"{CODE} summary")
+        self.assertEqual(LOCK.split(), user.text(f"{CODE} pre").split())
+        user.run_text(made.replace("~exists", "exists"))
+        self.assertSays("The code that this test was made from", CODE)
+        user.run_text(read("examples/MP-x86.litmus"))
+        self.assertSoon([], lambda: user.all(CODE))
+        self.assertSoon(False, lambda: "from=" in user.link())
+
+    def test_undone(self) -> None:
+        """*Undo* takes it away with the test. Of instructions it is shown, too, without words on compilers; an example has none."""
+        user = self.user
+        user.open_listed()
+        user.run_text(LOCK)
+        user.click(f"{OFFER} .apply")
+        user.find(CODE)
+        user.click("#undo")
+        self.assertSoon([], lambda: user.all(CODE))
+        user.run_text("mov [x],1\nmov eax,[y]\n\nmov [y],1\nmov eax,[x]\n")
+        user.click(f"{OFFER} .apply")
+        self.assertSoon("The code that this test was made from", lambda: user.text(CODE))
+        user.click("#open-gallery")
+        user.click("#gallery .card:nth-child(3)")
+        self.assertSoon([], lambda: user.all(CODE))
+
+
+SUBJECTS = (Waits, MadeFrom)
