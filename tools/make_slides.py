@@ -8,8 +8,8 @@ the ends. Two small buttons lead back and on, with the number of the slide betwe
 the address is that of the slide. Printed, each slide is a page. With LINK, the address of lw's page as the slides have it (`site/index.html`), each slide
 that shows a test has a link that opens the test there, at the same run, in one tab for all slides.
 
-What the slides show of tests comes from the program (`./lw states` and `./lw replay`), which has to be built: so it needs Linux. The pictures are
-those of tools/picture.py and tools/graph.py, and code has the colours of the page. The same sources give the same bytes.
+What the slides show of tests comes from the program (`./lw states` and `./lw replay`), which has to be built: so it needs Linux. The machine is drawn as
+on the page, graphs are those of tools/graph.py, and all has the colours of the page. The same sources give the same bytes.
 """
 from __future__ import annotations
 
@@ -19,61 +19,66 @@ from html import escape
 sys.dont_write_bytecode = True
 import films
 import given
-from lab import slides
+from lab import machine, slides, tints
 from lab.tests import NoLab
 from shared import command, start
 
 TITLE = "lw: an introduction"
 POLICY = "default-src 'none'; style-src 'unsafe-inline'; script-src 'unsafe-inline'"
 STYLE = """
-html, body { margin: 0; background: #fff; color: #111 }
+html, body { margin: 0; background: var(--ground); color: var(--ink) }
 .slide { box-sizing: border-box; width: 100vw; height: 100vh; padding: 3vh 4vw max(6.5vh, 2.4rem); display: flex; flex-direction: column; gap: 2vh;
-  justify-content: space-between; overflow: hidden; position: relative; font: min(2.4vw, 4.2vh)/1.35 "Segoe UI", "DejaVu Sans", sans-serif }
-.slide h2 { margin: 0; font-size: 1.5em }
+  justify-content: space-between; overflow: hidden; position: relative; border-top: .3em solid var(--main); font: min(2.6vw, 4.5vh)/1.35 var(--sans) }
+.slide h2 { margin: 0; font-size: 1.5em; line-height: 1.2; letter-spacing: -.01em }
 .slide p { margin: 0 }
-.slide pre { margin: 0; font: 1.05em/1.3 ui-monospace, Menlo, Consolas, "DejaVu Sans Mono", monospace }
-.slide figure { margin: 0; flex: 1; min-height: 0 }
+.slide p b { font-weight: 650 }
+.slide code { font: .95em var(--mono) } .slide code [class] { font-weight: 600 }
+.slide pre { margin: 0; font: 1.05em/1.3 var(--mono); background: var(--paper); border: 1px solid var(--edge); border-radius: .4em; padding: .5em .9em;
+  width: max-content; max-width: 100%; box-sizing: border-box }
+.slide figure { margin: 0; flex: 1; min-height: 0; display: flex }
 .slide svg { width: 100%; height: 100% }
-.slide aside { display: none; border-top: 1px solid #888; padding-top: 1vh; font-size: .8em; color: #444 }
+.slide svg .ground { fill: none } .slide svg .relation { stroke: var(--ground) } .slide svg :is(.box, .entry) { fill: var(--paper); stroke: var(--strong-edge) }
+.slide aside { display: none; border-top: 1px solid var(--strong-edge); padding-top: 1vh; font-size: .75em; color: var(--faint) }
 .noted .slide aside { display: block }
-.slide .open { position: absolute; right: 4vw; top: 3.6vh; font-size: .65em; color: #1849a9 }
-.slide footer { position: absolute; right: 2vw; bottom: 1vh; font-size: .6em; color: #555 }
+.slide .open { position: absolute; left: 4vw; bottom: 1.5vh; font-size: .6em; color: var(--main) }
+.slide footer { position: absolute; right: 2vw; bottom: 1vh; font-size: .6em; color: var(--faint) }
+/* The title is calm: nothing but words. */
+.slide:first-of-type { justify-content: center; gap: 1em; border-top-width: 0; border-left: .6em solid var(--main); padding-left: 8vw }
+.slide:first-of-type h2 { font-size: 2em }
+.slide:first-of-type h2::before { content: "lw"; display: block; font-size: .45em; letter-spacing: -.03em; color: var(--main); padding-bottom: .6em }
+.slide:first-of-type p + p { font-size: .85em; color: var(--faint) }
 .running .slide { display: none }
 .running .slide.shown { display: flex }
-.controls { display: none; position: fixed; right: 1.2vw; bottom: 1vh; align-items: center; gap: .4em; color: #444; background: #fff;
-  font: max(13px, min(1.4vw, 2.4vh))/1 "Segoe UI", "DejaVu Sans", sans-serif }
+.controls { display: none; position: fixed; right: 1.2vw; bottom: 1vh; align-items: center; gap: .4em; color: var(--faint); background: var(--ground);
+  font: max(13px, min(1.4vw, 2.4vh))/1 var(--sans) }
 .running .controls { display: flex }
 .running .slide footer { display: none }
-.controls button { font: inherit; color: inherit; background: #fff; border: 1px solid #888; border-radius: .3em; width: 2em; height: 1.9em; cursor: pointer }
-.controls button:hover { background: #e8ecf4 }
-.controls button:focus-visible { outline: 3px solid #1849a9 }
-.controls [aria-disabled="true"] { color: #767676; border-color: #ccc; cursor: default }
-/* A screen is dark if the system is; paper is white. */
-@media screen and (prefers-color-scheme: dark) {
-  html, body { background: #16181c; color: #ececec; color-scheme: dark }
-  .slide aside, .slide footer, .controls { color: #b0b0b0 }
-  .slide .open { color: #8ab4ff }
-  .controls button, .controls { background: #16181c }
-  .controls button:hover { background: #303743 }
-  .controls button:focus-visible { outline-color: #8ab4ff }
-  .controls [aria-disabled="true"] { color: #8d939c; border-color: #4a505a }
-}
+.controls button { font: inherit; color: inherit; background: var(--paper); border: 1px solid var(--strong-edge); border-radius: .3em;
+  width: 2em; height: 1.9em; cursor: pointer }
+.controls button:hover { background: var(--soft) }
+.controls button:focus-visible { outline: 3px solid var(--focus) }
+.controls [aria-disabled="true"] { border-color: var(--edge); cursor: default; opacity: .75 }
 /* On a phone that is held upright a slide is as high as it has to be, in type that can be read. */
 @media screen and (max-width: 40rem) and (orientation: portrait) {
   .running .slide, .slide { width: 100%; height: auto; min-height: 100vh; overflow: visible; justify-content: flex-start; gap: 1rem;
     padding: 1rem 1rem 4.5rem; font-size: 1.0625rem }
+  .slide:first-of-type { justify-content: center }
   .slide h2 { font-size: 1.3em }
-  .slide pre { font-size: .9375em; overflow-x: auto }
+  .slide pre { font-size: .8125em; overflow-x: auto }
   .slide figure { flex: none }
+  .slide .machine { font-size: .875em } .slide .machine .below { gap: .3em } .slide .machine .buffer { min-width: 4.6em; padding-inline: .2em }
   .slide svg { height: auto }
   .slide .open { position: static; font-size: .9em }
   .slide footer { right: 1rem; font-size: .8em }
   .controls { right: 0; bottom: 0; padding: .4rem 1rem; font-size: 1.25rem; border-radius: .3em }
 }
+/* A screen is dark if the system is; paper is white, and has the colours of boxes. */
 @media print {
+  :root { color-scheme: light; --ground: #fff }
+  * { print-color-adjust: exact }
   .running .controls, .slide .open { display: none }
   .running .slide footer { display: block }
-  .running .slide, .slide { display: flex; width: 297mm; height: 209mm; padding: 10mm 14mm; font-size: 17pt; break-after: page }
+  .running .slide, .slide { display: flex; width: 297mm; height: 209mm; padding: 10mm 14mm; font-size: 19pt; break-after: page }
   .slide:last-of-type { break-after: auto }
 }
 @page { size: 297mm 210mm; margin: 0 }
@@ -120,6 +125,11 @@ CONTROLS = (
 )
 
 
+def make_style() -> str:
+    """Returns the style of the slides: the colours of lw's page, and the rules for pictures, for the machine and for slides."""
+    return tints.read_colour_rules() + slides.STYLE_OF_PICTURES + machine.STYLE + STYLE
+
+
 def make_page(page: str = "") -> str:
     """Returns the slides as one page, with links to lw's page at an address, if there is one."""
     all_slides = slides.render_slides(page)
@@ -130,7 +140,7 @@ def make_page(page: str = "") -> str:
     return (
         f'<!doctype html>\n<html lang="en">\n<head>\n<meta charset="utf-8">\n'
         f'<meta name="viewport" content="width=device-width, initial-scale=1">\n<meta http-equiv="Content-Security-Policy" content="{POLICY}">\n'
-        f"<title>{TITLE}</title>\n<style>{slides.STYLE_OF_PICTURES}{STYLE}</style>\n</head>\n<body>\n{body}{CONTROLS}<script>{SCRIPT}</script>\n</body>\n</html>\n"
+        f"<title>{TITLE}</title>\n<style>{make_style()}</style>\n</head>\n<body>\n{body}{CONTROLS}<script>{SCRIPT}</script>\n</body>\n</html>\n"
     )
 
 

@@ -8,7 +8,8 @@
   are those of a comment or of an answer in docs/SOLUTIONS.md. They name no other site.
 - The points of the items make up those of their tasks, and these and the minutes those of the timetable. docs/SOLUTIONS.md has the same
   tasks, and an answer to each item. Its table of cache lines is what the program replays.
-- In Chromium, if it is there: task 1 prints on one page, the rest on at most seven, and sheet and card fit a phone.
+- In Chromium, if it is there: task 1 prints on one page, the rest on at most seven, and sheet and card fit a phone. What is only for the screen is
+  not printed, and the sheet's address is, if it has one. Items that ask for several schedules or a drawing have several lines.
 - In Chromium without a network, if it is there with its driver and python3-selenium, and unshare is permitted, the lab is played from the
   sheet (tools/gate/check_lab_browser.py), and what the page shows is what docs/SOLUTIONS.md says. A line says what is skipped; with
   CI=true that is a failure if only the modules are missing.
@@ -19,7 +20,9 @@ tools/check_documents.py calls all this; the program has to be built.
 from __future__ import annotations
 
 import base64
+import contextlib
 import functools
+import http.server
 import io
 import json
 import os
@@ -27,9 +30,11 @@ import re
 import subprocess
 import sys
 import tempfile
+import threading
 import zipfile
 from collections.abc import Iterator
 from html import unescape
+from typing import Any
 from urllib.parse import parse_qs
 
 import given
@@ -53,7 +58,14 @@ ITEM = re.compile(r"^(\d)\. \((\d) points?, (easy|medium|hard)\) ", re.M)
 TIME = re.compile(r"^\| (\d+) to (\d+) \| (.*?) \| (\d*) ?\|$", re.M)
 # A page of a printed document; and a script that removes all of the sheet but the first task.
 PAGE = re.compile(rb"/Type\s*/Page\b")
-FIRST_TASK = "for (let it = document.querySelector('h3.new-page'); it;) { const next = it.nextElementSibling; it.remove(); it = next; }"
+FIRST_TASK = "for (let it = document.querySelector('.new-page'); it;) { const next = it.nextElementSibling; it.remove(); it = next; }"
+# What is seen of the sheet: its words, the lines below links, the address and whether it is seen, and how items, their tests and tasks are broken.
+PRINTED = """
+const all = (css) => [...document.querySelectorAll(css)], kinds = (css, of) => [...new Set(all(css).map((it) => of(getComputedStyle(it))))];
+const address = document.getElementById('address');
+return [document.body.innerText, kinds('a', (it) => it.textDecorationLine), [address.innerText, address.checkVisibility()],
+  kinds('.unit, .tests, .task', (it) => it.breakInside)];
+"""
 MIN_TESTS, MIN_ITEMS, MIN_PLAYED = 16, 18, 70
 
 
@@ -153,6 +165,7 @@ def check_links(tests: dict[str, str]) -> Iterator[Comparison]:
     """
     lab = read_file("docs/LAB.md")
     page = sheets.make_sheet(lab, tests, "site/index.html")
+    yield "tests of two lines that follow each other are side by side", 0, page.count('</div>\n<div class="tests">')
     tests_shown = [it for *_, text in parse_tasks(find_section(lab, "The sheet")) for it in find_tests(text).items()]
     links = re.findall(r'<figcaption>(\w+) <a class="screen" target="lw" href="site/index\.html#([^"]*)">', page)
     yield "each test has a link where it is used", [name for name, _ in tests_shown], [name for name, _ in links]
@@ -228,6 +241,11 @@ def check_paper(folder: str) -> Iterator[Comparison]:
         driver.get(f"file://{folder}/students/sheet.html")
         for paper, width, height in (("A4", 8.27, 11.69), ("Letter", 8.5, 11)):
             yield f"the sheet, on {paper}: its pages", True, count_paper_pages(driver, width, height) <= 8
+        yield from check_printed(driver, "")
+        with serve_folder(f"{folder}/students") as address:
+            driver.get(f"{address}/sheet.html")
+            yield from check_printed(driver, f"{address}/sheet.html")
+            driver.get(f"file://{folder}/students/sheet.html")
         driver.execute_cdp_cmd("Emulation.setDeviceMetricsOverride", {"width": 360, "height": 740, "deviceScaleFactor": 2, "mobile": True})
         for name in ("sheet", "card"):
             driver.get(f"file://{folder}/students/{name}.html")
@@ -240,6 +258,52 @@ def check_paper(folder: str) -> Iterator[Comparison]:
             yield f"task 1, on {paper}: its pages", 1, count_paper_pages(driver, width, height)
     finally:
         driver.quit()
+
+
+@contextlib.contextmanager
+def serve_folder(folder: str) -> Iterator[str]:
+    """Serves a folder over http, and yields its address."""
+
+    class Handler(http.server.SimpleHTTPRequestHandler):
+        """Serves the folder, and says nothing."""
+
+        def __init__(self, *arguments: Any) -> None:
+            """Serves the folder."""
+            super().__init__(*arguments, directory=folder)
+
+        def log_message(self, format: str, *arguments: Any) -> None:
+            """Says nothing."""
+
+    with http.server.ThreadingHTTPServer(("127.0.0.1", 0), Handler) as server:
+        threading.Thread(target=server.serve_forever, daemon=True).start()
+        try:
+            yield f"http://127.0.0.1:{server.server_address[1]}"
+        finally:
+            server.shutdown()
+
+
+def check_printed(driver: user.Driver, address: str) -> Iterator[Comparison]:
+    """Checks what the sheet prints: no word on links, no line below one, its address if it has one, and no item on two pages."""
+    driver.execute_cdp_cmd("Emulation.setEmulatedMedia", {"media": "print"})
+    words, lines, shown, kinds = driver.execute_script(PRINTED)
+    yield f"no word on links is printed, {address}", [], re.findall("beside a test|in another tab|\\bopen\\b(?= *\\n)", words)
+    yield f"no link is underlined on paper, {address}", ["none"], lines
+    yield f"the address on paper, {address}", [address, True], shown
+    yield f"an item, its room and the tests stay on one page, {address}", ["avoid"], kinds
+    driver.execute_cdp_cmd("Emulation.setEmulatedMedia", {"media": ""})
+    yield f"the address is not on the screen, {address}", False, driver.execute_script("return document.querySelector('.address').checkVisibility()")
+
+
+def check_room(page: str) -> Iterator[Comparison]:
+    """Checks how many lines the items have for their answers: several for several schedules and for a drawing, none before a table."""
+    lines = {}
+    for task, text in re.findall(r'<section class="task[^"]*">\n<h3>(\d)(.*?)</section>', page, re.S):
+        for item, unit in re.findall(r'<div class="unit">\n<p class="item"><b>(\d)\.</b>(.*?)(?=<div class="unit">|\Z)', text, re.S):
+            lines[f"{task}.{item}"] = (unit.count('class="answer"'), "<table>" in unit)
+    yield "items with several lines", ["2.2", "3.2", "4.3"], [it for it, (count, _) in lines.items() if count > 1]
+    yield "items without lines have tables", ["1.1", "6.1"], [it for it, (count, has_table) in lines.items() if count == 0 and has_table]
+    yield "all other items have one line", {1}, {count for count, has_table in lines.values() if count <= 1 and not has_table}
+    yield "how many items have room", True, len(lines) >= MIN_ITEMS
 
 
 def count_paper_pages(driver: user.Driver, width: float, height: float) -> int:
@@ -309,6 +373,7 @@ def make_comparisons() -> Iterator[Comparison]:
     yield from check_silence(lab, page, tests)
     yield from check_sentences(page)
     yield from check_links(tests)
+    yield from check_room(page)
     yield from check_points(lab)
     yield from check_cache_lines()
     yield from check_bytes()

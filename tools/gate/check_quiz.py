@@ -8,6 +8,8 @@
 - No answer is in the page in plain sight: the hidden text has no symbol for each answer.
 - A code that the page's own JavaScript makes, in node if it is there, and in Chromium if it is there with its driver and
   python3-selenium, is that of tools/lab/codes.py, and the command reads it with the right score.
+- Of an end that can't be, the accesses of a cycle are shown, and why each comes before the next. If the cycle is the same by interleaving and on
+  x86, only what x86 keeps of it is shown again.
 - Each kind of bad code is refused, and so are all codes with one wrong symbol or two neighbours exchanged.
 - The quizzes of a site have links to each other, and each keeps its own answers; the list of documents has the first.
 
@@ -113,6 +115,44 @@ def check_reasons(data: quiz.Data, tests: list[quiz.QuizTest]) -> Iterator[Compa
         yield f"runs by tools/plain.py that end as test {index} asks", [other_reason.interleaved, other_reason.on_x86], [bool(runs) for runs in ways]
     words = ("store buffer", "steps", "events", "memory")
     yield "no reason is in plain sight", [], [word for word in words if word in json.dumps(data)]
+
+
+# Why an access comes before the next one of its thread on x86, by what both do; and before one of another thread.
+KEPT = {
+    ("reads", "reads"): "x86 keeps a load before a later load", ("reads", "stores"): "x86 keeps a load before a later store",
+    ("stores", "stores"): "x86 keeps a store before a later store: the store buffer is a queue",
+    ("stores", "reads"): "the `MFENCE` between them waits until this store is in memory",
+}
+ACCESS = re.compile(r"P(\d) (stores|reads) `(\w+)=(\d+)`")
+
+
+def make_why(first: list[str], second: list[str], text: str, is_on_x86: bool) -> str:
+    """Returns why the first of two accesses, each by its thread, what it does, its location and its word, comes before the second in a test."""
+    (thread, kind, location, word), (other_thread, other_kind, other_location, other_word) = first, second
+    if thread == other_thread:
+        return KEPT[kind, other_kind] if is_on_x86 else f"P{thread} carries out its instructions in order"
+    assert location == other_location, f"{first} and {second} are of two locations"
+    if (kind, other_kind) == ("stores", "reads"):
+        return f"P{other_thread} reads the word that this store wrote" if word == other_word else "no reason"
+    if (kind, other_kind) == ("reads", "stores"):
+        return f"it reads `{location}` before P{other_thread}'s store overwrites it"
+    ends_so = re.search(rf"\b{location}={other_word}\b", text.rpartition("exists")[2])
+    return f"`{location}` ends with {other_word}, so this store comes first" if ends_so else "no reason"
+
+
+def check_cycles(seed: str) -> Iterator[Comparison]:
+    """Checks that each access of each cycle is one of its thread, and why it comes before the next."""
+    for index, test in enumerate(quiz.make_tests(TESTS, seed, quiz.make_report_by_plain), 1):
+        both = [reasons.explain_by_interleaving(test.text, quiz.make_source_form(test.text)), reasons.explain_on_x86(test.text)]
+        for is_on_x86, reason in enumerate(both):
+            if reason["kind"] != "cycle":
+                continue
+            accesses = [list(require_match(ACCESS.fullmatch(it)).groups()) for it in reason["events"]]
+            whys = [make_why(it, accesses[(number + 1) % len(accesses)], test.text, bool(is_on_x86)) for number, it in enumerate(accesses)]
+            yield f"why each access of test {index} of {seed} comes before the next, {'on x86' if is_on_x86 else 'by interleaving'}", whys, reason["whys"]
+            threads = list_accesses(test.text)
+            unknown = [it for it in accesses if not any(it[2] in access and (it[1] == "reads" or it[3] in access) for access in threads[int(it[0])])]
+            yield f"the accesses of the cycle of test {index} of {seed} are in the test", [], unknown
 
 
 def make_answers(rights: list[int], wrong: dict[int, int]) -> list[int]:
@@ -233,6 +273,28 @@ def check_bad_codes(code: str, handed_in: codes.CodeContents, folder: str) -> It
     yield "bad codes are refused", ([HEADING, ["1", *ROW]], refused, 1), answer
 
 
+def check_shown_cycles(user: users.User, data: quiz.Data) -> Iterator[Comparison]:
+    """Checks what the page shows of the cycles of each test: all of that by interleaving, and only what x86 keeps of it if that on x86 has the same
+    accesses.
+    """
+    rows = user.run(
+        "return [...document.querySelectorAll('fieldset .why')].map((it) => [...it.querySelectorAll('li')].map((row) => "
+        "`${row.getAttribute('value') ?? ''} ${row.textContent}`))"
+    )
+    for index, both in enumerate(quiz.parse_reasons(data)):
+        cycles = [(number, it) for number, it in enumerate(both) if it["kind"] == "cycle"]
+        for number, reason in cycles:
+            count, is_again = len(reason["events"]), number == 1 and reason["events"] == both[0].get("events")
+            expected = [
+                f"{position + 1 if is_again else ''} {event}. This comes before {(position + 1) % count + 1}: {why}.".replace("`", "")
+                for position, (event, why) in enumerate(zip(reason["events"], reason["whys"])) if not is_again or why != both[0]["whys"][position]
+            ]
+            yield f"the cycle of test {index + 1} as the page shows it, {('interleaving', 'x86')[number]}", expected, rows[2 * index + number]
+    texts = user.run("return [...document.querySelectorAll('.why')].map((it) => it.textContent)")
+    is_shown_again = ["The reason is that for interleaving" in it for it in texts]
+    yield "a cycle is the same on x86", True, any(is_shown_again[1::2]) and not any(is_shown_again[::2])
+
+
 def check_browser(page: str, folder: str) -> Iterator[Comparison]:
     """Tries the page in a browser, as wide as a phone: it says what is missing, and the code that it shows is read."""
     if not users.is_installed():
@@ -278,6 +340,7 @@ def check_browser(page: str, folder: str) -> Iterator[Comparison]:
         yield "the page shows what was right", (2 * TESTS - 4, 4), (marks.count("✓"), sum(it.startswith("✗") for it in marks))
         whys = user.run("return [...document.querySelectorAll('fieldset .why')].map((it) => [it.open, it.querySelectorAll('li').length > 1])")
         yield "each question shows why, unfolded where the answer was wrong", [[not it.startswith("✓"), True] for it in marks], whys
+        yield from check_shown_cycles(user, parse_data(page))
         # The teacher's part.
         code = user.text("#code")
         user.click("#teacher summary")
@@ -383,6 +446,7 @@ def make_comparisons() -> Iterator[Comparison]:
     """Yields all comparisons: what is compared, what is expected, and what was found."""
     for seed in SEEDS:
         yield from check_verdicts(seed)
+        yield from check_cycles(seed)
     with tempfile.TemporaryDirectory(prefix="lw-quiz-") as folder:
         yield "make_quiz.py OUT.html", ("", "", 0), run(["make_quiz.py", f"{folder}/quiz.html", "--tests", str(TESTS), "--seed", "1"])
         with open(f"{folder}/quiz.html", encoding="utf-8", newline="") as file:

@@ -2,10 +2,10 @@
 
     python3 tools gate.check_slides
 
-- There are twelve slides, each with a title of its own; the page names no other site and loads nothing; the same sources give the same bytes.
+- There are thirteen slides, each with a title of its own; the page names no other site and loads nothing; the same sources give the same bytes.
   With the address of lw's page each slide that shows a test has a link that opens that test there.
-- What is shown of a test is what the program says of it: each list is that of its report, with the verdict in words, and each picture of the
-  machine has the registers, the store buffers and the words of its replay. An execution's loads have the words that the replay ends with.
+- What is shown of a test is what the program says of it: each list is that of its report, with the verdict in words, and each machine has the
+  registers, the store buffers and the words of its replay. An execution's loads have the words that the replay ends with.
 - Code has the colours that the page's own JavaScript gives it, in node if it is there, and each has a contrast of 4.5 at least.
 - The slides are in the order of the timetable. Before the tasks none shows a test of tasks 2 to 4, except the text of A1 and A2 and the
   list of A1 by interleaving, and no picture shows cache lines. Slide and sheet ask the same.
@@ -40,10 +40,13 @@ from replay_state import State, parse_replay_state
 from shared import command
 from shared.home import HOME, PROGRAM, close_check
 
-COUNT = 12
+COUNT = 13
 FIGURE = re.compile(r'<figure data-kind="(\w+)" data-test="([\w-]+)" data-schedule="([^"]*)">(.*?)</figure>', re.S)
 LIST = re.compile(r'<pre data-kind="(\w+)" data-test="([\w-]+)">(.*?)</pre>', re.S)
-TEXT = re.compile(r'<text [^>]*?(?: class="([\w -]+)")?>([^<]*)</text>')
+# The parts of a machine: a thread, memory, and a name with its word, of a kind.
+THREAD = re.compile(r'<section class="thread thr-(\d)">(.*?)</section>', re.S)
+MEMORY = re.compile(r'<section class="memory">(.*?)</section>', re.S)
+ITEM = re.compile(r'<li class="(register|entry|word)[^"]*"><span[^>]*>(\w+)</span> <b>(\d+)</b></li>')
 OUTWARD = re.compile(r"https?:|\bsrc=|\bhref=|@import|url\((?!#)|(?<!:)//\w")
 # The parts of tests that slides show before the tasks about them: the kind and the test of a text, a list or a picture.
 BEFORE = {("code", "A1"), ("code", "A2"), ("states", "A1-turns"), ("state", "A1-turns"), ("state", "Slip")}
@@ -82,8 +85,9 @@ console.log(JSON.stringify(JSON.parse(readFileSync(0, "utf8")).map((text) => sho
 # A word in a colour, and the elements that colours are made of.
 TINT = re.compile(r'<span class="([\w-]+)">(.*?)</span>')
 TINT_TAG = re.compile(r"</?(?:span|tspan)\b[^>]*>")
-# The grounds on which code is shown in light and in dark: the fills of pictures, by their classes.
-FILL = re.compile(r"\.(?:ground|box|entry|word) \{ fill: (#\w+)")
+# The grounds on which code is shown in light and in dark: those of slides and of boxes. Words of a location are on a ground that has some of its colour.
+GROUND = re.compile(r"--(?:ground|paper): light-dark\((#\w+), (#\w+)\);")
+MIXED = 0.09
 MIN_CONTRAST = 4.5
 NUMBERS = ["none", "one", "two", "three", "four"]
 # A page of a printed document.
@@ -103,7 +107,7 @@ def replay_schedule(text: bytes, schedule: str) -> State:
 def check_page(page: str) -> Iterator[Comparison]:
     """Checks the page as a whole."""
     titles = re.findall(r'<section class="slide">\n<h2>(.*?)</h2>', page)
-    yield "there are twelve slides, each with its own title", (COUNT, COUNT), (len(titles), len(set(titles)))
+    yield "there are thirteen slides, each with its own title", (COUNT, COUNT), (len(titles), len(set(titles)))
     yield "the slides are numbered", [f"{index} of {COUNT}" for index in range(1, COUNT + 1)], re.findall(r"<footer>(.*?)</footer>", page)
     yield "the page loads nothing and names no other site", [], OUTWARD.findall(page)
     yield "the same bytes again", True, page == make_slides.make_page()
@@ -149,20 +153,9 @@ def check_lists(page: str, tests: dict[str, bytes]) -> Iterator[Comparison]:
         yield f"the verdict on {name} is in words", True, f"<p>{verdict}: the end that we ask about is {number} of the {total} states.</p>" in page
 
 
-def parse_picture(svg: str) -> tuple[list[list[str]], list[str] | None]:
-    """Returns the contents of a picture of one state: the texts and the entries of each thread, and the words of memory."""
-    threads: list[list[str]] = []
-    content: list[str] | None = None
-    for kind, text in TEXT.findall(TINT_TAG.sub("", svg)):
-        if kind.startswith("title") and re.fullmatch(r"P\d", text):
-            threads.append([])
-        elif kind == "title" and text == "memory":
-            content = []
-        elif content is not None:
-            content.append(text)
-        else:
-            threads[-1].append(text)
-    return threads, content
+def list_items(html: str, kind: str) -> list[str]:
+    """Returns the names of a part of a machine that are of a kind, with their words."""
+    return [f"{name}={word}" for it, name, word in ITEM.findall(html) if it == kind]
 
 
 def format_words(pairs: list[tuple[str, int]]) -> list[str]:
@@ -170,46 +163,49 @@ def format_words(pairs: list[tuple[str, int]]) -> list[str]:
     return [f"{name}={word}" for name, word in pairs]
 
 
-def find_buffer(words: list[str]) -> int:
-    """Returns the start of the store buffer in the shown text of a thread."""
-    return words.index("store buffer") if "store buffer" in words else len(words)
-
-
-def compare_state(subject: str, svg: str, state: State) -> Iterator[Comparison]:
-    """Compares a picture of one state with the state that the program replays."""
-    threads, content = parse_picture(svg)
-    yield f"{subject}: the words of memory", format_words(state["content"]), content
-    yield f"{subject}: its threads", len(state["threads"]), len(threads)
-    shown_words = [it for shown in threads for it in shown[: find_buffer(shown)]]
-    yield f"{subject}: registers are shown", True, any(re.fullmatch(r"\w+=\d+", it) for it in shown_words)
-    for number, (shown, thread_state) in enumerate(zip(threads, state["threads"])):
-        begin = find_buffer(shown)
-        registers = [it for it in shown[:begin] if re.fullmatch(r"\w+=\d+", it)]
-        yield f"{subject}: the registers of P{number}", [], sorted(set(registers) - set(format_words(thread_state["registers"])))
-        entries = format_words(thread_state.get("buffer", []))
-        yield f"{subject}: the store buffer of P{number}", entries or ["(empty)"], shown[begin + 1 :] or ["(empty)"]
+def compare_state(subject: str, html: str, state: State) -> Iterator[Comparison]:
+    """Compares a machine with the state that the program replays."""
+    threads = THREAD.findall(html)
+    yield f"{subject}: the words of memory", format_words(state["content"]), list_items("".join(MEMORY.findall(html)), "word")
+    yield f"{subject}: its threads", [str(it) for it in range(len(state["threads"]))], [number for number, _ in threads]
+    yield f"{subject}: registers are shown", True, bool(list_items(html, "register"))
+    for (number, shown), thread_state in zip(threads, state["threads"]):
+        registers = set(list_items(shown, "register"))
+        yield f"{subject}: the registers of P{number}", [], sorted(registers - set(format_words(thread_state["registers"])))
+        # The newest entry is on top.
+        entries = format_words(thread_state.get("buffer", []))[::-1]
+        yield f"{subject}: the store buffer of P{number}", entries, list_items(shown, "entry")
 
 
 def check_figures(page: str, tests: dict[str, bytes]) -> Iterator[Comparison]:
     """Checks the pictures."""
     figures = FIGURE.findall(page)
     yield "how many pictures there are", True, len(figures) >= 6
-    for kind, name, schedule, svg in figures:
+    for kind, name, schedule, drawn in figures:
         subject, events = f"{name} after {schedule}", schedule.split()
         state = replay_schedule(tests[name], schedule)
         yield f"{subject} is carried out", len(events), state["steps"]
         if kind == "state":
-            yield from compare_state(subject, svg, state)
+            yield from compare_state(subject, drawn, state)
         else:
-            loaded = re.findall(r": R \w+=(\d+)<", TINT_TAG.sub("", svg))
+            loaded = re.findall(r": R \w+=(\d+)<", TINT_TAG.sub("", drawn))
             yield f"{subject}, an execution: what is loaded", [str(dict(it["registers"])["EAX"]) for it in state["threads"]], loaded
 
 
-def measure_luminance(colour: str) -> float:
-    """Returns the relative luminance of a colour, of three or six hexadecimal digits."""
+def parse_colour(colour: str) -> list[int]:
+    """Returns the red, the green and the blue of a colour, of three or six hexadecimal digits."""
     digits = "".join(it * 2 for it in colour[1:]) if len(colour) == 4 else colour[1:]
-    parts = [int(digits[at : at + 2], 16) / 255 for at in (0, 2, 4)]
-    red, green, blue = (it / 12.92 if it <= 0.04045 else ((it + 0.055) / 1.055) ** 2.4 for it in parts)
+    return [int(digits[at : at + 2], 16) for at in (0, 2, 4)]
+
+
+def mix(colour: str, ground: str) -> str:
+    """Returns a ground that has some of a colour."""
+    return "#" + "".join(f"{round(MIXED * one + (1 - MIXED) * other):02x}" for one, other in zip(parse_colour(colour), parse_colour(ground)))
+
+
+def measure_luminance(colour: str) -> float:
+    """Returns the relative luminance of a colour."""
+    red, green, blue = (it / 12.92 if it <= 0.04045 else ((it + 0.055) / 1.055) ** 2.4 for it in (part / 255 for part in parse_colour(colour)))
     return 0.2126 * red + 0.7152 * green + 0.0722 * blue
 
 
@@ -224,13 +220,12 @@ def check_tints(tests: dict[str, bytes]) -> Iterator[Comparison]:
     colours = tints.list_colours()
     expected = [f"thr-{number}" for number in range(4)] + [f"loc-{number}" for number in range(tints.COLOURS)]
     yield "the page's colours are found", expected, [name for name, _, _ in colours]
-    light, _, dark = slides.STYLE_OF_PICTURES.partition(slides.DARK.replace("(", "screen and (", 1))
-    for index, style in ((1, light), (2, dark)):
-        grounds = FILL.findall(style)
-        yield f"grounds of pictures, {index}", 4, len(grounds)
-        pairs = itertools.product(((it[0], it[index]) for it in colours), grounds)
-        low = [(name, ground) for (name, colour), ground in pairs if measure_contrast(colour, ground) < MIN_CONTRAST]
-        yield "colours with too little contrast", [], low
+    grounds = GROUND.findall(tints.read_colour_rules())
+    yield "the grounds of slides and of boxes are found", 2, len(grounds)
+    for index in (0, 1):
+        pairs = [(name, colour, ground[index]) for (name, *by_theme), ground in itertools.product(colours, grounds) for colour in by_theme[index : index + 1]]
+        pairs += [(name, colour, mix(colour, ground)) for name, colour, ground in pairs]
+        yield "colours with too little contrast", [], [(name, ground) for name, colour, ground in pairs if measure_contrast(colour, ground) < MIN_CONTRAST]
     if not NODE:
         return
     texts = [*(it["text"] for family in web_files.list_families() for it in family["tests"]), *(it.decode() for it in tests.values())]
@@ -290,10 +285,9 @@ def check_browser(folder: str) -> Iterator[Comparison]:
         for button, key, number in ((on, Keys.ENTER, 3), (on, Keys.SPACE, 4), (back, Keys.ENTER, 3), (back, Keys.SPACE, 2)):
             button.send_keys(key)
             yield f"a key on a button leads to slide {number}", f"#{number}", driver.current_url[-2:]
-        driver.find_element("tag name", "body").send_keys(Keys.HOME)
         # A link to the page, and the notes.
         driver.find_element("css selector", ".slide.shown .open").click()
-        yield "a link leads to no other slide, and opens one tab", ("#1", 2), (driver.current_url[-2:], len(driver.window_handles))
+        yield "a link leads to no other slide, and opens one tab", ("#2", 2), (driver.current_url[-2:], len(driver.window_handles))
         yield "nothing of a slide is below the buttons", [], driver.execute_script(COVERED)
         driver.find_element("tag name", "body").send_keys(Keys.HOME)
         yield "on the first slide no button leads back", ["true", "false"], [it.get_attribute("aria-disabled") for it in (back, on)]
@@ -308,12 +302,13 @@ def check_browser(folder: str) -> Iterator[Comparison]:
         size = "return parseFloat(getComputedStyle([...document.querySelectorAll('.slide p')].find((it) => it.offsetHeight)).fontSize)"
         yield "the slides can be read on a phone", True, driver.execute_script(size) >= 16
         driver.execute_cdp_cmd("Emulation.clearDeviceMetricsOverride", {})
-        for media, scheme, ground in (("", "dark", "rgb(22, 24, 28)"), ("", "light", "rgb(255, 255, 255)"), ("print", "dark", "rgb(255, 255, 255)")):
+        grounds = {"dark": ("rgb(15, 18, 23)", "rgb(24, 28, 35)"), "light": ("rgb(244, 245, 248)", "rgb(255, 255, 255)"), "print": ("rgb(255, 255, 255)",) * 2}
+        for media, scheme in (("", "dark"), ("", "light"), ("print", "dark")):
             emulated = {"media": media, "features": [{"name": "prefers-color-scheme", "value": scheme}]}
             driver.execute_cdp_cmd("Emulation.setEmulatedMedia", emulated)
             body = driver.execute_script("return getComputedStyle(document.body).backgroundColor")
-            picture = driver.execute_script("return getComputedStyle(document.querySelector('svg .ground')).fill")
-            yield f"the ground of slides and pictures, {scheme} {media}", (ground, ground), (body, picture)
+            box = driver.execute_script("return getComputedStyle(document.querySelector('.thread')).backgroundColor")
+            yield f"the ground of slides and boxes, {scheme} {media}", grounds[media or scheme], (body, box)
         driver.execute_cdp_cmd("Emulation.setEmulatedMedia", {"media": "", "features": []})
         printed = driver.execute_cdp_cmd("Page.printToPDF", {"preferCSSPageSize": True})
         yield "each slide is a page", COUNT, len(PAGE.findall(base64.b64decode(printed["data"])))

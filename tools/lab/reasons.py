@@ -1,4 +1,4 @@
-"""Says why a test of a quiz can end as it asks, or can't: a run, step by step in words, or the events of a cycle.
+"""Says why a test of a quiz can end as it asks, or can't: a run, step by step in words, or the accesses of a cycle, and why each precedes the next.
 
 Runs are those of tools/plain.py, and cycles those of tools/executions.py, so a quiz has the same bytes with the program and without.
 """
@@ -11,15 +11,23 @@ import executions
 import films
 import plain
 from effects import describe_event
-from graph import Names
 from interpreter.tests import State
 from interpreter.walks import Move
 from replay_state import parse_replay_state
 
 MAX_CANDIDATES = 400_000
 Moves = Callable[[plain.Test, State], Iterator[Move]]
-# A run has `steps`, and the `schedule` of the x86 test; a cycle has `events`, of which each comes before the next, and the last before the first.
+# A run has `steps`, and the `schedule` of the x86 test; a cycle has `events`, of which each comes before the next, and the last before the first,
+# and of each in `whys` why it does.
 Reason = Dict[str, Union[str, List[str]]]
+FindCycle = Callable[[executions.Execution], Optional[Sequence[executions.Edge]]]
+ExplainPair = Callable[[executions.Execution, executions.Edge], str]
+# Why x86 keeps the order of two accesses of a thread, by their kinds.
+KEPT_ON_X86 = {
+    ("load", "load"): "x86 keeps a load before a later load",
+    ("load", "store"): "x86 keeps a load before a later store",
+    ("store", "store"): "x86 keeps a store before a later store: the store buffer is a queue",
+}
 
 
 def list_asked_schedules(test: plain.Test, start: Callable[[plain.Test], State], moves: Moves) -> list[str]:
@@ -37,17 +45,95 @@ def describe_steps(test: plain.Test, schedule: str) -> list[str]:
     return [describe_event(event, cells, *states[index : index + 2])["words"] for index, event in enumerate(events)]
 
 
-def find_shortest_cycle(test: plain.Test, find: Callable[[executions.Execution], Optional[Sequence[executions.Edge]]]) -> list[str]:
-    """Returns the events, in words, of the shortest cycle that `find` returns of an execution in which the condition holds. It has to return one of
-    each: no run ends this way.
+def join_at_fences(cycle: Sequence[executions.Edge], execution: executions.Execution) -> list[executions.Edge]:
+    """Returns the edges of a cycle without its fences: the edges to and from a fence become one, from the access before to the access after."""
+    is_fence = lambda event: execution.find_instruction(event).kind == "mfence"
+    start = next(index for index, edge in enumerate(cycle) if not is_fence(edge.source))
+    edges: list[executions.Edge] = []
+    for edge in [*cycle[start:], *cycle[:start]]:
+        if is_fence(edge.source):
+            edges[-1] = edges[-1]._replace(target=edge.target)
+        else:
+            edges.append(edge)
+    return edges
+
+
+def rotate_cycle(cycle: list[executions.Edge]) -> list[executions.Edge]:
+    """Returns a cycle so that it begins with its first event: two cycles of the same events and edges are then equal."""
+    first = min(range(len(cycle)), key=lambda index: cycle[index].source)
+    return [*cycle[first:], *cycle[:first]]
+
+
+def find_cycles(test: plain.Test, find: FindCycle) -> list[tuple[executions.Execution, list[executions.Edge]]]:
+    """Returns each execution in which the condition holds, with the cycle of accesses that `find` returns of it. It has to return one of each: no
+    run ends this way.
     """
     cycles = []
     for execution in executions.list_candidates(test, MAX_CANDIDATES):
         if plain.is_true_in(test.proposition, execution.make_outcome()):
-            names, cycle = Names(execution), find(execution)
+            cycle = find(execution)
             assert cycle, f"no run of {test.name} ends this way, and an execution does"
-            cycles.append([names.format_event(edge.source).partition(": ")[2] for edge in cycle])
-    return min(cycles, key=len) if cycles else []
+            cycles.append((execution, rotate_cycle(join_at_fences(cycle, execution))))
+    return cycles
+
+
+def explain_cycle(test: plain.Test, find: FindCycle, explain: ExplainPair) -> Reason:
+    """Returns the accesses, in words, of the shortest cycle of an execution in which the condition holds, and why each comes before the next.
+    `explain` says why a thread keeps the order of two of its accesses.
+    """
+    cycles = find_cycles(test, find)
+    if not cycles:
+        return {"kind": "cycle", "events": [], "whys": []}
+    execution, cycle = min(cycles, key=lambda it: len(it[1]))
+    return {
+        "kind": "cycle", "events": [describe_access(execution, edge.source) for edge in cycle],
+        "whys": [explain_edge(execution, edge, explain) for edge in cycle],
+    }
+
+
+def describe_access(execution: executions.Execution, event: executions.Event) -> str:
+    """Returns what an event does, with its thread: what it stores, or what it reads."""
+    statement = execution.find_instruction(event)
+    location = execution.test.locations[statement.location]
+    read, written = execution.read.get(event), execution.written.get(event)
+    if statement.kind == "load":
+        return f"P{event.thread} reads `{location}={read}`"
+    return f"P{event.thread} stores `{location}={written}`" + ("" if statement.kind == "store" else f", having read `{location}={read}`")
+
+
+def explain_edge(execution: executions.Execution, edge: executions.Edge, explain: ExplainPair) -> str:
+    """Returns why the source of an edge comes before its target."""
+    if edge.kind == "po":
+        return explain(execution, edge)
+    location = execution.test.locations[execution.find_instruction(edge.source).location]
+    target = f"P{edge.target.thread}"
+    if edge.kind == "rf":
+        return f"{target} reads the word that this store wrote"
+    if edge.kind == "fr":
+        return f"it reads `{location}` before {target}'s store overwrites it"
+    last = execution.co[execution.find_instruction(edge.source).location][-1]
+    if edge.target == last:
+        return f"`{location}` ends with {execution.written[last]}, so this store comes first"
+    return f"of the two stores to `{location}` this one comes first here"
+
+
+def explain_in_turns(_: executions.Execution, edge: executions.Edge) -> str:
+    """Returns why an access comes before a later one of its thread if threads take turns."""
+    return f"P{edge.source.thread} carries out its instructions in order"
+
+
+def explain_order_on_x86(execution: executions.Execution, edge: executions.Edge) -> str:
+    """Returns why x86 keeps the order of two accesses of a thread."""
+    first, second = execution.find_instruction(edge.source), execution.find_instruction(edge.target)
+    kinds = first.kind, second.kind
+    if kinds == ("store", "load") and execution.has_fence_between(edge):
+        between = [it.kind for it in execution.test.threads[edge.source.thread][edge.source.position + 1 : edge.target.position]]
+        return f"the {'`MFENCE`' if 'mfence' in between else 'locked instruction'} between them waits until this store is in memory"
+    if kinds in KEPT_ON_X86:
+        return KEPT_ON_X86[kinds]
+    if first.location == second.location:
+        return "both are to the same location, whose order a thread keeps"
+    return "a locked instruction keeps its order with all others"
 
 
 def find_broken_cycle(execution: executions.Execution) -> Sequence[executions.Edge] | None:
@@ -62,7 +148,7 @@ def explain_on_x86(text: str) -> Reason:
     schedules = list_asked_schedules(test, plain.make_x86_start, plain.list_x86_moves)
     if schedules:
         return {"kind": "run", "steps": describe_steps(test, schedules[0]), "schedule": schedules[0]}
-    return {"kind": "cycle", "events": find_shortest_cycle(test, find_broken_cycle)}
+    return explain_cycle(test, find_broken_cycle, explain_order_on_x86)
 
 
 def explain_by_interleaving(text: str, source: str) -> Reason:
@@ -72,7 +158,7 @@ def explain_by_interleaving(text: str, source: str) -> Reason:
     if schedules:
         steps = [rename_to_x86(it) for it in describe_steps(test, schedules[0])]
         return {"kind": "run", "steps": steps, "schedule": make_x86_schedule(plain.read_test(text), schedules[0])}
-    return {"kind": "cycle", "events": find_shortest_cycle(plain.read_test(text), executions.Execution.find_cycle)}
+    return explain_cycle(plain.read_test(source), executions.Execution.find_cycle, explain_in_turns)
 
 
 def make_x86_schedule(test: plain.Test, schedule: str) -> str:

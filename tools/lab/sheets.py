@@ -18,18 +18,20 @@ table { border-collapse: collapse; margin: .6em 0; break-inside: avoid }
 th, td { border: 1px solid #888; padding: .25em .6em; text-align: left; vertical-align: top }
 .sheet table { width: 100% }
 .sheet td:empty { height: 1.7em; min-width: 4em }
-.sheet th.wide { width: 60% }
-.item { padding-left: 1.6em; text-indent: -1.6em; break-after: avoid }
-.tests { display: flex; flex-wrap: wrap; gap: .6em }
+.sheet th.wide { width: 56% } .sheet th.wide + th { min-width: 6.2em }
+.unit { break-inside: avoid } .item { padding-left: 1.6em; text-indent: -1.6em; break-after: avoid }
+.tests { display: flex; flex-wrap: wrap; gap: .6em; break-inside: avoid; break-after: avoid }
 .tests figure { border: 1px solid #888; padding: .3em .7em; margin: 0; break-inside: avoid; font-size: .9em; max-width: 100%; box-sizing: border-box }
 .tests figcaption { font: bold 1em sans-serif }
 .answer { height: 3.2em; border-bottom: 1px dotted #888; margin: 0 0 .8em 1.6em }
+.address { display: none } .address span { flex: 1; border-bottom: 1px solid #888; overflow-wrap: anywhere }
 .who { display: flex; gap: 2em; font-family: sans-serif } .who span { flex: 1; border-bottom: 1px solid #888 }
 .card { page: card; font: 9pt/1.25 Georgia, "DejaVu Serif", serif; max-width: 62em } .card h1 { margin: 0; font-size: 1.5em }
 .card h2 { margin: .6em 0 0; font-size: 1.2em } .card p { margin: .3em 0 } .card td, .card th { padding: .1em .5em }
 .card pre { white-space: pre-wrap } .card table { break-inside: auto }
-.new-page { break-before: page }
+.task { break-inside: avoid } .new-page { break-before: page }
 @media print {
+  .address { display: flex; gap: .6em } a { color: inherit; text-decoration: none } p { orphans: 3; widows: 3 }
   body { margin: 0; padding: 0; max-width: none; font-size: 10.5pt; line-height: 1.3 } .screen { display: none } pre { white-space: pre-wrap }
   h1 { margin: .3em 0; font-size: 1.5em } .sheet p { margin: .45em 0 } .tests { gap: .4em } .tests figure { padding: .15em .5em; font-size: .82em }
   .answer { height: 2.4em; margin-bottom: .5em } h3 { margin-top: 1em; padding-top: .4em } .sheet td:empty { height: 1.6em }
@@ -42,8 +44,18 @@ th, td { border: 1px solid #888; padding: .25em .6em; text-align: left; vertical
 @page { margin: 16mm } @page card { margin: 10mm }
 """
 TITLE = "What can this program do?"
-# The sheet's sentence on the tests' files, up to the words on a link.
+# The sheet's sentence on the tests' files, up to the words on a link; and these words, which are left out on paper, as HTML.
 FILES = "The tests are files in `tests`, and *open* "
+ON_LINKS = re.compile(r"(, and <em>open|<em>Open)</em> beside a test opens it .*?(?=\.)")
+# The line of the sheet's address on paper: a sheet that is opened from a server prints it, and on any other it is written by hand.
+ADDRESS = '<p class="address">This sheet in a browser: <span id="address"></span></p>\n'
+SCRIPT = """<script>
+if (location.protocol.startsWith("http")) document.getElementById("address").textContent = location.origin + location.pathname;
+</script>
+"""
+# What an item asks for that needs several lines, and how many lines it gets; any other has one.
+ASKS_FOR_ROOM = re.compile(r"Write down (?:the schedules|all)|Draw ")
+ROOMY_LINES = 5
 # Links from the sheet of a site to its other documents, on a screen.
 BEGIN_WITH = "Begin with the sheet: it has the tasks in their order. Write down what you expect of a test before you look at its list."
 WAY_BACK = '<p class="screen"><a href="index.html" target="lw">lw</a> · <a href="tutorial.html">Tutorial</a> · <a href="card.html">Syntax</a></p>\n'
@@ -52,6 +64,8 @@ WHO = '<p class="who"><span>Name:</span> <span>Group:</span> <span>Points:</span
 WHY = "<th>why</th>"
 # A line that names tests, to be played by hand or not.
 TESTS = re.compile(r"Tests( by hand)?: (.*)")
+# What is between the tests of two lines, of which the second follows the first: they are side by side.
+BETWEEN_TESTS = '</div>\n<div class="tests">\n'
 # The documents to which a sheet has links, besides tests.
 GIVEN_OUT = {"CARD.md": "card.html"}
 # The place of a picture of docs/, and the largest number of letters of a document that is a card.
@@ -96,19 +110,28 @@ class Sheet(markdown.Renderer):
                 render_test(it, self.tests[it], self.site, bool(match[1])) for it in names
             ) + "</div>\n"
         html = super().render_block(kind, lines).replace(WHY, WHY.replace("<th>", '<th class="wide">'))
-        if kind == "heading" and any(it in lines[0] for it in ON_NEW_PAGES):
-            return html.replace("<h3>", '<h3 class="new-page">')
-        return html
+        if kind == "heading" and html.startswith("<h3>"):
+            new_page = " new-page" if any(it in lines[0] for it in ON_NEW_PAGES) else ""
+            return f'</section>\n<section class="task{new_page}">\n{html}'
+        return ON_LINKS.sub(r'<span class="screen">\g<0></span>', html) if kind == "paragraph" else html
 
     def render_body(self, text: str) -> str:
-        """Returns the sheet's text as HTML."""
+        """Returns the sheet's text as HTML. The tests of lines that follow each other are side by side. Paper breaks between two tasks rather than
+        within one, and never within an item: that is its words and its table or its room.
+        """
         parts, blocks = [], list(markdown.split_blocks(text))
         for index, (kind, lines) in enumerate(blocks):
-            parts.append(self.render_block(kind, lines))
+            html = self.render_block(kind, lines)
             has_table = blocks[index + 1 : index + 2] and blocks[index + 1][0] == "table"
-            if kind == "item" and lines[0][0].isdigit() and not has_table:
-                parts.append('<div class="answer"></div>\n')
-        return WHO + "".join(parts)
+            if kind == "item" and lines[0][0].isdigit():
+                html = f'<div class="unit">\n{html}' + ("" if has_table else f"{make_room(lines)}</div>\n")
+            parts.append(html + "</div>\n" if kind == "table" else html)
+        return WHO + ADDRESS + "<section>\n" + "".join(parts).replace(BETWEEN_TESTS, "") + "</section>\n" + SCRIPT
+
+
+def make_room(lines: list[str]) -> str:
+    """Returns the room for the answer to an item: dotted lines."""
+    return '<div class="answer"></div>\n' * (ROOMY_LINES if ASKS_FOR_ROOM.search(markdown.join_lines(lines)) else 1)
 
 
 def make_sheet(lab: str, tests: dict[str, str], site: str | None, is_of_site: bool = False) -> str:

@@ -1,8 +1,8 @@
 """Makes the slides of the introduction: the words on each, and the pictures from the program's answers.
 
 A test has its name from the sheet of docs/LAB.md; one more test has its name here. Each picture and each list names in the page its
-test and its schedule, so that a check can ask the program again. Code has the page's colours, also in pictures: what the last event has
-changed there is underlined, and what it has read is slanted.
+test and its schedule, so that a check can ask the program again. The machine is drawn as on the page, and code has the page's colours, also in words
+between backquotes: what the last event has changed has a frame, and what it has read another one.
 """
 from __future__ import annotations
 
@@ -16,7 +16,7 @@ import films
 import graph
 import picture
 import plain
-from lab import tints
+from lab import machine, tints
 from lab.tests import list_examples, neutralize, read_file
 
 MORE_TESTS = {"A1-turns": "SB"}
@@ -26,6 +26,8 @@ DARK = "@media (prefers-color-scheme: dark)"
 # A text of a picture, its kind and its words; and the kinds that have no colours: code that is done, and the names of relations.
 TEXT = re.compile(r'<text ([^>]*?)(?: class="([\w ]+)")?>([^<]*)</text>')
 UNTINTED = ("faint", "relation")
+# The name of a thread in words.
+THREAD_NAME = re.compile(r"\bP(\d)\b")
 
 
 class Words(NamedTuple):
@@ -71,10 +73,15 @@ Slide = Tuple[str, List[Part]]
 
 # Up to the prediction, up to the tasks by hand, and after the tasks: so docs/LAB.md has them.
 SLIDES: list[Slide] = [
+    ("What can this program do?", [
+        Words("Two threads, one memory, and what a processor makes of them."),
+        Words("An introduction to litmus tests and x86-TSO"),
+        Note("Leave this on while the class comes in."),
+    ]),
     ("Two threads, two flags", [
         Code("A1"),
         Words("Each thread raises its own flag, and then looks at the other's. Can both miss the other's flag?"),
-        Words("MOV [x],$1 stores 1 to x. MOV EAX,[y] loads y into the register EAX. All begins with 0."),
+        Words("`MOV [x],$1` stores 1 to `x`. `MOV EAX,[y]` loads `y` into the register `EAX`. All begins with 0."),
         Note("Let somebody answer before the next slide. Most say no, and can say why."),
     ]),
     ("Interleaving: the threads take turns", [
@@ -95,21 +102,21 @@ SLIDES: list[Slide] = [
     ]),
     ("A store waits", [
         Film("Slip", "P0"),
-        Words("P0 has done its store. It is in P0's store buffer, and memory still has x=0."),
+        Words("P0 has done its store. It is in P0's store buffer, and memory still has `x=0`."),
         Note("The test is one that no task is about. A buffer is a row of slips, as on the sheet."),
     ]),
     ("Others find the old word", [
         Film("Slip", "P0 P1"),
-        Words("P1 loads x, and asks memory: it finds 0. It can't look into P0's buffer. P0 itself would find its own store."),
+        Words("P1 loads `x`, and asks memory: it finds 0. It can't look into P0's buffer. P0 itself would find its own store."),
         Note("Ask what P0 would load, and what P1. Task 4 comes back to it."),
     ]),
     ("A drain", [
         Film("Slip", "P0 P1 D0"),
-        Words("D0 is a drain: the oldest entry of P0's store buffer goes to memory. From now on all find x=1."),
+        Words("`D0` is a drain: the oldest entry of P0's store buffer goes to memory. From now on all find `x=1`."),
         Note("A drain comes at any time: the processor decides, not the program."),
     ]),
     ("Now by hand", [
-        Words("P0 is the next instruction of P0, D0 a drain of its store buffer. A row of these is a schedule."),
+        Words("`P0` is the next instruction of P0, `D0` a drain of its store buffer. A row of these is a schedule."),
         Words("A run ends when all threads are at their ends, and all buffers are empty."),
         Words("Task 2, in groups of four: two processors, one memory, and one who writes the schedule."),
         Note("Say nothing of what can happen: tasks 2 to 4 ask for it."),
@@ -118,7 +125,7 @@ SLIDES: list[Slide] = [
         States("A1"),
         Words("Sometimes: the end that we ask about is one of the four states."),
         Words("One state more than by interleaving. The program lists all states and no others; that is proved."),
-        Note("After the tasks. Compare with slide 3."),
+        Note("After the tasks. Compare with slide 4."),
     ]),
     ("Both loads before both drains", [
         Film("A1", "P0 P0 P1 P1"),
@@ -175,28 +182,22 @@ def embed_picture(svg: str, text: str) -> str:
     return tint_picture(re.sub(r'<svg xmlns="[^"]*" width="[^"]*" height="[^"]*"', "<svg", bare, count=1), text)
 
 
-def make_figure(part: Film | Graph, kind: str, svg: str, text: bytes) -> str:
+def make_figure(part: Film | Graph, kind: str, html: str) -> str:
     """Returns a picture of a run of a test as a figure, with attributes that name its kind, its test and its schedule for checks."""
-    attributes = f'data-kind="{kind}" data-test="{part.test}" data-schedule="{part.schedule}"'
-    return f"<figure {attributes}>{embed_picture(svg, text.decode())}</figure>\n"
+    return f'<figure data-kind="{kind}" data-test="{part.test}" data-schedule="{part.schedule}">{html}</figure>\n'
 
 
 def draw_film(part: Film, text: bytes) -> str:
-    """Returns a picture of a film's end, without caches: what memory answers is all that is said of memory."""
+    """Returns the machine at a film's end, without caches: what memory answers is all that is said of memory."""
     film = films.make_film(text, part.schedule, "mesi")
-    for state in film["states"]:
-        state["memory"] = state["content"]
-        for thread in state["threads"]:
-            if "lines" in thread:
-                thread["lines"] = []
-    return make_figure(part, "state", picture.draw_film_state(film, len(film["events"])).replace(">content<", ">memory<"), text)
+    return make_figure(part, "state", machine.Machine(film, len(film["events"]), text.decode()).render())
 
 
 def draw_graph(part: Graph, text: bytes) -> str:
     """Returns a picture of an execution."""
     test = plain.compile_test(plain.read_test(text.decode()))
     drawn = graph.draw_execution(executions.make_execution(test, part.schedule), f"{part.test}, the execution of {part.schedule}")
-    return make_figure(part, "graph", drawn, text)
+    return make_figure(part, "graph", embed_picture(drawn, text.decode()))
 
 
 def shorten_report(report: str) -> str:
@@ -207,10 +208,17 @@ def shorten_report(report: str) -> str:
     return "".join([f"{len(states)} final states\n", *states])
 
 
-def render_part(part: Part, tests: dict[str, bytes]) -> str:
-    """Returns a part of a slide."""
+def render_words(words: str, locations: tints.Tints) -> str:
+    """Returns words as HTML: code between backquotes is in the colours of a test's locations, and so are the names of threads."""
+    parts = words.split("`")
+    render_plain = lambda it: THREAD_NAME.sub(r'<b class="thr-\1">\g<0></b>', escape(it, quote=False))
+    return "".join(f"<code>{tints.render_code(it, locations, None)}</code>" if at % 2 else render_plain(it) for at, it in enumerate(parts))
+
+
+def render_part(part: Part, tests: dict[str, bytes], locations: tints.Tints) -> str:
+    """Returns a part of a slide, of whose test the locations have colours."""
     if isinstance(part, Words):
-        return f"<p>{escape(part.text, quote=False)}</p>\n"
+        return f"<p>{render_words(part.text, locations)}</p>\n"
     if isinstance(part, Note):
         return f'<aside>{escape(part.text, quote=False)}</aside>\n'
     text = tests[part.test]
@@ -238,7 +246,14 @@ def make_page_link(parts: list[Part], tests: dict[str, bytes], page: str) -> str
     return f'<a class="open" target="lw" href="{escape(page)}#{escape(urlencode(view))}">Open it on the page</a>\n'
 
 
+def find_locations(parts: list[Part], tests: dict[str, bytes]) -> tints.Tints:
+    """Returns the colours of the locations of the test that a slide shows; none if it shows none."""
+    names = [it.test for it in parts if not isinstance(it, (Words, Note))]
+    return tints.find_tints(tests[names[0]].decode()) if names else {}
+
+
 def render_slides(page: str) -> list[tuple[str, str]]:
     """Returns, for each slide, its title and its HTML, with links to the page at an address, if that is not empty."""
     tests = read_texts()
-    return [(title, make_page_link(parts, tests, page) + "".join(render_part(part, tests) for part in parts)) for title, parts in SLIDES]
+    render_all = lambda parts: "".join(render_part(part, tests, find_locations(parts, tests)) for part in parts)
+    return [(title, make_page_link(parts, tests, page) + render_all(parts)) for title, parts in SLIDES]

@@ -9,7 +9,7 @@ from html import escape
 from typing import Dict
 
 import plain
-from lab.tests import read_file
+from lab.tests import NoLab, read_file
 
 # The number of colours of locations, and the locations that have the same colour in every test.
 COLOURS = 8
@@ -22,6 +22,8 @@ QUESTION = ("exists", "forall", "locations", "filter")
 # A colour of a thread or of a location in web/style.css: its kind, its number, and how it is in light and in dark.
 COLOUR = re.compile(r"--([tl])(\d): light-dark\((#\w+), (#\w+)\);")
 KINDS = {"t": "thr", "l": "loc"}
+# The colours of the page, by light and by dark: the first rules of its style sheet.
+COLOUR_RULES = re.compile(r":root \{.*?\n\}\n:root\[data-theme=\"light\"\].*?\n:root\[data-theme=\"dark\"\].*?\n", re.S)
 
 # For each name of a location the number of its colour.
 Tints = Dict[str, int]
@@ -84,6 +86,14 @@ def render_states(lines: str, text: str) -> str:
     """Returns lines of the report on a test as HTML, in which the sites of states are in colours."""
     tints = find_tints(text)
     return "".join(render_code(it, tints, None) if it.endswith(";\n") else escape(it, quote=False) for it in lines.splitlines(keepends=True))
+
+
+def read_colour_rules() -> str:
+    """Returns the rules of web/style.css that name the page's colours. Raises NoLab if it does not begin with them."""
+    match = COLOUR_RULES.search(read_file("web/style.css"))
+    if match is None:
+        raise NoLab("web/style.css does not begin with the colours by light and by dark")
+    return match[0]
 
 
 def list_colours() -> list[tuple[str, str, str]]:
