@@ -69,7 +69,6 @@ Commands run in parallel, then most checks of single tools, and then, one after 
 from __future__ import annotations
 
 import glob
-import multiprocessing
 import os
 import re
 import select
@@ -78,7 +77,7 @@ import sys
 import tempfile
 import time
 from collections.abc import Callable, Iterable, Iterator, Sequence
-from concurrent.futures import ProcessPoolExecutor, ThreadPoolExecutor
+from concurrent.futures import ThreadPoolExecutor
 from functools import partial
 from random import Random
 from typing import Any, Tuple
@@ -90,7 +89,7 @@ import random_tests
 from documents import believe, make_pages, make_readmes, make_times, measure_lists, semantic_core
 from gate import (
     cases, check_beyond, check_build, check_card, check_edits, check_graph, check_lab, check_lemmas, check_library, check_many, check_names,
-    check_pack, check_page, check_quiz, check_site, check_slides, check_tables, check_wings, proof_layout, test_answers, test_assume,
+    check_pack, check_page, check_quiz, check_site, check_slides, check_tables, check_wings, processes, proof_layout, test_answers, test_assume,
     test_build, test_commands, test_completion, test_editor, test_fences, test_free_names, test_from_c, test_herd, test_machine_parts, test_names,
     test_on_machine, test_original, test_packages, test_plain, test_python, test_replay_state, test_run_all, test_seen_here, test_shapes, test_types,
     test_wings,
@@ -734,19 +733,6 @@ def list_tool_checks() -> list[Callable[[], Iterator[Comparison]]]:
     return [*(partial(cases.make_comparisons, it) for it in tested), check_graph.make_comparisons, check_slides.make_comparisons]
 
 
-def run_tool_check(index: int) -> list[Comparison]:
-    """Returns the comparisons of a check of `list_tool_checks`."""
-    return list(list_tool_checks()[index]())
-
-
-def run_tool_checks() -> Iterator[Comparison]:
-    """Runs the checks of single tools in processes of their own, as many at once as there are processors, and yields their comparisons."""
-    count = len(list_tool_checks())
-    with ProcessPoolExecutor(len(os.sched_getaffinity(0)), multiprocessing.get_context("fork")) as pool:
-        for compared in pool.map(run_tool_check, range(count)):
-            yield from compared
-
-
 def list_last_checks() -> Iterator[Iterator[Comparison]]:
     """Yields the checks for which it matters how long things take: they run one after another, when all others have ended."""
     yield cases.make_comparisons(test_completion)
@@ -772,7 +758,7 @@ def make_comparisons(is_quick: bool) -> Iterator[Comparison]:
         for compared in pool.map(lambda check: list(check[0](*check[1:])), list_checks()):
             yield from compared
     if not is_quick:
-        yield from run_tool_checks()
+        yield from processes.run_checks(list_tool_checks())
         for last in list_last_checks():
             yield from last
 

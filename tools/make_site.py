@@ -35,7 +35,7 @@ from typing import Dict
 sys.dont_write_bytecode = True
 import make_quiz
 import make_slides
-from lab import quiz
+from lab import quiz, tints
 from page import documents, letters, origin, web_files
 from shared import command, start
 from shared.literal import format_literal
@@ -58,8 +58,6 @@ STYLE_PROPERTY = re.compile(r"(?<![\w-])--[a-z][\w-]*")
 STYLE_SPARE = re.compile(r"(?<=[:,]) +| *([>/]) *|(?<=\)) (\*) (?=[\d.])|(?<![\w.])0(?=\.\d)|;(?=\})| +(?=!important)")
 STYLE_ELEMENT = re.compile(r"::(?=(?:before|after)\b)")
 EXPORT = re.compile(r"^export ((?:async )?(?:function\*?|class|const) (\w+))", re.M)
-# The colours of the page, by light and by dark: the first rules of its style sheet.
-COLOURS = re.compile(r":root \{.*?\n\}\n:root\[data-theme=\"light\"\].*?\n:root\[data-theme=\"dark\"\].*?\n", re.S)
 # The style sheets of the page: that which browsers wait for, and that which is packed with the page's code.
 STYLES = ("style.css", "views.css")
 # The module of the hints on faults, and what it exports.
@@ -358,7 +356,7 @@ def make_documents(web: str, about: origin.About, slides: str | None) -> Files:
     """Returns the documents of a site, with their style and their script, the quizzes, and the slides if there are some: for each file its text.
     Raises NoSite if web/style.css has another form.
     """
-    match = COLOURS.search(read_source("style.css", web))
+    match = tints.COLOUR_RULES.search(read_source("style.css", web))
     if match is None:
         raise NoSite("web/style.css does not begin with the colours by light and by dark")
     style = shorten_style(match[0] + read_source(documents.STYLE, web))

@@ -30,10 +30,12 @@ import time
 import traceback
 from collections.abc import Callable, Iterable, Iterator, Mapping, Sequence
 from concurrent.futures import ThreadPoolExecutor
+from functools import partial
 from typing import Any, Dict, List, Optional, Tuple, TypedDict, Union
 
 import effects
 import picture
+from gate import processes
 from gate.browser import page_case, subjects, user
 from gate.cases import Comparison
 from page import web_files, web_runs
@@ -780,13 +782,12 @@ def check_by_browser() -> Iterator[Comparison]:
         if os.environ.get("CI") == "true":
             yield name_comparison(("there is a browser where CI=true", "", describe_skipped()))
         return
-    for check in (check_browser, check_browser_by_server, check_browser_misbehaving):
-        yield from run_check(check)
+    yield from processes.run_checks([partial(run_check, it) for it in (check_browser, check_browser_by_server, check_browser_misbehaving)])
 
 
 def check_browser() -> Iterator[Comparison]:
     """Yields the comparisons in a browser of a page whose server has the module."""
-    yield from try_subjects(Page(), (*subjects.ALL, *subjects.OF_SERVER), "in a browser")
+    yield from try_subjects(Page(), subjects.WITH_SERVER, "in a browser")
 
 
 def check_browser_by_server() -> Iterator[Comparison]:
@@ -886,7 +887,7 @@ def describe_skipped() -> str | None:
     if user.is_installed():
         return None
     missing = "chromium, chromium-driver or python3-selenium is missing"
-    return f"./page: {page_case.count_tests(subjects.ALL)} tests in a browser were skipped: {missing}"
+    return f"./page: {page_case.count_tests(subjects.WITH_SERVER)} tests in a browser were skipped: {missing}"
 
 
 def main() -> int:

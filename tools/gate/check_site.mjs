@@ -18,8 +18,11 @@ import { isDeepStrictEqual, parseArgs } from "node:util";
 import { MessageChannel, Worker, receiveMessageOnPort } from "node:worker_threads";
 import { compareAssemblyTexts } from "./assembly_texts.mjs";
 import { compareCPrograms } from "./c_programs.mjs";
+import { compareConvertedPrograms } from "./converted_programs.mjs";
+import { comparePhrases } from "./phrases.mjs";
 import { comparePseudoTexts } from "./pseudo_texts.mjs";
 import { compareRustPrograms } from "./rust_programs.mjs";
+import { SLOWEST, measure } from "./typed_texts.mjs";
 
 const HOME = path.dirname(path.dirname(path.dirname(fileURLToPath(import.meta.url))));
 const PROGRAM = `${HOME}/crates/lw/out/lw`;
@@ -352,7 +355,7 @@ async function compareText(page, program, plain, tally, name, text) {
 /** In a run to a state in which the condition holds, the threads read what an alternative of the condition in words says, in its order. */
 function compareCondition(page, tally, name, text, { films, state }) {
   const decoded = text.toString();
-  const words = page.condition_words.describeCondition(decoded);
+  const words = page.condition_words.describeCondition(decoded)?.words;
   const { isAsked } = page.condition_words.parseQuestion(decoded);
   if (!words || !films.x86 || /^\s*\(?\*?.*forall/ms.test(decoded) || !isAsked(state)) return;
   const isRead = ([, thread, listed]) => {
@@ -630,8 +633,8 @@ function compareFinding(page, tally, families) {
   };
   tally.compare("full names, and what readers call them", Object.values(fullNames), Object.keys(fullNames).map(first));
   const notes = (text) => page.finding.listNotes(text).length;
-  tally.compare("notes on what the format has not", [1, 1, 1, 1, 1, 1, 1, 0],
-    ["CAS", "deadlock", "volatile flag", "nontemporal", "herd", "c11", "AT&T", "MP"].map(notes));
+  tally.compare("notes on what the format has not", [1, 1, 1, 1, 1, 1, 1, 1, 1, 1, 0],
+    ["CAS", "deadlock", "volatile flag", "nontemporal", "herd", "c11", "AT&T", "ABA", "shared_ptr", "litmus", "MP"].map(notes));
   const near = ["MFENC", "JZ", "MVO", "INC", "MFENCE"].map((it) => page.nearest.findNearest(it, ["MOV", "JE", "JNE", "MFENCE", "ADD"]));
   tally.compare("the nearest words", ["MFENCE", "JE", "MOV", null, null], near);
 }
@@ -639,7 +642,8 @@ function compareFinding(page, tally, families) {
 const FOUND = [
   ["MP", ["MP", "MP-x86"]], ["sb-x86", ["SB-x86"]], ["mutex", ["SpinLock", "SpinLock-x86", "Peterson", "Peterson-x86"]], ["CAS", ["TryLock", "Consensus"]], ["mpsc", ["ProducerQueue"]], ["spsc", ["SpscRing"]], ["lock", ["TryLock", "SpinLock"]],
   ["spin", ["SpinLock", "SpinLock-x86"]], ["fence", ["HazardPointer+fences-x86", "SB+own+mfences-x86"]], ["queue", ["QueueLock", "ProducerQueue"]],
-  ["jump", ["SB+join", "SB+join-x86"]], ["publication early x86", ["Publication+early-x86"]],
+  ["jump", ["SB+join", "SB+join-x86"]], ["futex", ["Wakeup", "Wakeup-x86"]], ["ABA", ["HazardPointer", "HazardPointer-x86"]], ["refcount", ["Counter", "Counter-x86"]],
+  ["shared_ptr", ["Counter", "Counter-x86"]], ["channel", ["SpscRing", "SpscRing-x86"]], ["once", ["DoubleChecked"]], ["publication early x86", ["Publication+early-x86"]],
 ];
 
 /** Compares the page's words on slips in a test that lw takes. */
@@ -727,10 +731,10 @@ function compareMendedTexts(page, program, tally) {
       const asked = (text.slice(0, place) + long + text.slice(place)).replaceAll("@", "");
       const fault = findFault(asked);
       if (!fault) continue;
-      const begin = performance.now();
-      page.faults.explainFault(fault, asked);
-      page.faults.explainMissingRowEnd(fault, asked);
-      const time = performance.now() - begin;
+      const time = measure(() => {
+        page.faults.explainFault(fault, asked);
+        page.faults.explainMissingRowEnd(fault, asked);
+      });
       tally.compare(`a hint takes no long time: ${JSON.stringify([text.slice(place - 9, place + 9), long.slice(0, 9)])}`, true, time < SLOWEST || time);
     }
   }
@@ -764,19 +768,19 @@ const MENDED_TEXTS = [
     "SRC A\n{}\n P0 ;\n r1 := 2 ;\n r0 := fetchadd x r1 ;\nexists (x=2)\n"],
   ["X86 A\n{}\n P0 ;\n mov [x],1\nexists x=1 & x=1\n", "This row has no `;` at its end.", "X86 A\n{}\n P0 ;\n mov [x],1 ;\nexists x=1 /\\ x=1\n"],
   ["P0: x=1; r1=y\nP1: y=1; r2=x\n", "This is pseudo code: each assignment is one load or one store. The question is a guess",
-    `X86 Mine\n{}\n${ROWS.replace(/EAX(?=.*\|)/, "EBX").replace("| MOV EAX", "| MOV ECX").replace("P0 | P1 ;", "P0          | P1          ;").replace("$1 |", "$1  |").replace("$1 ;", "$1  ;")}exists (0:EBX=0 /\\ 1:ECX=0)\n`],
+    `X86 Mine\n(* 0:EBX is r1, 1:ECX is r2 *)\n{}\n${ROWS.replace(/EAX(?=.*\|)/, "EBX").replace("| MOV EAX", "| MOV ECX").replace("P0 | P1 ;", "P0          | P1          ;").replace("$1 |", "$1  |").replace("$1 ;", "$1  ;")}exists (0:EBX=0 /\\ 1:ECX=0)\n`],
   ["Initially x = y = 2\n\nThread 1      Thread 2\nx = 1         fence\ny = 1         a = x\n\nexists (a = 2)\n", "`a` is `r0` (`EAX`) of P1.",
-    "X86 Mine\n{ x=2; y=2; }\n P0         | P1          ;\n MOV [x],$1 | MFENCE      ;\n MOV [y],$1 | MOV EAX,[x] ;\nexists (1:EAX = 2)\n"],
+    "X86 Mine\n(* 1:EAX is a *)\n{ x=2; y=2; }\n P0         | P1          ;\n MOV [x],$1 | MFENCE      ;\n MOV [y],$1 | MOV EAX,[x] ;\nexists (1:EAX = 2)\n"],
   ["x = 1 || x = 2\n", "This is pseudo code", "X86 Mine\n{}\n P0         | P1         ;\n MOV [x],$1 | MOV [x],$2 ;\nlocations [x;]\nexists (true)\n"],
   ["SRC MP\n{}\nP0:\n x := 1\nP1:\n r0 := x\nexists (1:r0=1)\n", "This is pseudo code", "SRC MP\n{}\n P0     | P1      ;\n x := 1 | r0 := x ;\nexists (1:r0=1)\n"],
   ["P0: x = y\nP1: y = x\n", "This is pseudo code: each access of a name",
     "X86 Mine\n{ x=0; y=0; }\n P0          | P1          ;\n MOV EAX,[y] | MOV EAX,[x] ;\n MOV [x],EAX | MOV [y],EAX ;\nlocations [x; y]\nexists (true)\n"],
   ["CPU 1    CPU 2\n======== ========\nx = 1;   r1 = y;\n", "This is pseudo code",
-    "X86 Mine\n{}\n P0         | P1          ;\n MOV [x],$1 | MOV EBX,[y] ;\nexists (1:EBX=0)\n"],
+    "X86 Mine\n(* 1:EBX is r1 *)\n{}\n P0         | P1          ;\n MOV [x],$1 | MOV EBX,[y] ;\nexists (1:EBX=0)\n"],
   ["initially x = y = 0\nThread 1:\n x := 1\n mfence\n r1 := y\nThread 2:\n y := 1\n mfence\n r2 := x\nexists r1 = 0 and r2 = 0\n", "This is pseudo code",
-    "X86 Mine\n{ x=0; y=0; }\n P0          | P1          ;\n MOV [x],$1  | MOV [y],$1  ;\n MFENCE      | MFENCE      ;\n MOV EBX,[y] | MOV ECX,[x] ;\nexists 0:EBX = 0 /\\ 1:ECX = 0\n"],
+    "X86 Mine\n(* 0:EBX is r1, 1:ECX is r2 *)\n{ x=0; y=0; }\n P0          | P1          ;\n MOV [x],$1  | MOV [y],$1  ;\n MFENCE      | MFENCE      ;\n MOV EBX,[y] | MOV ECX,[x] ;\nexists 0:EBX = 0 /\\ 1:ECX = 0\n"],
   ["P0 | P1\nx = 1 | r1 = y\ny = 1 | r2 = x\n", "This is pseudo code",
-    "X86 Mine\n{}\n P0         | P1          ;\n MOV [x],$1 | MOV EBX,[y] ;\n MOV [y],$1 | MOV ECX,[x] ;\nexists (~1:EBX=0 /\\ 1:ECX=0)\n"],
+    "X86 Mine\n(* 1:EBX is r1, 1:ECX is r2 *)\n{}\n P0         | P1          ;\n MOV [x],$1 | MOV EBX,[y] ;\n MOV [y],$1 | MOV ECX,[x] ;\nexists (~1:EBX=0 /\\ 1:ECX=0)\n"],
   ["X86 A\n{}\n P0 ;\n MOV [y],XMM0 ;\nexists (y=1)\n", "`XMM0` is no register of lw", null],
   ["X86 A\n{}\n P0 ;\n MOV [y],true ;\nexists (y=1)\n", "`true` is no register", null],
   ["SRC A\n{}\n P0 ;\n lock(m) ;\nexists (m=1)\n", "A statement is `x := 1`", null],
@@ -789,7 +793,6 @@ const LONG_PLACES = [
   "@foo:@\n@  mov@ DWORD PTR x[@rip], 1@\n  mov eax, DWORD PTR y[rip]\n@  ret\nbar():\n  movl @$1, y(%rip)\n  ret\n@",
 ];
 const LONG = [" ".repeat(40000), "a".repeat(40000), "\n".repeat(40000), ";".repeat(40000), "mov eax, 1\n".repeat(4000), "| ".repeat(20000)];
-const SLOWEST = 2000;
 
 /** Returns the indices of the first fault of a text and of its further faults, as the page names them, and the text that it proposes, or null. */
 async function findAllFaults(page, program, text) {
@@ -1098,7 +1101,7 @@ function compareTyped(page, program, tally) {
 const BY_TURNS = "by interleaving, in which the threads take turns,";
 // Of examples the question, whether the answer is yes, the state that shows it, and the verdict: its kind, its word and its sentence.
 const VERDICTS = [
-  ["SB", `Can a run ${BY_TURNS} end this way`, false, null, "no", "Forbidden.",
+  ["SB", `Can a run ${BY_TURNS} end this way`, false, null, "cannot", "Forbidden.",
     "There is no run by interleaving in which P0 reads `y=0` and P1 reads `x=0`."],
   ["SB-x86", "Can a run on x86-TSO end this way", true, 0, "can", "Allowed.", "There is a run in which P0 reads `y=0` and P1 reads `x=0`."],
   ["MP-x86", "Can a run on x86-TSO end this way", false, null, "yes", "Forbidden.", "There is no run in which P1 reads `y=1`, then `x=0`."],
@@ -1176,6 +1179,8 @@ async function main() {
   await compareAssemblyTexts((...compared) => tally.compare(...compared));
   await comparePseudoTexts((...compared) => tally.compare(...compared));
   await compareRustPrograms((...compared) => tally.compare(...compared));
+  await comparePhrases((...compared) => tally.compare(...compared));
+  await compareConvertedPrograms((...compared) => tally.compare(...compared));
   await compareFurtherFaults(page, program, tally, texts);
   if (!chosen.length) compareFinding(page, tally, familiesOfPage());
   if (!chosen.length) compareTyped(page, program, tally);

@@ -37,7 +37,7 @@ from unittest import mock
 import make_site
 import make_slides
 import plain
-from gate import check_library, check_page, check_slides, firefox
+from gate import check_library, check_page, check_slides, firefox, processes
 from gate.browser import graphs, lists, page_case, reading, subjects
 from gate.browser.page_case import PageCase
 from gate.browser.user import Start, User, list_browsers, is_installed
@@ -46,7 +46,7 @@ from lab import markdown
 from lab.tests import read_file
 from page import answers, commands, documents, letters, origin, web_files
 from page.condition_words import describe_verdict
-from replay_state import parse_replay_state
+from replay_state import State, parse_replay_state
 from shared import command
 from shared.home import HOME, close_check
 from shared.matches import require_match
@@ -66,6 +66,8 @@ MADE: tuple[tuple[str, str, dict[str, str]], ...] = (
     ("sed '/^ r0 := y/d' examples/SB+unwritten.litmus", "python3 tools/fences.py --everything", {"view": "fences"}),
     ("printf 'SRC Mine\\n{}\\n P0 ;\\n x = 1 ;\\nexists (x=1)\\n'", "./lw states", {}),
 )
+# A text of a picture: its kinds, and its words.
+TEXT = re.compile(r'<text [^>]*?(?: class="([\w -]+)")?>([^<]*)</text>')
 BUNDLED = {
     "main.js": 'import { two } from "./other.js";\nimport * as whole from "./other.js";\ntold.push(two(), whole.one, typeof site);\n',
     "other.js": "/** One. */\nexport const one = 1;\n\nexport function two() {\n  return one + 1;\n}\n",
@@ -216,6 +218,9 @@ def check_documents() -> Iterator[Comparison]:
     needed |= {documents.SLIDES} & set(texts)
     yield "a site has all to prepare the lab", needed, {it for it in re.findall(r'href="([^"#]*)"', preparation) if it in texts and it != "index.html"}
     yield "the preparation names no command", [], re.findall(r"python3|tools/\w+", preparation)
+    for_all = re.sub(r'<details class="shell">.*?</details>', "", texts["lab.html"], flags=re.S).partition('<h2 id="the-sheet">')[0]
+    for_all = for_all.partition('<h2 id="for-the-teacher">')[2]
+    yield "what is only for those who have the repository is folded in the lab", [], re.findall(r"python3|tools/\w+|\w+\.md\b|\./lw|a pack\b|is built", for_all)
     tutorial = texts["tutorial.html"]
     commands = re.findall(r'^(?:<pre[^>]*>)?<span class="command">\$ \./lw (?:states|replay|compile)\b[^|\n]*&lt; examples/', tutorial, re.M)
     yield "each command of the tutorial has a link", True, 40 < len(commands) <= tutorial.count('">▸ ')
@@ -253,8 +258,44 @@ def check_answers() -> Iterator[Comparison]:
                 replays += 1
                 state = parse_replay_state("".join(f"{it}\n" for it in output if not it.startswith("[status")))
                 shown = answers.draw_runs([(shell_command, output)], documents.make_page_link)
-                yield from check_slides.compare_state(f"the picture of {shell_command}", shown.partition("<svg")[2], state)
+                yield from compare_picture(f"the picture of {shell_command}", shown.partition("<svg")[2], state)
     yield "reports and replays of the tutorial are compared", (True, True), (reports > 8, replays > 4)
+
+
+def parse_picture(svg: str) -> tuple[list[list[str]], list[str] | None]:
+    """Returns the contents of a picture of one state: the texts and the entries of each thread, and the words of memory."""
+    threads: list[list[str]] = []
+    content: list[str] | None = None
+    for kind, text in TEXT.findall(check_slides.TINT_TAG.sub("", svg)):
+        if kind.startswith("title") and re.fullmatch(r"P\d", text):
+            threads.append([])
+        elif kind == "title" and text == "memory":
+            content = []
+        elif content is not None:
+            content.append(text)
+        else:
+            threads[-1].append(text)
+    return threads, content
+
+
+def find_buffer(words: list[str]) -> int:
+    """Returns the start of the store buffer in the shown text of a thread."""
+    return words.index("store buffer") if "store buffer" in words else len(words)
+
+
+def compare_picture(subject: str, svg: str, state: State) -> Iterator[Comparison]:
+    """Compares a picture of one state with the state that the program replays."""
+    threads, content = parse_picture(svg)
+    yield f"{subject}: the words of memory", check_slides.format_words(state["content"]), content
+    yield f"{subject}: its threads", len(state["threads"]), len(threads)
+    shown_words = [it for shown in threads for it in shown[: find_buffer(shown)]]
+    yield f"{subject}: registers are shown", True, any(re.fullmatch(r"\w+=\d+", it) for it in shown_words)
+    for number, (shown, thread_state) in enumerate(zip(threads, state["threads"])):
+        begin = find_buffer(shown)
+        registers = [it for it in shown[:begin] if re.fullmatch(r"\w+=\d+", it)]
+        yield f"{subject}: the registers of P{number}", [], sorted(set(registers) - set(check_slides.format_words(thread_state["registers"])))
+        entries = check_slides.format_words(thread_state.get("buffer", []))
+        yield f"{subject}: the store buffer of P{number}", entries or ["(empty)"], shown[begin + 1 :] or ["(empty)"]
 
 
 def check_condition_words() -> Iterator[Comparison]:
@@ -491,13 +532,19 @@ class Site(PageCase):
         self.assertSays(", in this browser as a WebAssembly module.", "#about-dialog p")
 
 
-def choose_subjects(site: str, browser: str) -> tuple[type[page_case.PageCase], ...]:
-    """Returns the subjects that are tried on a site: on one of files all, with all examples one after another in Chromium only; on one of one file
-    those that this form could break.
+def group_subjects(site: str, browser: str) -> Iterator[tuple[type[page_case.PageCase], ...]]:
+    """Yields the subjects that are tried on a site, in groups that can be tried side by side: on one of files all, but those that one browser
+    shows for all browsers in Chromium only, and those that need the processors for themselves; on one of one file those that this form could break.
     """
     if site != "a site":
-        return (Site, *subjects.OF_ONE_FILE)
-    return (Site, *reading.SUBJECTS, *subjects.ALL, *([lists.AllExamples, graphs.AllGraphs] if browser == "Chromium" else []))
+        yield (Site, *subjects.OF_ONE_FILE)
+        return
+    is_first = browser == "Chromium"
+    if is_first:
+        yield (lists.AllExamples,)
+        yield (graphs.AllGraphs,)
+    for group in ((Site,), reading.SUBJECTS, *(it.SUBJECTS for it in subjects.PARTS)):
+        yield tuple(it for it in group if it not in subjects.ALONE and (is_first or it not in subjects.OF_ONE_BROWSER))
 
 
 def make_sites(folder: str) -> dict[str, str]:
@@ -550,7 +597,7 @@ def check_without_hints(folder: str) -> Iterator[Comparison]:
 
 
 def check_by_browser() -> Iterator[Comparison]:
-    """Yields all comparisons in a browser, if there is one, and of the module."""
+    """Yields all comparisons in a browser, if there is one, and of the module. Browsers run side by side, as many as there are processors."""
     if not web_files.read_module():
         yield from report_missing("the module of the sources as they are")
     if not is_installed():
@@ -565,14 +612,29 @@ def check_by_browser() -> Iterator[Comparison]:
             yield "the site: the one file is small", True, os.path.getsize(f"{folder}/one.html") < MAX_BYTES
             loaded = sum(os.path.getsize(f"{folder}/site/{name}") for name in LOADED)
             yield f"the site: few bytes come before the first answer: {loaded}", True, loaded < MAX_LOADED_BYTES
+            compared = (
+                functools.partial(compare_in_browser, name, comparing, modules, cases, start) for name, start in list_browsers().items()
+            )
+            yield from processes.run_checks([*list_site_checks(folder, opened), *compared])
             for name, start in list_browsers().items():
-                in_browser = lambda it: ((f"in {name}, {subject}", expected, actual) for subject, expected, actual in it)
-                yield from in_browser(check_page.run_twice_if_needed(compare_module_answers, comparing, modules, cases, start))
-                for subject, address in opened.items():
-                    yield from check_page.run_check(page_case.make_comparisons, address, choose_subjects(subject, name), f"{subject}, in {name}", start)
-            if is_installed():
-                for check in (check_offline, check_without_hints):
-                    yield from check_page.run_twice_if_needed(check, f"{folder}/site")
+                yield from check_page.run_check(page_case.make_comparisons, opened["a site"], subjects.ALONE, f"a site, in {name}", start)
+
+
+def list_site_checks(folder: str, opened: dict[str, str]) -> Iterator[processes.Check]:
+    """Yields the checks of the sites in a folder, which are opened at their addresses, in each browser."""
+    for name, start in list_browsers().items():
+        for site, address in opened.items():
+            for group in group_subjects(site, name):
+                yield functools.partial(check_page.run_check, page_case.make_comparisons, address, group, f"{site}, in {name}", start)
+    if is_installed():
+        for check in (check_offline, check_without_hints):
+            yield functools.partial(check_page.run_twice_if_needed, check, f"{folder}/site")
+
+
+def compare_in_browser(name: str, *words: object) -> Iterator[Comparison]:
+    """Compares all answers of each module on each example, in the browser with a name."""
+    for subject, expected, actual in check_page.run_twice_if_needed(compare_module_answers, *words):
+        yield f"in {name}, {subject}", expected, actual
 
 
 # All of them.

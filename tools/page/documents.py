@@ -58,11 +58,13 @@ SHEET, SLIDES, QUIZ = "sheet.html", "slides.html", "quiz.html"
 # The quizzes of a site, by their seeds. Each has links to the others.
 QUIZZES = {"1": QUIZ, "2": "quiz-2.html", "3": "quiz-3.html"}
 # The heading of the lab below which a site says how to prepare the lab with what is on it, and the Markdown's own words there.
-PREPARATION = re.compile(r'(<h3 id="prepare-it-in-ten-minutes">.*?</h3>\n)<p>.*?</p>\n', re.S)
-# The documents in which commands are folded, and how a paragraph begins that is only for those who run them.
+PREPARATION = re.compile(r'(<h3 id="prepare-it-in-ten-minutes">.*?</h3>\n).*?(?=<h4)', re.S)
+# The documents in which commands are folded, and how paragraphs begin that are only for those who run them, or who have the repository: these
+# words are the summary of the fold.
 WALKS = ("tutorial.html", "solutions.html", "lab.html")
-SHELL = "*In a shell:* "
-FOLD = '<details class="shell"><summary>In a shell</summary>\n'
+FOLDED = re.compile(r"\*(In a shell|If you have the repository):\* ")
+FOLD = '<details class="shell"><summary>{summary}</summary>\n'
+SHELL_FOLD = FOLD.format(summary="In a shell")
 UNFOLD = "</details>\n"
 STYLE, SCRIPT = "reading.css", "reading.js"
 # The site's words on the links above commands, at the start of a document, and on the commands themselves, at its end.
@@ -121,7 +123,7 @@ class SiteRenderer(markdown.Renderer):
 
     def render_body(self, text: str) -> str:
         """Returns a text as HTML, in which items that follow each other are a list."""
-        html = super().render_body(text).replace(UNFOLD + FOLD, "")
+        html = super().render_body(text).replace(UNFOLD + SHELL_FOLD, "")
         html = re.sub(r"(?:<li>.*</li>\n)+", lambda it: f"<ul>\n{it[0]}</ul>\n", html)
         return re.sub(r'(?:<li value="\d+">.*</li>\n)+', lambda it: f"<ol>\n{it[0]}</ol>\n", html)
 
@@ -134,8 +136,8 @@ class SiteRenderer(markdown.Renderer):
             number, _, rest = markdown.join_lines(lines).partition(" ")
             value = "" if number == "-" else f' value="{number[:-1]}"'
             return f"<li{value}>{self.render_inline(rest)}</li>\n"
-        if kind == "paragraph" and self.is_walk and lines[0].startswith(SHELL):
-            return FOLD + super().render_block(kind, [lines[0][len(SHELL) :], *lines[1:]]) + UNFOLD
+        if kind == "paragraph" and self.is_walk and (fold := FOLDED.match(lines[0])):
+            return FOLD.format(summary=fold[1]) + super().render_block(kind, [lines[0][fold.end() :], *lines[1:]]) + UNFOLD
         html = super().render_block(kind, lines)
         is_on_commands = kind == "paragraph" and lines[0].startswith("`python3 tools/")
         return html.replace("<p>", '<p class="on-commands">', 1) if is_on_commands else html
@@ -172,7 +174,7 @@ class SiteRenderer(markdown.Renderer):
         views = [it for command, _ in runs for it in list_views(command)]
         if views and not shown:
             return make_links([make_page_link(escape(f"▸ {it.words}"), **it.fields) for it in views]) + self.render_lines(lines)
-        return shown + FOLD + self.render_lines(lines) + UNFOLD
+        return shown + SHELL_FOLD + self.render_lines(lines) + UNFOLD
 
     def render_picture(self, words: str, path: str) -> str:
         """Returns a picture of docs/ with its caption; nothing if it is drawn already."""
@@ -259,7 +261,7 @@ def make_preparation(has_slides: bool) -> str:
     slides = (
         f"{link(SLIDES, 'The slides')} are in the timetable below. The arrows, a click or the two buttons lead through them; N shows notes for you, and "
         "a link on a slide opens its test here."
-        if has_slides else "The slides are missing: this site was made without the built program, which they need. The repository makes them."
+        if has_slides else "The slides are missing: this site was made without the built program, which they need."
     )
     compared = make_page_link("the test SB beside the same test with fences", example="SB-x86", beside="SB+mfences-x86")
     steps = [
@@ -276,7 +278,7 @@ def make_preparation(has_slides: bool) -> str:
         "for those who want to read on.",
     ]
     items = "".join(f"<li>{it}</li>\n" for it in steps)
-    answers_note = f"This site has {link('solutions.html', 'the solutions')}, too. If your class shall not find them, make the folder below."
+    answers_note = f"This site has {link('solutions.html', 'the solutions')}, too. If your class shall not find them, give out the folder below."
     return f'<div class="note">\n<p>All that you need is on this site:</p>\n<ol>\n{items}</ol>\n<p>{answers_note}</p>\n</div>\n'
 
 

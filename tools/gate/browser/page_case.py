@@ -78,13 +78,23 @@ def make_comparisons(
     found.
     """
     with tempfile.TemporaryDirectory(prefix="lw-browser-") as room:
-        user = User(address, room, start)
+        user = start_user(address, room, start)
         try:
             for subject, expected, actual in try_tests(make_suite(subjects, user), where):
                 yield f"{where}, {subject}", expected, actual
             yield f"{where}, the browser complains of nothing", [], user.complaints()
         finally:
             user.driver.quit()
+
+
+def start_user(address: str, room: str, start: Start | None) -> User:
+    """Returns a user whose browser has started. One that does not start is started again, at most ATTEMPTS times in all."""
+    for attempt in range(1, ATTEMPTS):
+        try:
+            return User(address, tempfile.mkdtemp(dir=room), start)
+        except Exception as why:
+            print(f"a browser is started again, since at first: {why}", flush=True)
+    return User(address, room, start)
 
 
 def try_tests(suite: unittest.TestSuite, where: str) -> Iterator[Comparison]:
