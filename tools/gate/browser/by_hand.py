@@ -6,6 +6,7 @@ import statistics
 import sys
 from collections.abc import Iterator
 
+from gate.browser import pace
 from gate.browser.page_case import PageCase
 from gate.browser.user import User, read, run
 from shared.home import HOME
@@ -213,9 +214,12 @@ class Speed(PageCase):
         return user.wait(lambda: json.loads(user.run("return document.body.dataset.took") or "null"), "clicks by hand")
 
     def test_clicks(self) -> None:
-        """A click is answered in under 50 ms: each by the least of several tries, so that other work on the machine does not matter."""
+        """A click is answered in under 50 ms, or later where the browser is slower: each by the least of several tries, so that other work on the
+        machine does not matter.
+        """
         least = [min(each) for each in zip(*(self.took() for _ in range(TRIES)))]
-        self.assertTrue(statistics.median(least) < MAX_MILLISECONDS, least)
+        maximum = pace.stretch(MAX_MILLISECONDS, self.user)
+        self.assertTrue(statistics.median(least) < maximum, (least, maximum))
         self.assertEqual(" ".join(self.EVENTS), self.user.schedule())
 
     def test_known(self) -> None:

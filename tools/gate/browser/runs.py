@@ -3,6 +3,7 @@ from __future__ import annotations
 
 import sys
 
+from gate.browser import pace
 from gate.browser.lists import IN_SIGHT
 from gate.browser.page_case import PageCase
 from gate.browser.user import User, read, run, schedule_to
@@ -134,11 +135,14 @@ class Speed(PageCase):
     """How quick a step is."""
 
     def test_quick(self) -> None:
-        """A step takes the page under 50 ms: of several tries the least, so that other work on the machine does not matter."""
+        """A step takes the page under 50 ms, or longer where the browser is slower: of several tries the least, so that other work on the machine
+        does not matter.
+        """
         self.user.open_listed(LISTED)
         rounds = [self.user.run(STEPS) for _ in range(TRIES)]
         least = [min(each) for each in zip(*rounds)]
-        self.assertTrue(max(least) < MAX_MILLISECONDS, least)
+        maximum = pace.stretch(MAX_MILLISECONDS, self.user)
+        self.assertTrue(max(least) < maximum, (least, maximum))
 
 
 class Starts(PageCase):
