@@ -31,7 +31,8 @@ const SMALL = /\bshort\b|int(8|16)_t/;
 const COMPARISONS = { "<": (a, b) => a < b, "<=": (a, b) => a <= b, ">": (a, b) => a > b, ">=": (a, b) => a >= b, "!=": (a, b) => a !== b };
 const LEAVES = /\b(?:break|continue|goto)\b/;
 const MOST_PASSES = 16;
-const OF_PASSES = ": count to 2 or 3 here, since a thread of a test has 32 instructions at most";
+/** Why a loop that counts far is refused, as the end of a sentence. */
+export const OF_PASSES = ": count to 2 or 3 here, since a thread of a test has 32 instructions at most";
 const DO = /^do\b/;
 // An `else` after a branch. And how much of a code may have the head of a statement up to its parenthesis.
 const ELSE = /^\s*else\b/;

@@ -40,6 +40,8 @@ const WIDE_TYPE = /\b((?:atomic_)?(?:u?l?long|s?size_t|u?int(?:64|ptr)_t)|LONG64
 const UNSIGNED = /\bunsigned\b(?!\s+(?:long|char|short))|\b(?:atomic_)?uint(?:32_t)?\b|\b(?:DWORD|UINT|ULONG)/;
 const OF_SWAPS = ": a compare-exchange is rewritten if its variable is only ever set to the two constants that it names";
 const OF_PAIRS = ": a loop that exchanges needs a variable that is only set to the constant that it writes, and to the one at which it ends";
+// A number with marks between its digits.
+const SEPARATED = /(?<![\w.'])\d+(?:'[\da-fA-F]+)+/g;
 // A name in a question: the groups are the number of a thread before it, and the name. And those that are words of the question itself.
 const NAME = /(?<!\w)(?:P?(\d)\s*:\s*)?([A-Za-z_]\w*)/g;
 const WORD_OF_QUESTION = /^(?:exists|forall|locations|not|true|false)$/;
@@ -298,6 +300,11 @@ function isRead(text) {
  *   why?: string, index?: number}}
  */
 export function rewriteProgram(text, meaning = "") {
+  return rewriteJoined(text.replace(SEPARATED, (it) => it.replaceAll("'", "").padEnd(it.length)), meaning);
+}
+
+/** Returns what `rewriteProgram` does of a program without marks between digits. */
+function rewriteJoined(text, meaning) {
   try {
     const without = rewriteTemplates(text);
     if (!without) return rewriteUndelayed(text, meaning);

@@ -2,6 +2,8 @@
 // proved.
 
 import { rewriteProgram } from "./c_program.js";
+import { findRemedy } from "./c_remedies.js";
+import { rewriteWithSections } from "./c_sections.js";
 import { findSlip } from "./c_slips.js";
 import { findBareEntries } from "./initial_values.js";
 import { isAllIn } from "./other_language.js";
@@ -47,10 +49,13 @@ const OF_ENTRY =
   "runs with such passes are left out.";
 const OF_DELAYS = " A loop that only delays its thread is left out.";
 const NOT_ASKED = " The question `true` asks nothing: look at the list of states, and ask what must not happen.";
-// How programs in Rust, Java and Go begin, what only C++ has, and how a thread in C begins.
+// How programs in Rust, Java, Go, C# and Python begin, what only C++ has, and how a thread in C begins.
 const RUST = /^\s*(?:use\b|(?:unsafe\s+)?fn\b|pub\b|(?:static|const)\s+(?:mut\s+)?\w+\s*:|extern\s+crate\b|mod\s+\w+\s*\{|#!?\[)/;
 const JAVA = /^(?:import\s+(?:static\s+)?java|package\s+[\w.]+;|(?:(?:public|final|abstract)\s+)*class\s+\w+[^;{]{0,80}\{)/;
 const GO = /^(?:package\s+\w+[ \t]*\r?(?:\n|$)|func\s+\w*\(|import\s+(?:\(|")|var\s+\w+(?:,\s*\w+)*\s+(?:u?int\d*|bool|atomic\.\w+|sync\.\w+)\b)/;
+const C_SHARP = /^using\s+System\b|^namespace\s+\w+(?:\.\w+)+\s*[{;]/;
+const PYTHON = /^(?:#.*\n\s*)*(?:from\s+\w+\s+import\b|import\s+[\w.]+[ \t]*(?:\n|\r|,|as\b)|def\s+\w+\([^()]*\)\s*(?:->\s*\w+\s*)?:)/;
+const OTHER_LANGUAGES = [["C#", C_SHARP], ["Python", PYTHON], ["Java", JAVA], ["Go", GO]];
 const CPP = /\bstd::|<atomic>|\batomic<|\busing\s|\bnamespace\b/;
 const IS_READ = "The page reads C, C++, Rust and x86 assembly.";
 const THREAD_IN_C = /^(?:X86|SRC)\s(?:[^{]*\{[^}]*\})?\s*P0\s*[({]/;
@@ -83,15 +88,15 @@ function explainProgram(words, text, place) {
   const how = `${OF_C}: save this as \`${file}\`, then \`${command}\` prints a test for this page.${form}${once}`;
   const hint = { more: how, document: "from-c.html", command };
   const isRust = RUST.test(text.replace(C_COMMENTS, ""));
-  const test = isRust ? rewriteRust(text) : rewriteProgram(text);
+  const test = isRust ? rewriteRust(text) : rewriteWithSections(text);
   if (!test) return { words: `${words} ${IS_READ}`, ...hint };
   const slip = test.made || isRust ? null : findSlip(text, test, rewriteProgram);
   if (slip) return { ...explainSlip(text, slip, place.text), ...hint };
-  if (!test.made) return { words: explainRefusedProgram(text, test.why, test.index), ...hint, at: findPart(place.text, text, test.index) };
+  if (!test.made) return explainFault(text, test, place.text, isRust ? null : findRemedy(text, test, rewriteProgram), hint);
   place.proposeChange(test.made, 0, place.text.length);
   Object.assign(place.change, { title: "Rewrite it as an x86 test", done: "Rewritten.", isCompiled: true });
   const compiled = isRust ? OF_BUTTON.replace("gcc and clang compile", "rustc compiles") : OF_BUTTON;
-  return { words: `${words} ${compiled}${explainMade(test)}`, ...hint };
+  return { words: `${words} ${compiled}${test.sections ?? ""}${explainMade(test)}`, ...hint };
 }
 
 /**
@@ -128,11 +133,20 @@ function explainRefusedProgram(text, why, index) {
   return `${beginRefusal(text)}${index === undefined ? ", since lw refuses it:" : " because of"} ${why}.`;
 }
 
+/** Returns words on the part because of which a program that ends a text is refused, its place, and the change of the text that helps, or none. */
+function explainFault(program, { why, index }, text, change, hint) {
+  return { words: explainRefusedProgram(program, why, index), ...hint, at: findPart(text, program, index), ...(change && { change: moveChange(change, program, text) }) };
+}
+
 /** Returns words on a slip in a program that ends a text, its place, and the change of the text that puts it right. */
 function explainSlip(program, { words, index, change }, text) {
+  return { words: `${beginRefusal(program)}: ${words}`, at: findPart(text, program, index), change: change && moveChange(change, program, text) };
+}
+
+/** Returns the change of a text that a change of the program at its end is. */
+function moveChange(change, program, text) {
   const front = text.length - program.length;
-  const moved = change && { ...change, begin: front + change.begin, end: front + change.end };
-  return { words: `${beginRefusal(program)}: ${words}`, at: findPart(text, program, index), change: moved };
+  return { ...change, begin: front + change.begin, end: front + change.end };
 }
 
 /** Returns where an index is of a program that ends a text, as a row, a column and an index of the text; undefined if the index is. */
@@ -164,7 +178,7 @@ export function findOtherLanguage(place) {
   if (blankComments(text.slice(0, index)).trim()) return null;
   const rest = text.slice(index);
   const code = rest.replace(C_COMMENTS, "");
-  const [other] = [["Java", JAVA], ["Go", GO]].find(([, pattern]) => pattern.test(code) && !CPP.test(code)) ?? [];
+  const [other] = OTHER_LANGUAGES.find(([, pattern]) => pattern.test(code) && (pattern === C_SHARP || !CPP.test(code))) ?? [];
   if (other) return { words: `This begins as a program in ${other} does. ${IS_READ}`, document: "your-code.html" };
   if (C.test(code) && !LISTING.test(code)) return explainProgram("This begins as a program or a test in C does.", rest, place);
   if (RUST.test(code)) return explainProgram("This begins as a program in Rust does.", rest, place);

@@ -5,6 +5,7 @@
 
 import { numberThreads } from "./assembly.js";
 import { rewriteProgram } from "./c_program.js";
+import { IN_SECTION, OF_LOST, OF_SECTION } from "./c_sections.js";
 import { explainMade } from "./other_tools.js";
 import { hasOutcome, readPseudoText } from "./pseudo_lines.js";
 import { enterAtOnce } from "./pseudo_loops.js";
@@ -77,9 +78,6 @@ const KEYWORDS = new Set("if else while do int void volatile assert smp_mb smp_r
 const OF_ACCESSES = "This is pseudo code: each access of a name that threads share is one load or one store.";
 const OF_ATOMICS = " Those of atomic variables are as gcc and clang compile them.";
 const OF_LOCKED = " Exchanges, additions and compare-exchanges by name are locked instructions.";
-const OF_SECTION = " A critical section is an addition to `critical` here";
-const OF_LOST = ": the question is whether one is lost, since two threads are in theirs at once.";
-const IN_SECTION = "threads are in the critical section together";
 const AT_FIRST = " at the first try";
 const OF_ENDLESS = " An endless loop is one pass here: runs with more passes are left out.";
 const OF_ENTRY =

@@ -3144,6 +3144,8 @@ const IN_RUST = `This begins as a program in Rust does. ${IS_READ}`;
 const OTHERS = [
   ["Java", "public class A { volatile int x; }\n"], ["Java", "// One.\nimport java.util.*;\n"], ["Java", "class A extends Thread {\n"], ["Go", "package main\n"],
   ["Go", "package main\n\nimport \"sync/atomic\"\n"], ["Go", "func main() {\n"],
+  ["C#", "using System.Threading;\nclass A { static volatile int x; }\n"], ["C#", "namespace A.B;\nclass C { }\n"],
+  ["Python", "import threading\n\nx = 0\n"], ["Python", "# One.\nfrom threading import Thread\n"], ["Python", "def one(a) -> None:\n    pass\n"],
 ];
 const BEGINS = ["pthread_t a, b;", "mtx_t m;", "thrd_t t;", "LONG a;", "volatile LONG a;", "CRITICAL_SECTION a;", "enum { A, B };", "enum State { A };", "class A { std::atomic<int> a; };", "using namespace std;", "namespace a {}", "alignas(8) int x;", "constexpr int N = 1;", "#pragma once", "bool a;", "extern \"C\" {}", "[[maybe_unused]] int a;"];
 const LOCK = PROGRAM.replace("int r0 = y;", "while (y.exchange(d)) ;");

@@ -1,0 +1,126 @@
+// Compares what the page changes in programs in C and C++ that it refuses, where one change helps, and what it makes of comments in place of critical
+// sections, with what is typed in here.
+//
+//     node tools/gate/changed_programs.mjs      compares; the last line is 'N passed, M failed'
+//
+// tools/gate/check_site.mjs compares this too. It needs neither a browser nor the module.
+
+import { loadModules } from "./c_programs.mjs";
+import { makeFault, runAlone } from "./typed_texts.mjs";
+
+const LOCK = `#include <atomic>
+#include <thread>
+#include <cassert>
+class SpinLock {
+  std::atomic_flag flag = ATOMIC_FLAG_INIT;
+public:
+  void lock() { while (flag.test_and_set(std::memory_order_acquire)) { } }
+  void unlock() { flag.clear(std::memory_order_release); }
+};
+SpinLock lock;
+int counter = 0;
+void work() {
+  for (int i = 0; i < 100000; ++i) {
+    lock.lock();
+    ++counter; // 100000 times
+    lock.unlock();
+  }
+}
+int main() {
+  std::thread t1(work), t2(work);
+  t1.join(); t2.join();
+  assert(counter == 200000);
+}
+`;
+const NAMED = LOCK.replace("int counter", "constexpr int N = 100'000;\nint counter").replace("i < 100000", "i < N").replace("200000", "2 * N");
+const DEFINED = LOCK.replace("int counter", "#define ROUNDS 100000\nint counter").replace("i < 100000", "i < ROUNDS").replace("200000", "2 * ROUNDS");
+const PETERSON = `bool flag[2] = {false, false};
+int turn;
+
+void P0() {
+  flag[0] = true;
+  turn = 1;
+  while (flag[1] && turn == 1) { /* busy wait */ }
+  // critical section
+  flag[0] = false;
+}
+void P1() {
+  flag[1] = true;
+  turn = 0;
+  while (flag[0] && turn == 0) { }
+  /* Critical section here. */
+  flag[1] = false;
+}
+`;
+const VOLATILE = PETERSON.replace("bool flag", "volatile bool flag").replace("int turn", "volatile int turn");
+const MESSAGE = `static int data, ready = 0;
+void writer(void) { data = 42; ready = 1; }
+void reader(void) { int r; while (!ready) { } r = data; }
+`;
+const MEMBERS = `#include <thread>
+struct Shared {
+  int data = 0;
+  bool ready = false;
+} s;
+void writer() { s.data = 42; s.ready = true; }
+void reader() { while (!s.ready) ; int r = s.data; }
+`;
+// A program that is refused, the title of the button that changes it, and the parts that become others. Null is the title if nothing is changed.
+const CHANGES = [
+  ["a loop that counts far", LOCK, "Count to 2", [["i < 100000", "i < 2"], ["200000", "4"]]],
+  ["a constant with marks between its digits", NAMED, "Count to 2", [["100'000", "2"]]],
+  ["a constant of a directive", DEFINED, "Count to 2", [["ROUNDS 100000", "ROUNDS 2"]]],
+  ["a sum with marks between its digits", LOCK.replace("200000", "200'000"), "Count to 2", [["i < 100000", "i < 2"], ["200'000", "4"]]],
+  // A number of the program that is no multiple stays.
+  ["a store of another number", LOCK.replace("++counter", "counter += 3"), "Count to 2", [["i < 100000", "i < 2"], ["200000", "4"]]],
+  // One that may be something else is not changed.
+  ["a small count that another number is", LOCK.replace("i < 100000", "i < 20").replace("200000", "40"), "Count to 2", [["i < 20", "i < 2"], ["40", "4"]]],
+  ["textbook waits for plain variables", PETERSON, "Make flag and turn volatile", [["bool flag", "volatile bool flag"], ["int turn", "volatile int turn"]]],
+  ["a plain flag among others", MESSAGE, "Make ready volatile", [["static int", "static volatile int"]]],
+  ["a plain member", MEMBERS, "Make ready volatile", [["bool ready", "volatile bool ready"]]],
+  ["a local name of a plain variable", MESSAGE.replace("static int data, ready = 0;", "int data;").replace("int r;", "int r, ready = 0;"), null, []],
+  ["a plain variable behind a pointer", MESSAGE.replace("static int data, ready = 0;", "int data, *ready;").replace("!ready", "!*ready"), null, []],
+];
+// Comments in place of critical sections: a program, and whether it has additions to `critical`.
+const SECTIONS = [
+  ["two kinds of comments", VOLATILE, true],
+  ["a comment on how to leave it", VOLATILE.replace("// critical section", "// leave the critical section").replace("Critical section here.", ""), false],
+  ["a comment on what is before it", VOLATILE.replace("// critical section", "// wait for the critical section").replace("Critical section here.", ""), false],
+  ["words around it", VOLATILE.replace("// critical section", "// --- enter critical section ---"), true],
+  ["a variable of that name", VOLATILE.replace("int turn;", "int turn;\nvolatile int critical;"), false],
+];
+
+/** Compares the changes of programs that are refused. */
+function compareChanges({ faults }, compare) {
+  for (const [name, text, title, parts] of CHANGES) {
+    const { change } = faults.explainFault(makeFault(text), text);
+    const isOther = change && !/^(?:Count|Make \w+(?:, \w+)*(?: and \w+)? volatile)/.test(change.title);
+    compare(`the button for ${name}`, title, isOther ? null : change?.title ?? null);
+    if (title === null) continue;
+    const whole = parts.reduce((it, [part, other]) => it.replace(part, () => other), text);
+    compare(`the change for ${name}`, whole, change && text.slice(0, change.begin) + change.text + text.slice(change.end));
+  }
+}
+
+/** Compares which comments become additions, and how many a test has then, with its question. */
+function compareSections({ faults }, compare) {
+  for (const [name, text, isCounted] of SECTIONS) {
+    const { words, change } = faults.explainFault(makeFault(text), text);
+    const count = change.text.split("ADD ").length - 1;
+    compare(`a section in ${name}`, isCounted, words.includes(" A critical section is an addition to `critical` here: the question is whether one is lost,"));
+    compare(`the question of ${name}`, isCounted, change.text.includes("(* threads are in the critical section together: ~critical=2 *)"));
+    compare(`the additions of ${name}`, isCounted ? 2 : 0, count);
+  }
+}
+
+/**
+ * Compares what the page changes and what it counts, by its own modules.
+ * @param {function(string, any, any)} compare
+ */
+export async function compareChangedPrograms(compare) {
+  const page = await loadModules(["faults"]);
+  compareChanges(page, compare);
+  compareSections(page, compare);
+}
+
+await runAlone(import.meta.url, compareChangedPrograms);

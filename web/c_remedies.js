@@ -1,0 +1,105 @@
+// Finds what to change in a program in C or C++ that is not rewritten, where one change does: a loop that counts far counts to 2 or 1, and a plain
+// variable that a loop waits for is volatile. Not proved.
+
+import { makeChange } from "./change.js";
+import { blank, findClosing } from "./c_code.js";
+import { OF_PASSES } from "./c_loop_reader.js";
+import { OF_PLAIN_LOOPS } from "./c_thread.js";
+
+// What is no code: strings, letters and comments.
+const NO_CODE = /"(?:[^"\\\n]|\\.)*"|'(?:[^'\\\n]|\\.)'|\/\/.*|\/\*[^]*?\*\//g;
+// A number in base 10, and a name.
+const NUMBER = /(?<![\w.'])\d[\d']*(?=[uUlLzZ]{0,3}(?![\w.]))/g;
+const NAME = /[A-Za-z_]\w*/g;
+// What has a body of declarations. And the words before a name in a declaration of plain integers, after what begins it.
+const HOLDER = /\b(?:struct|class|namespace|union)\b[\w\s:]*$/;
+const PLAIN_TYPE = "(?:(?:unsigned|signed|long|short)\\s+)*(?:int|_?[Bb]ool|char|long|short|unsigned|s?size_t|u?int\\d+_t)\\b(?![^;{}()=]*[*&<])";
+// The counts that are tried; the least number that is a count; the most counts of which another number is a multiple, as the sum that is asked for; and
+// what is too long to look into.
+const COUNTS = [2, 1];
+const LEAST = 4;
+const MOST_THREADS = 8;
+const LARGE = 10;
+const LONGEST = 20000;
+
+/** Returns the head of a loop at an index, up to the parenthesis that closes its condition; "" if there is none. */
+function cutHead(code, index) {
+  const open = /^(?:do\b[^]*?\bwhile|for|while)\s*(?=\()/.exec(code.slice(index));
+  const close = open ? findClosing(code, index + open[0].length) : -1;
+  return close < 0 ? "" : code.slice(index, close + 1);
+}
+
+/** Returns the number that a loop counts to by its head, if it has one that is large, or has the name of one; or null. */
+function findCount(code, head) {
+  const parse = (it) => Number(it.replaceAll("'", ""));
+  const isCount = (it) => it >= LEAST && Number.isSafeInteger(it);
+  const ofNames = (head.match(NAME) ?? []).flatMap((name) => {
+    const value = new RegExp(`(?:#[ \\t]*define[ \\t]+${name}[ \\t]+\\(?|\\bconst(?:expr)?\\b[^;(){}=]*\\b${name}\\s*[={]\\s*)(\\d[\\d']*)`).exec(code);
+    return value ? [parse(value[1])] : [];
+  });
+  const counts = [...(head.match(NUMBER) ?? []).map(parse), ...ofNames].filter(isCount);
+  return new Set(counts).size === 1 ? counts[0] : null;
+}
+
+/** Returns a program whose loops with a count have another one, as all numbers that are a few times that count, such as a sum that is asked for. */
+function replaceCount(text, code, count, other) {
+  const isMultiple = (it) => it % count === 0 && it <= count * MOST_THREADS && it > 0;
+  const found = [...code.matchAll(NUMBER)].map((it) => ({ ...it, word: it[0], value: Number(it[0].replaceAll("'", "")) })).filter((it) => isMultiple(it.value));
+  // A small number may be something else, too.
+  if (count < LARGE && found.length > 1) return null;
+  const parts = found.map(({ index, word, value }) => [index, word.length, String((value / count) * other)]);
+  return parts.reverse().reduce((whole, [index, length, word]) => whole.slice(0, index) + word + whole.slice(index + length), text);
+}
+
+/** Returns whether an index is outside of all functions: each brace around it is that of a type or a namespace. */
+function isOutside(code, index) {
+  const open = [];
+  for (const { 0: mark, index: at } of code.slice(0, index).matchAll(/[{}]/g)) {
+    if (mark === "{") open.push(at);
+    else open.pop();
+  }
+  return open.every((at) => HOLDER.test(code.slice(0, at).split(/[;{}]/).at(-1)));
+}
+
+/** Returns a program in which plain variables of some names are volatile, and these names. */
+function makeVolatile(text, code, names) {
+  const places = new Map();
+  for (const name of new Set(names)) {
+    const declaration = new RegExp(`(?:^|[;{}:])\\s*(?:(?:static|extern|inline)\\s+)*(?=(${PLAIN_TYPE}[^;(){}]*?(?:\\{[^{}]*\\}[^;(){}]*?)?\\b${name}\\b))`, "gm");
+    const found = new Set([...code.matchAll(declaration)].map((it) => it.index + it[0].length).filter((it) => isOutside(code, it)));
+    if (found.size === 1) places.set(name, ...found);
+  }
+  const indices = [...new Set(places.values())].sort((one, other) => other - one);
+  return { whole: indices.reduce((it, at) => `${it.slice(0, at)}volatile ${it.slice(at)}`, text), names: [...places.keys()] };
+}
+
+/** Returns programs that differ from one at the loop because of which it is refused, each with the title of the button that makes it. */
+function listRemedies(text, { why, index }) {
+  const code = text.replace(NO_CODE, blank);
+  const head = cutHead(code, index);
+  if (why.includes(OF_PASSES)) {
+    const count = findCount(code, head);
+    const make = (other) => ({ whole: count && replaceCount(text, code, count, other), title: `Count to ${other}` });
+    return COUNTS.map(make).filter((it) => it.whole);
+  }
+  if (!why.includes(OF_PLAIN_LOOPS)) return [];
+  const { whole, names } = makeVolatile(text, code, head.match(NAME) ?? []);
+  return names.length ? [{ whole, title: `Make ${names.join(", ").replace(/, (?=[^,]*$)/, " and ")} volatile` }] : [];
+}
+
+/**
+ * Returns the change of a program because of which it is rewritten, or refused later; null if none is known.
+ * @param {string} text
+ * @param {{why: string, index?: number}} fault
+ * @param {function(string): {made?: string, index?: number}} rewrite
+ * @returns {{begin: number, end: number, text: string, title: string} | null}
+ */
+export function findRemedy(text, fault, rewrite) {
+  if (text.length > LONGEST || fault.index === undefined) return null;
+  const helps = ({ whole }) => {
+    const next = rewrite(whole);
+    return next?.made || next?.index > fault.index + Math.max(whole.length - text.length, 0);
+  };
+  const remedy = listRemedies(text, fault).find(helps);
+  return remedy ? { ...makeChange(text, remedy.whole), title: remedy.title } : null;
+}
