@@ -83,7 +83,7 @@ async function showFault(fault, notice, editor, before) {
   }
   const { row } = showFaultInEditor(fault, words, hint, hints, editor);
   // On a phone the text, with its fault, is far below.
-  notice.append(`No answer: line ${row} of the text has a fault.`, el("div", { class: "reason" }, reason, " ", apply));
+  notice.append(`No answer yet, because of line ${row}.`, el("div", { class: "reason" }, reason, " ", apply));
 }
 
 /** Returns whether a fault is one of the text of a test. */

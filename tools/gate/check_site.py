@@ -591,7 +591,7 @@ def check_without_hints(folder: str) -> Iterator[Comparison]:
             user.open("#text=" + urllib.parse.quote("X86 A\n{}\n P0 ;\n MOVE [x],$1 ;\nexists (x=1)\n"))
             said = user.text_with("#fault", "As lw prints it")
             yield "a fault has lw's sentence if no hints come", True, said.startswith("Line 4, column 2: Form: ") and said.endswith("cell 1 Form at 16")
-            yield "and the panel says where it is", "No answer: line 4 of the text has a fault.", user.text("#outcome .no-answer")
+            yield "and the panel says where it is", "No answer yet, because of line 4.", user.text("#outcome .no-answer")
         finally:
             user.driver.quit()
 

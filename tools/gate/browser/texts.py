@@ -38,7 +38,7 @@ class Faults(PageCase):
         self.assertEqual("=", user.run("return document.querySelector('.marks mark').textContent"))
         self.assertFalse("has no ;" in user.text("#fault"))
         self.assertEqual(1, len(user.all(".notice")))
-        self.assertSays("No answer: line 4 of the text has a fault.", "#outcome .list-place")
+        self.assertSays("No answer yet, because of line 4.", "#outcome .list-place")
         self.assertSays("Line 4, column 12: A statement sets a location or a register by :=.", "#outcome .reason")
         user.click("#fault .go-to")
         self.assertEqual("text", user.focused().get_attribute("id"))
@@ -140,11 +140,11 @@ class Faults(PageCase):
         user = self.user
         user.open_listed(f"#text={quote(MENDED)}")
         user.run_text(MENDED.replace("MOV EBX", "MVO EBX"))
-        self.assertSays("No answer: line 6 of the text has a fault.", "#outcome .no-answer")
+        self.assertSays("No answer yet, because of line 6.", "#outcome .no-answer")
         self.assertEqual(1, len(user.all("#watching .machine")))
         self.assertEqual([], user.all("#outcome .reason"))
         user.run_text(FIVE.replace("x := 1", "x = 1"))
-        self.assertSays("No answer: line 4 of the text has a fault.", "#outcome .no-answer")
+        self.assertSays("No answer yet, because of line 4.", "#outcome .no-answer")
         self.assertEqual([[], []], [user.all(it) for it in ("#watching .machine", ".states-place")])
         user.run_text(MENDED)
         self.assertSays("Forbidden.", "#outcome .verdict")
@@ -579,7 +579,7 @@ class Offers(PageCase):
             user.find("#watching .machine")
             self.assertEqual([], user.all("#outcome .no-answer"))
         user.run_text("No test.\n")
-        self.assertSays("No answer: line 1 of the text has a fault.", "#outcome .no-answer")
+        self.assertSays("No answer yet, because of line 1.", "#outcome .no-answer")
         self.assertEqual([[], []], [user.all(it) for it in ("#watching .machine", ".states-place")])
 
     def test_variables(self) -> None:
