@@ -14,6 +14,8 @@ const NAME = /[A-Za-z_]\w*/g;
 // What has a body of declarations. And the words before a name in a declaration of plain integers, after what begins it.
 const HOLDER = /\b(?:struct|class|namespace|union)\b[\w\s:]*$/;
 const PLAIN_TYPE = "(?:(?:unsigned|signed|long|short)\\s+)*(?:int|_?[Bb]ool|char|long|short|unsigned|s?size_t|u?int\\d+_t)\\b(?![^;{}()=]*[*&<])";
+// Why a thread is refused whose loops may have too many passes.
+const OF_ROOM = /six registers|too many statements/;
 // The counts that are tried; the least number that is a count; the most counts of which another number is a multiple, as the sum that is asked for; and
 // what is too long to look into.
 const COUNTS = [2, 1];
@@ -41,12 +43,16 @@ function findCount(code, head) {
   return new Set(counts).size === 1 ? counts[0] : null;
 }
 
-/** Returns a program whose loops with a count have another one, as all numbers that are a few times that count, such as a sum that is asked for. */
+/**
+ * Returns a program whose loops with a count have another one, as all numbers that are a few times that count, such as a sum that is asked for. Returns null
+ * if a number may be a sum that is none of these.
+ */
 function replaceCount(text, code, count, other) {
   const isMultiple = (it) => it % count === 0 && it <= count * MOST_THREADS && it > 0;
-  const found = [...code.matchAll(NUMBER)].map((it) => ({ ...it, word: it[0], value: Number(it[0].replaceAll("'", "")) })).filter((it) => isMultiple(it.value));
+  const numbers = [...code.matchAll(NUMBER)].map(({ 0: word, index }) => ({ word, index, value: Number(word.replaceAll("'", "")) }));
+  const found = numbers.filter((it) => isMultiple(it.value));
   // A small number may be something else, too.
-  if (count < LARGE && found.length > 1) return null;
+  if ((count < LARGE && found.length > 1) || numbers.some((it) => it.value > count && !isMultiple(it.value))) return null;
   const parts = found.map(({ index, word, value }) => [index, word.length, String((value / count) * other)]);
   return parts.reverse().reduce((whole, [index, length, word]) => whole.slice(0, index) + word + whole.slice(index + length), text);
 }
@@ -76,9 +82,11 @@ function makeVolatile(text, code, names) {
 /** Returns programs that differ from one at the loop because of which it is refused, each with the title of the button that makes it. */
 function listRemedies(text, { why, index }) {
   const code = text.replace(NO_CODE, blank);
-  const head = cutHead(code, index);
-  if (why.includes(OF_PASSES)) {
-    const count = findCount(code, head);
+  const head = index === undefined ? "" : cutHead(code, index);
+  if (why.includes(OF_PASSES) || OF_ROOM.test(why)) {
+    const heads = head ? [head] : [...code.matchAll(/\bfor\s*\(/g)].map((it) => cutHead(code, it.index));
+    const counts = new Set(heads.map((it) => findCount(code, it)).filter(Boolean));
+    const [count] = counts.size === 1 ? counts : [null];
     const make = (other) => ({ whole: count && replaceCount(text, code, count, other), title: `Count to ${other}` });
     return COUNTS.map(make).filter((it) => it.whole);
   }
@@ -95,7 +103,7 @@ function listRemedies(text, { why, index }) {
  * @returns {{begin: number, end: number, text: string, title: string} | null}
  */
 export function findRemedy(text, fault, rewrite) {
-  if (text.length > LONGEST || fault.index === undefined) return null;
+  if (text.length > LONGEST) return null;
   const helps = ({ whole }) => {
     const next = rewrite(whole);
     return next?.made || next?.index > fault.index + Math.max(whole.length - text.length, 0);

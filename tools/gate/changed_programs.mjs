@@ -73,8 +73,15 @@ const CHANGES = [
   ["a sum with marks between its digits", LOCK.replace("200000", "200'000"), "Count to 2", [["i < 100000", "i < 2"], ["200'000", "4"]]],
   // A number of the program that is no multiple stays.
   ["a store of another number", LOCK.replace("++counter", "counter += 3"), "Count to 2", [["i < 100000", "i < 2"], ["200000", "4"]]],
-  // One that may be something else is not changed.
-  ["a small count that another number is", LOCK.replace("i < 100000", "i < 20").replace("200000", "40"), "Count to 2", [["i < 20", "i < 2"], ["40", "4"]]],
+  ["a loop with a few passes", LOCK.replace("i < 100000", "i < 10").replace("200000", "20"), "Count to 2", [["i < 10", "i < 2"], ["20", "4"]]],
+  ["a loop with many statements", "std::atomic<int> x{0};\nvoid a() { for (int i = 0; i < 9; i++) { x.store(i); x.store(i); } }\nvoid b() { int r = x.load(); }\n",
+    "Count to 2", [["i < 9", "i < 2"]]],
+  ["a thread that is long without loops", LOCK.replace(/for .*\{/, "{").replace("++counter;", "counter++; ".repeat(20)), null, []],
+  // A sum that the new count would not have.
+  ["a loop with one pass more", LOCK.replace("i < 100000", "i <= 100000").replace("200000", "200002"), null, []],
+  ["loops in loops", LOCK.replace("100000; ++i)", "100; ++i) for (int j = 0; j < 1000; ++j)"), null, []],
+  ["a small count, and a number that may be something else", LOCK.replace("i < 100000", "i < 9").replace("200000", "18"), null, []],
+  ["a count of two digits, and its sum", LOCK.replace("i < 100000", "i < 20").replace("200000", "40"), "Count to 2", [["i < 20", "i < 2"], ["40", "4"]]],
   ["textbook waits for plain variables", PETERSON, "Make flag and turn volatile", [["bool flag", "volatile bool flag"], ["int turn", "volatile int turn"]]],
   ["a plain flag among others", MESSAGE, "Make ready volatile", [["static int", "static volatile int"]]],
   ["a plain member", MEMBERS, "Make ready volatile", [["bool ready", "volatile bool ready"]]],
