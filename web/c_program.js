@@ -8,6 +8,7 @@ import { CallWriter } from "./c_calls.js";
 import { parseConstant, refusePart } from "./c_code.js";
 import { areEntering, findEntry, formatList, guessQuestion } from "./c_guess.js";
 import { linkThreads } from "./c_links.js";
+import { rewriteBlocking } from "./c_blocking.js";
 import { addUsers, refuseUsers } from "./c_lone_lock.js";
 import { blankDelays } from "./c_delays.js";
 import { OF_STORING } from "./c_loop_reader.js";
@@ -144,6 +145,18 @@ function listAsked(program, writers, used) {
   return formulas.map((it) => expand(mapSites(it, (name) => findSite(name, undefined, name))));
 }
 
+/** Returns whether a thread gives each mutex back before it takes another one, on all its paths. */
+function isPaired({ accesses }) {
+  const mutexes = accesses.filter((it) => it.isMutex);
+  const isNext = ({ name, word, isSure, isTried }, at) => isSure && !isTried && word === 1 - (at % 2) && (word || name === mutexes[at - 1].name);
+  return mutexes.length % 2 === 0 && mutexes.every(isNext);
+}
+
+/** Returns whether a thread waits only for mutexes: it comes to its end, whatever others do that give theirs back. */
+function waitsForMutexes({ accesses, waits }) {
+  return waits.length === accesses.filter((it) => it.isMutex && it.word).length;
+}
+
 /**
  * Returns the question of what threads assert, with what `main` asserts, or "" if threads assert nothing. Throws NoTest if the program asks besides,
  * or if a loop waits that need not end before an assertion.
@@ -154,7 +167,8 @@ function askAssertions(program, writers, used) {
   for (const writer of asserting) {
     if (question.code && !question.isAsserted) refusePart(writer.assertion, OF_ASKED);
     const others = writers.filter((it) => it !== writer && it.waits.length);
-    if (others.length) refusePart(writer.assertion, OF_OTHERS);
+    const areSure = others.every((it) => isPaired(it) && waitsForMutexes(it)) && isPaired(writer);
+    if (others.length && !areSure) refusePart(writer.assertion, OF_OTHERS);
     if (writer.waitCount < writer.waits.length) refusePart(writer.assertion, OF_ENDLESS);
   }
   if (!asserting.length) return "";
@@ -291,12 +305,12 @@ function isRead(text) {
  * waits; whether an exchange is in place of a compare-exchange (`isSwapping`); whether a location is in place of a mutex (`isLocking`), or of some
  * that are only tried (`isTrying`); whether words of 32 bits are in place of those of 64; whether a run is in place of a loop of them; whether delays are
  * left out (`isDelayed`); whether a thread ends at a loop that stores (`isEnding`); the name of a variable in place of a member of an object (`pointed`), if
- * there are some; and a sentence on threads that are added (`users`). Or returns why it is not rewritten: a part of it, with its index, and the end of a
+ * there are some; a sentence on threads that are added (`users`); and sentences on what threads look at in place of waiting (`blocking`). Or returns why it is not rewritten: a part of it, with its index, and the end of a
  * sentence; or without an index why lw refuses the test.
  * @param {string} text
  * @param {string} [meaning] What the question of the program means, in words.
  * @returns {{made?: string, isGuess?: boolean, isOpen?: boolean, races?: string[], isWaiting?: boolean, isSwapping?: boolean, isLocking?: boolean,
- *   isTrying?: boolean, isWide?: boolean, isRepeated?: boolean, isDelayed?: boolean, isEnding?: boolean, pointed?: string, users?: string,
+ *   isTrying?: boolean, isWide?: boolean, isRepeated?: boolean, isDelayed?: boolean, isEnding?: boolean, pointed?: string, users?: string, blocking?: string,
  *   why?: string, index?: number}}
  */
 export function rewriteProgram(text, meaning = "") {
@@ -305,6 +319,17 @@ export function rewriteProgram(text, meaning = "") {
 
 /** Returns what `rewriteProgram` does of a program without marks between digits. */
 function rewriteJoined(text, meaning) {
+  const test = rewriteUnblocked(text, meaning);
+  const edited = test.made ? null : rewriteBlocking(text);
+  const { index, ...other } = edited ? rewriteUnblocked(edited.text, meaning) : {};
+  if (other.made) return { ...other, blocking: edited.words };
+  // What is quoted is in the program.
+  const isQuoted = edited && index !== undefined && text.startsWith(edited.text.slice(index, index + 9), edited.findIndex(index));
+  return isQuoted && edited.findIndex(index) > test.index ? { ...other, index: edited.findIndex(index) } : test;
+}
+
+/** Returns what `rewriteProgram` does of a program whose threads look at what they wait for. */
+function rewriteUnblocked(text, meaning) {
   try {
     const without = rewriteTemplates(text);
     if (!without) return rewriteUndelayed(text, meaning);

@@ -1,9 +1,10 @@
 // Rewrites the class templates of a program in C++ that all have one list of arguments as classes, with the arguments in place of the parameters. Not proved.
 //
-// A `Template` has the `name` of its class, its `parameters`, the `begin` of its head, and the `from` and the `end` of its code. An `Edit` replaces a text
-// from its `begin` to its `end` by its `text`. The record `Part` is that of c_reader.js.
+// A `Template` has the `name` of its class, its `parameters`, the `begin` of its head, and the `from` and the `end` of its code. The record `Part` is that of
+// c_reader.js.
 
 import { blankComments, findClosing, refusePart, squeezeCode } from "./c_code.js";
+import { applyEdits } from "./c_edits.js";
 
 const HEAD = /\btemplate\s*<([^<>;{}]*)>\s*/g;
 // What follows a head: a class, or a method outside of one. The group is the name of the class.
@@ -36,23 +37,6 @@ function listUses(code, name) {
     const end = index + whole.length;
     return { begin: end - list.length, end, values: values.split(",").map((it) => squeezeCode(it)) };
   });
-}
-
-/** Returns the text after edits, of which none is in another one, and what finds an index of it in the text before. */
-function applyEdits(text, edits) {
-  const places = [];
-  let [made, end] = ["", 0];
-  for (const it of [...edits].sort((one, other) => one.begin - other.begin)) {
-    places.push({ at: made.length, index: end, limit: it.begin });
-    made += text.slice(end, it.begin) + it.text;
-    end = it.end;
-  }
-  places.push({ at: made.length, index: end, limit: text.length });
-  const findIndex = (at) => {
-    const place = places.findLast((it) => it.at <= at);
-    return Math.min(place.index + at - place.at, place.limit);
-  };
-  return { text: made + text.slice(end), findIndex };
 }
 
 /** Throws NoTest if a template has a name of its own that is an argument of its uses, too: the argument would have the meaning of that name. */

@@ -104,14 +104,14 @@ function explainProgram(words, text, place) {
  * @param {object} test
  * @returns {string}
  */
-export function explainMade({ made, isGuess, isOpen, races, isWaiting, isSwapping, isLocking, isTrying, isWide, isRepeated, isDelayed, isEnding, pointed, users = "" }) {
+export function explainMade({ made, isGuess, isOpen, races, isWaiting, isSwapping, isLocking, isTrying, isWide, isRepeated, isDelayed, isEnding, pointed, users = "", blocking = "" }) {
   const end = `${isOpen ? "" : LEFT_OUT}.`;
   const objects = ` A pointer is a word here, 0 for null and 1 for the object, whose members are variables, as \`${pointed}\`; a null pointer reads them, too.`;
   const ofLocks = [[isLocking, OF_LOCKING + end], [isTrying, OF_TRYING]];
   const ofLoops = [[isWaiting, OF_WAITING + end], [isSwapping, OF_SWAPPING]];
   const parts = [[pointed, objects], ...ofLoops, ...ofLocks, [isWide, OF_WIDE], [isRepeated, OF_REPEATED], [isDelayed, OF_DELAYS], [isEnding, OF_ENTRY]];
   const question = made.endsWith("(true)\n") ? NOT_ASKED : isGuess ? OF_GUESS : "";
-  return `${users}${explainRaces(races)}${parts.map(([isSo, sentence]) => (isSo ? sentence : "")).join("")}${question}`;
+  return `${users}${blocking}${explainRaces(races)}${parts.map(([isSo, sentence]) => (isSo ? sentence : "")).join("")}${question}`;
 }
 
 /** Returns a sentence on plain variables, if there are some, on which threads race in a program; or "". */

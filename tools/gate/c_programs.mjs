@@ -391,6 +391,7 @@ const OF_BRANCHED = ": an `if` around an assertion compares variables, which kee
 const OF_RETURNS = ": before an assertion, a `return` is the end of an `if` that is in no other one";
 const OF_POINTERS = ": a pointer is rewritten only if the program makes one object of its type, so write variables in place of pointers, and of what they point to";
 const OF_WAITS = ", so write a loop that waits for a variable, as `while (x == 0) ;`";
+const OR_WAITS = OF_WAITS.replace("so", "or");
 const OF_CHOICES = ": what `?` chooses are constants and variables of the thread";
 const OF_SUMS = ": give what is added a variable of its own";
 const OF_ASSERTIONS = ": an assertion compares variables, constants and sums of them, joined by `&&` and `||`";
@@ -596,14 +597,14 @@ const REFUSED = [
   ["int d;", "std::vector<int> d;", "`std::vector<int> d;`: a test has locations of one word each, so declare a variable for each word", "int r0 = y;", "int r0 = y; d = 1;"],
   ["int d;", "std::shared_mutex d;", "`std::shared_mutex d;`: the page follows locks that only one thread has, as `std::mutex`", "int r0 = y;", "int r0 = y; d = 1;"],
   ["int d;", "std::recursive_mutex d;", "`std::recursive_mutex d;`: the page follows mutexes that no thread locks twice, as `std::mutex`", "int r0 = y;", "int r0 = y; d = 1;"],
-  ["int d;", "std::condition_variable d;", `\`std::condition_variable d;\`: the page follows no waits for a condition${OF_WAITS}`, "int r0 = y;", "int r0 = y; d = 1;"],
-  ["int d;", "pthread_cond_t d;", `\`pthread_cond_t d;\`: the page follows no waits for a condition${OF_WAITS}`, "int r0 = y;", "int r0 = y; d = 1;"],
-  ["int d;", "sem_t d;", `\`sem_t d;\`: the page follows only semaphores that begin and end rounds of threads${OF_WAITS}`, "int r0 = y;", "int r0 = y; d = 1;"],
-  ["int d;", "std::barrier d(2);", `\`std::barrier d(2);\`: the page follows no barriers of threads${OF_WAITS}`],
+  ["int d;", "std::condition_variable d;", `\`std::condition_variable d;\`: the page follows waits for a condition right after the mutex is locked, in a loop or with a lambda that only returns it${OR_WAITS}`, "int r0 = y;", "int r0 = y; d = 1;"],
+  ["int d;", "pthread_cond_t d;", `\`pthread_cond_t d;\`: the page follows waits for a condition right after the mutex is locked, in a loop or with a lambda that only returns it${OR_WAITS}`, "int r0 = y;", "int r0 = y; d = 1;"],
+  ["int d;", "sem_t d;", `\`sem_t d;\`: the page follows semaphores that are 0 or 1 at all times, or begin and end rounds of threads${OR_WAITS}`, "int r0 = y;", "int r0 = y; d = 1;"],
+  ["int d;", "std::barrier d(2);", `\`std::barrier d(2);\`: the page follows barriers at which all threads that use them begin or end, and latches that are counted down and waited for${OR_WAITS}`],
   ["int d;", "std::once_flag d;", "`std::once_flag d;`: the page follows no `call_once`, so do this before the threads", "int r0 = y;", "int r0 = y; d = 1;"],
   ["int d;", "std::future<int> d;", "`std::future<int> d;`: the page follows threads, as `std::thread`, and no futures"],
   ["int r0 = y;", "int *r0 = new int(1);", "X86 Mine\n(* 0:EAX is a_int, 0:EBX is r0, 1:EAX is r0 *)\n{ x=0; y=0; }\n P0           | P1           ;\n MOV ECX,$1   | MOV EBX,$1   ;\n XCHG [x],ECX | XCHG [y],EBX ;\n MOV EAX,$1   | MOV EAX,[x]  ;\n MOV EBX,$1   |              ;\nlocations [y]\nexists (0:EBX=0 /\\ 1:EAX=0)\n"],
-  ["int r0 = y;", "x.wait(0);", `\`x.wait(0)\`: the page follows no \`wait\` and \`notify\`${OF_WAITS}`],
+  ["int r0 = y;", "x.wait(1 + 1);", `\`x.wait(1 + 1)\`: the page follows \`wait\` of an atomic variable for one word, as \`x.wait(0)\`${OR_WAITS}`],
   ["int d;", "int d[N];", `\`int d[N];\`${OF_GLOBALS}`],
   ["int d;", "int d[2] = {1, 2, 3};", `\`int d[2] = {1, 2, 3};\`${OF_VALUES}`],
   ["int d;", "int d_0, d[2];", `\`int d_0, d[2];\`${OF_LONE}`],
@@ -3178,7 +3179,7 @@ const HINTS = [
   ["a mutex that is tried", "std::mutex m; int n;\nvoid P0() { if (m.try_lock()) { n++; m.unlock(); } }\nvoid P1() { if (m.try_lock()) { n++; m.unlock(); } }\n",
     `${BEGIN}${BUTTON}${makePlain("`n` is")}it. A mutex is a word here, which \`XCHG\` takes if it is free.${GUESS}`, "does."],
   ["a semaphore at the begin", "sem_t s;\nint x;\nvoid P0() { sem_wait(&s); x = 1; }\n",
-    `${WOULD} because of \`sem_t s;\`: the page follows only semaphores that begin and end rounds of threads${OF_WAITS}.`, "does.", [1, 1]],
+    `${WOULD} because of \`sem_t s;\`: the page follows semaphores that are 0 or 1 at all times, or begin and end rounds of threads${OR_WAITS}.`, "does.", [1, 1]],
   ["a lock that no thread uses", "std::atomic<int> held;\nvoid lock() { while (held.exchange(1)) ; }\nvoid unlock() { held = 0; }\n",
     `${BEGIN}${BUTTON} No thread uses the lock: here each of two threads takes it, adds to \`counter\`, and gives it back.${makePlain("`counter` is")}it.${WAITS}${GUESS}`, "does."],
   ["words of 64 bits", "long x;\nstd::atomic<uint64_t> y{1};\nvoid P0() { y++; long r = y; }\nvoid P1() { y -= 2UL; }\nexists (0:r=1)\n",

@@ -895,7 +895,7 @@ exists (~1:EAX=0 /\\ 1:EBX=0)
 
 const OF_SEVERAL = ": pointers are rewritten if one object of their type is made, by one thread";
 const OF_PLACES = ": an object is made in a statement of its own, in no loop and no branch";
-const OF_SEMAPHORES = "`sem_t go1, go2, done;`: the page follows only semaphores that begin and end rounds of threads, so write a loop that waits for a variable, as `while (x == 0) ;`";
+const OF_SEMAPHORES = "`sem_t go1, go2, done;`: the page follows semaphores that are 0 or 1 at all times, or begin and end rounds of threads, or write a loop that waits for a variable, as `while (x == 0) ;`";
 const OF_USERS = ": no thread uses this lock, so write functions that do, each as `lock(); counter++; unlock();`";
 const OF_SHARED = ": load the pointer into a variable of the thread first";
 // A program, and why it is refused, with the part of the program at which that is.

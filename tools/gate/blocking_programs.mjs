@@ -1,0 +1,188 @@
+// Compares what the page makes of programs in C and C++ whose threads wait by semaphores, latches, barriers, conditions, or `wait` of atomic variables, with what
+// is typed in here: the rows of the test and its question, or why there is none.
+//
+//     node tools/gate/blocking_programs.mjs      compares; the last line is 'N passed, M failed'
+//
+// tools/gate/check_site.mjs compares this too. It needs neither a browser nor the module.
+
+import { loadModules } from "./c_programs.mjs";
+import { makeFault, runAlone } from "./typed_texts.mjs";
+
+const WAIT = `std::atomic<bool> ready{false};
+int data;
+void producer() { data = 42; ready.store(true, std::memory_order_release); ready.notify_one(); }
+void consumer() { ready.wait(false, std::memory_order_acquire); int r = data; }
+`;
+const FLAG = `std::atomic_flag f = ATOMIC_FLAG_INIT;
+int n;
+void work() { while (f.test_and_set(std::memory_order_acquire)) f.wait(true, std::memory_order_relaxed); ++n; f.clear(std::memory_order_release); f.notify_one(); }
+int main() { std::thread a(work), b(work); a.join(); b.join(); assert(n == 2); }
+`;
+const MUTEX = `#include <semaphore.h>
+sem_t mutex;
+int counter = 0;
+void *worker(void *arg) {
+    sem_wait(&mutex);
+    counter++;
+    sem_post(&mutex);
+    return NULL;
+}
+int main() {
+    pthread_t a, b;
+    sem_init(&mutex, 0, 1);
+    pthread_create(&a, NULL, worker, NULL);
+    pthread_create(&b, NULL, worker, NULL);
+    pthread_join(a, NULL); pthread_join(b, NULL);
+    assert(counter == 2);
+    sem_destroy(&mutex);
+}
+`;
+const POSTED = `sem_t full;
+int data;
+void *producer(void *p) { data = 1; sem_post(&full); return NULL; }
+void *consumer(void *p) { sem_wait(&full); int r = data; return NULL; }
+int main() {
+    pthread_t a, b;
+    sem_init(&full, 0, 0);
+    pthread_create(&a, NULL, producer, NULL);
+    pthread_create(&b, NULL, consumer, NULL);
+    pthread_join(a, NULL); pthread_join(b, NULL);
+}
+`;
+const BINARY = `std::binary_semaphore ping{1}, pong{0};
+int data;
+void a() { ping.acquire(); data = 1; pong.release(); }
+void b() { pong.acquire(); int r = data; ping.release(); }
+`;
+const LATCH = `std::latch done{1};
+int data;
+void worker() { data = 7; done.count_down(); }
+void waiter() { done.wait(); int r = data; }
+`;
+const START = `std::latch start(2);
+std::atomic<int> x{0}, y{0};
+int r1, r2;
+int main() {
+  std::thread a([&] { start.arrive_and_wait(); x.store(1, std::memory_order_relaxed); r1 = y.load(std::memory_order_relaxed); });
+  std::thread b([&] { start.arrive_and_wait(); y.store(1, std::memory_order_relaxed); r2 = x.load(std::memory_order_relaxed); });
+  a.join(); b.join();
+  assert(r1 == 1 || r2 == 1);
+}
+`;
+const BARRIER = `pthread_barrier_t barrier;
+volatile int x, y;
+int r1, r2;
+void *t1(void *p) { pthread_barrier_wait(&barrier); x = 1; r1 = y; return NULL; }
+void *t2(void *p) { pthread_barrier_wait(&barrier); y = 1; r2 = x; return NULL; }
+int main(void) {
+  pthread_t a, b;
+  pthread_barrier_init(&barrier, NULL, 2);
+  pthread_create(&a, NULL, t1, NULL);
+  pthread_create(&b, NULL, t2, NULL);
+  pthread_join(a, NULL);
+  pthread_join(b, NULL);
+  if (r1 == 0 && r2 == 0) printf("reordered\\n");
+}
+`;
+const CONDITION = `#include <condition_variable>
+#include <mutex>
+#include <thread>
+std::mutex m;
+std::condition_variable cv;
+bool ready = false;
+int data = 0;
+void producer() {
+  {
+    std::lock_guard<std::mutex> lk(m);
+    data = 42;
+    ready = true;
+  }
+  cv.notify_one();
+}
+void consumer() {
+  std::unique_lock<std::mutex> lk(m);
+  cv.wait(lk, [] { return ready; });
+  assert(data == 42);
+}
+int main() { std::thread a(producer), b(consumer); a.join(); b.join(); }
+`;
+const POSIX_CONDITION = `pthread_mutex_t m = PTHREAD_MUTEX_INITIALIZER;
+pthread_cond_t c = PTHREAD_COND_INITIALIZER;
+int ready, data;
+void *producer(void *p) { pthread_mutex_lock(&m); data = 1; ready = 1; pthread_cond_signal(&c); pthread_mutex_unlock(&m); return 0; }
+void *consumer(void *p) { pthread_mutex_lock(&m); while (ready == 0) pthread_cond_wait(&c, &m); int r = data; pthread_mutex_unlock(&m); return 0; }
+`;
+const GUARDED = "MOV EAX,$1; XCHG [m],EAX; MOV [data],$42; MOV [ready],$1; MOV EBX,$0; XCHG [m],EBX";
+const LOOKING = "MOV EAX,$1; XCHG [m],EAX; MOV EBX,[ready]; MOV ECX,[data]; MOV EDX,$0; XCHG [m],EDX";
+const OF_CONDITION = "forall (~0:EAX=0 \\/ ~1:EAX=0 \\/ ~1:EBX=1 \\/ 1:ECX=42)";
+const OF_BUFFERING = ["MOV [x],$1; MOV EAX,[y]", "MOV [y],$1; MOV EAX,[x]"];
+// A program, the instructions of its threads, and the question.
+const MADE = [
+  ["a wait of an atomic variable", WAIT, ["MOV [data],$42; MOV [ready],$1", "MOV EAX,[ready]; MOV EBX,[data]"], "exists (1:EAX=1 /\\ 1:EBX=0)"],
+  ["a wait for another word", WAIT.replace("wait(false, std::memory_order_acquire)", "wait(0)"), ["MOV [data],$42; MOV [ready],$1", "MOV EAX,[ready]; MOV EBX,[data]"],
+    "exists (1:EAX=1 /\\ 1:EBX=0)"],
+  ["a wait in a loop that takes a flag", FLAG,
+    Array(2).fill("MOV EAX,$1; XCHG [f],EAX; MOV EBX,[n]; ADD EBX,$1; MOV [n],EBX; MOV [f],$0"), "forall (~0:EAX=0 \\/ ~1:EAX=0 \\/ n=2)"],
+  ["a semaphore as a mutex", MUTEX,
+    Array(2).fill("MOV EAX,$0; XCHG [mutex],EAX; MOV EBX,[counter]; ADD EBX,$1; MOV [counter],EBX; MOV EBX,$1; XCHG [mutex],EBX"),
+    "forall (0:EAX=0 \\/ 1:EAX=0 \\/ counter=2)"],
+  ["a semaphore that is posted once", POSTED, ["MOV [data],$1; MOV EAX,$1; XCHG [full],EAX", "MOV EAX,$0; XCHG [full],EAX; MOV EBX,[data]"],
+    "exists (~1:EAX=0 /\\ 1:EBX=0)"],
+  ["two binary semaphores", BINARY,
+    ["MOV EAX,$0; XCHG [ping],EAX; MOV [data],$1; MOV EBX,$1; XCHG [pong],EBX", "MOV EAX,$0; XCHG [pong],EAX; MOV EBX,[data]; MOV ECX,$1; XCHG [ping],ECX"],
+    "exists (~0:EAX=0 /\\ ~1:EAX=0 /\\ 1:EBX=0)"],
+  ["a latch", LATCH, ["MOV [data],$7; MOV EAX,$4294967295; LOCK XADD [done],EAX", "MOV EAX,[done]; MOV EBX,[data]"], "exists (1:EAX=0 /\\ 1:EBX=0)"],
+  ["a latch at the start", START, OF_BUFFERING, "forall (0:EAX=1 \\/ 1:EAX=1)"],
+  ["a barrier at the start", BARRIER, OF_BUFFERING, "exists (0:EAX=0 /\\ 1:EAX=0)"],
+  ["a barrier at the start and at the end", BARRIER.replaceAll(" return NULL;", " pthread_barrier_wait(&barrier); return NULL;"), OF_BUFFERING,
+    "exists (0:EAX=0 /\\ 1:EAX=0)"],
+  ["a condition with a lambda", CONDITION, [GUARDED, LOOKING], OF_CONDITION],
+  ["a condition in a loop", CONDITION.replace("cv.wait(lk, [] { return ready; });", "while (!ready) cv.wait(lk);"), [GUARDED, LOOKING], OF_CONDITION],
+  ["a condition of POSIX", POSIX_CONDITION, [GUARDED.replace("42", "1"), LOOKING], "exists (0:EAX=0 /\\ 1:EAX=0 /\\ ~1:EBX=0 /\\ 1:ECX=0)"],
+];
+// A program of which no test is made, and a part of its sentence.
+const REFUSED = [
+  ["a wait for a sum", WAIT.replace("wait(false, std::memory_order_acquire)", "wait(1 - 1)"), "the page follows `wait` of an atomic variable for one word"],
+  ["a wait of a variable while a loop looks at another one", WAIT.replace("ready.wait(false, std::memory_order_acquire);", "while (data == 0) ready.wait(false);"), ""],
+  ["a barrier of three, for two threads", BARRIER.replace("NULL, 2)", "NULL, 3)"), "the page follows barriers at which"],
+  ["a barrier after a store", BARRIER.replace("pthread_barrier_wait(&barrier); x = 1;", "x = 1; pthread_barrier_wait(&barrier);"), "the page follows barriers at which"],
+  ["a barrier in a branch", BARRIER.replace("pthread_barrier_wait(&barrier); x = 1;", "if (y) { pthread_barrier_wait(&barrier); } x = 1;"), ""],
+  ["a latch that is only tried", LATCH.replace("done.wait();", "while (!done.try_wait()) ;"), ""],
+  ["a semaphore that counts", BINARY.replace("std::binary_semaphore", "std::counting_semaphore<2>"), "the page follows semaphores that are"],
+  ["a semaphore that is only tried", BINARY.replace("pong.acquire();", "if (pong.try_acquire())"), ""],
+  ["a semaphore that two threads post", POSTED.replace("int r = data;", "int r = data; sem_post(&full);"), "the page follows semaphores that are"],
+  ["a semaphore that a thread posts which starts twice", POSTED.replace("consumer, NULL", "producer, NULL").replace("&b, NULL, producer", "&b, NULL, producer"), ""],
+  ["a semaphore that a loop posts", POSTED.replace("sem_post(&full);", "for (int i = 0; i < 2; i++) sem_post(&full);"), "the page follows semaphores that are"],
+  ["a semaphore that counts from 2", MUTEX.replace("0, 1)", "0, 2)"), "the page follows semaphores that are"],
+  ["a semaphore that some runs give back", MUTEX.replace("sem_post(&mutex);", "if (counter) sem_post(&mutex);"), ""],
+  ["a condition after a store", CONDITION.replace("cv.wait(lk", "data = 1; cv.wait(lk"), "the page follows waits for a condition right after"],
+  ["a condition that is looked at once", CONDITION.replace("cv.wait(lk, [] { return ready; });", "if (!ready) cv.wait(lk);"), ""],
+  ["a condition with a limit of time", CONDITION.replace("cv.wait(lk, [] { return ready; });", "cv.wait_for(lk, 1s, [] { return ready; });"), ""],
+  ["a condition with another lock", CONDITION.replace("cv.wait(lk", "cv.wait(other"), ""],
+];
+
+/** Returns the instructions of each thread of a test. */
+function listInstructions(test) {
+  const rows = test.split("\n").filter((it) => / ;$/.test(it)).map((it) => it.slice(0, -1).split("|").map((cell) => cell.trim()));
+  return rows[0].map((_, at) => rows.slice(1).map((it) => it[at]).filter(Boolean).join("; "));
+}
+
+/**
+ * Compares what the page makes of such programs, by its own modules.
+ * @param {function(string, any, any)} compare
+ */
+export async function compareBlockingPrograms(compare) {
+  const { faults } = await loadModules(["faults"]);
+  for (const [name, text, threads, question] of MADE) {
+    const { change } = faults.explainFault(makeFault(text), text);
+    const test = change?.text ?? "";
+    compare(`the instructions of ${name}`, threads, test && listInstructions(test));
+    compare(`the question of ${name}`, question, test.split("\n").find((it) => /^~?exists|^forall/.test(it))?.replace(/^~/, ""));
+  }
+  for (const [name, text, part] of REFUSED) {
+    const { words, change } = faults.explainFault(makeFault(text), text);
+    compare(`${name} is refused`, [true, undefined], [words.startsWith("The page can't make a test of this program") && words.includes(part), change?.text]);
+  }
+}
+
+await runAlone(import.meta.url, compareBlockingPrograms);
