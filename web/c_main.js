@@ -59,7 +59,8 @@ const MOST_WORDS = 9;
 // How many calls of functions that set variables may be in one another.
 const DEEPEST = 8;
 // Why a part is refused.
-const OF_MANY = ": a test has 4 threads at most, so start fewer";
+/** Why too many threads are refused, as the end of a sentence. */
+export const OF_MANY = ": a test has 4 threads at most, so start fewer";
 const OF_BEFORE = ": before its threads, `main` only declares variables, and sets them to constants, as `x = 0;`";
 const OF_RUNNING = ": while threads run, `main` only starts others and joins them, so give this to a thread of its own";
 const OF_AFTER = ": after the joins, `main` only prints, or asks by an `assert` or an `if`";

@@ -8,7 +8,7 @@ import { CallWriter } from "./c_calls.js";
 import { parseConstant, refusePart } from "./c_code.js";
 import { areEntering, findEntry, formatList, guessQuestion } from "./c_guess.js";
 import { linkThreads } from "./c_links.js";
-import { rewriteBlocking } from "./c_blocking.js";
+import { rewriteTerms } from "./c_terms.js";
 import { addUsers, refuseUsers } from "./c_lone_lock.js";
 import { blankDelays } from "./c_delays.js";
 import { OF_STORING } from "./c_loop_reader.js";
@@ -305,12 +305,12 @@ function isRead(text) {
  * waits; whether an exchange is in place of a compare-exchange (`isSwapping`); whether a location is in place of a mutex (`isLocking`), or of some
  * that are only tried (`isTrying`); whether words of 32 bits are in place of those of 64; whether a run is in place of a loop of them; whether delays are
  * left out (`isDelayed`); whether a thread ends at a loop that stores (`isEnding`); the name of a variable in place of a member of an object (`pointed`), if
- * there are some; a sentence on threads that are added (`users`); and sentences on what threads look at in place of waiting (`blocking`). Or returns why it is not rewritten: a part of it, with its index, and the end of a
+ * there are some; a sentence on threads that are added (`users`); and sentences on what threads look at in place of waiting (`terms`). Or returns why it is not rewritten: a part of it, with its index, and the end of a
  * sentence; or without an index why lw refuses the test.
  * @param {string} text
  * @param {string} [meaning] What the question of the program means, in words.
  * @returns {{made?: string, isGuess?: boolean, isOpen?: boolean, races?: string[], isWaiting?: boolean, isSwapping?: boolean, isLocking?: boolean,
- *   isTrying?: boolean, isWide?: boolean, isRepeated?: boolean, isDelayed?: boolean, isEnding?: boolean, pointed?: string, users?: string, blocking?: string,
+ *   isTrying?: boolean, isWide?: boolean, isRepeated?: boolean, isDelayed?: boolean, isEnding?: boolean, pointed?: string, users?: string, terms?: string,
  *   why?: string, index?: number}}
  */
 export function rewriteProgram(text, meaning = "") {
@@ -320,9 +320,9 @@ export function rewriteProgram(text, meaning = "") {
 /** Returns what `rewriteProgram` does of a program without marks between digits. */
 function rewriteJoined(text, meaning) {
   const test = rewriteUnblocked(text, meaning);
-  const edited = test.made ? null : rewriteBlocking(text);
+  const edited = test.made ? null : rewriteTerms(text);
   const { index, ...other } = edited ? rewriteUnblocked(edited.text, meaning) : {};
-  if (other.made) return { ...other, blocking: edited.words };
+  if (other.made) return { ...other, terms: edited.words };
   // What is quoted is in the program.
   const isQuoted = edited && index !== undefined && text.startsWith(edited.text.slice(index, index + 9), edited.findIndex(index));
   return isQuoted && edited.findIndex(index) > test.index ? { ...other, index: edited.findIndex(index) } : test;

@@ -1,9 +1,10 @@
-// Finds what to change in a program in C or C++ that is not rewritten, where one change does: a loop that counts far counts to 2 or 1, and a plain
-// variable that a loop waits for is volatile. Not proved.
+// Finds what to change in a program in C or C++ that is not rewritten, where one change does: a loop that counts far counts to 2 or 1, one that starts many
+// threads starts 2, and a plain variable that a loop waits for is volatile. Not proved.
 
 import { makeChange } from "./change.js";
 import { blank, findClosing } from "./c_code.js";
 import { OF_PASSES } from "./c_loop_reader.js";
+import { OF_MANY } from "./c_main.js";
 import { OF_PLAIN_LOOPS } from "./c_thread.js";
 
 // What is no code: strings, letters and comments.
@@ -57,6 +58,21 @@ function replaceCount(text, code, count, other) {
   return parts.reverse().reduce((whole, [index, length, word]) => whole.slice(0, index) + word + whole.slice(index + length), text);
 }
 
+/**
+ * Returns a program that starts another number of threads: that of the heads of its loops, of its arrays and of its constants. Returns null if a larger number
+ * outside of the heads of loops may be a sum of theirs.
+ */
+function replaceThreads(text, code, count, other) {
+  const heads = [...code.matchAll(/\bfor\s*\(/g)].map((it) => ({ begin: it.index, end: it.index + cutHead(code, it.index).length }));
+  const isInHead = (at) => heads.some(({ begin, end }) => begin <= at && at < end);
+  const numbers = [...code.matchAll(NUMBER)].map(({ 0: word, index }) => ({ word, index, value: Number(word.replaceAll("'", "")) }));
+  if (numbers.some(({ value, index }) => value > count && value % count === 0 && !isInHead(index))) return null;
+  const isOfThreads = ({ value, index }) =>
+    value === count && (isInHead(index) || /(?:\[\s*|#[ \t]*define[ \t]+\w+[ \t]+\(?|\bconst(?:expr)?\b[^;(){}=]*[={]\s*|[({,]\s*)$/.test(code.slice(0, index)));
+  const parts = numbers.filter(isOfThreads);
+  return parts.reverse().reduce((whole, { index, word }) => whole.slice(0, index) + other + whole.slice(index + word.length), text);
+}
+
 /** Returns whether an index is outside of all functions: each brace around it is that of a type or a namespace. */
 function isOutside(code, index) {
   const open = [];
@@ -90,23 +106,30 @@ function listRemedies(text, { why, index }) {
     const make = (other) => ({ whole: count && replaceCount(text, code, count, other), title: `Count to ${other}` });
     return COUNTS.map(make).filter((it) => it.whole);
   }
+  if (why.includes(OF_MANY)) {
+    const count = findCount(code, head);
+    const started = count && replaceThreads(text, code, count, String(COUNTS[0]));
+    return started ? [{ whole: started, title: `Start ${COUNTS[0]} threads` }] : [];
+  }
   if (!why.includes(OF_PLAIN_LOOPS)) return [];
   const { whole, names } = makeVolatile(text, code, head.match(NAME) ?? []);
   return names.length ? [{ whole, title: `Make ${names.join(", ").replace(/, (?=[^,]*$)/, " and ")} volatile` }] : [];
 }
 
 /**
- * Returns the change of a program because of which it is rewritten, or refused later; null if none is known.
+ * Returns the change of a program because of which it is rewritten, refused later, or for another reason that one more change removes; null if none is known.
  * @param {string} text
  * @param {{why: string, index?: number}} fault
- * @param {function(string): {made?: string, index?: number}} rewrite
+ * @param {function(string): {made?: string, why?: string, index?: number}} rewrite
  * @returns {{begin: number, end: number, text: string, title: string} | null}
  */
 export function findRemedy(text, fault, rewrite) {
   if (text.length > LONGEST) return null;
   const helps = ({ whole }) => {
     const next = rewrite(whole);
-    return next?.made || next?.index > fault.index + Math.max(whole.length - text.length, 0);
+    if (!next || next.made) return Boolean(next);
+    const isLater = next.index > fault.index + Math.max(whole.length - text.length, 0);
+    return isLater || (next.why !== fault.why && listRemedies(whole, next).some((it) => rewrite(it.whole)?.made));
   };
   const remedy = listRemedies(text, fault).find(helps);
   return remedy ? { ...makeChange(text, remedy.whole), title: remedy.title } : null;

@@ -21,10 +21,10 @@ const C = new RegExp(
   "^(?:C\\s|(?:\\{[^{}]*\\}\\s*)?P0\\s*\\([^(){};|]*\\*[^(){};|]*\\)\\s*\\{|#[ \\t]*(?:include|define|pragma|if|ifdef|ifndef)\\b|" +
     "using\\s|(?:inline\\s+)?namespace\\b|extern\\s+\"C|alignas\\b|template\\b|typedef\\s|\\[\\[|" +
     "(?:(?:extern|static|inline|volatile|const|constexpr|thread_local|_Atomic)\\s+)*" +
-    "(?:class\\s+\\w+[\\w\\s]{0,40}\\{|enum\\s*(?:\\w+\\s*)?\\{|" +
+    "(?:class\\s+\\w+[\\w\\s]{0,40}\\{|enum\\s*(?:(?:class|struct)\\s+)?(?:\\w+\\s*)?(?::\\s*[\\w:]+\\s*)?\\{|" +
     "(?:atomic_\\w+|int|void|(?:un)?signed|long|short|char|s?size_t|bool|auto|struct|u?int(?:\\d+|ptr)_t|pthread_(?:\\w+_)?t|" +
     "mtx_t|thrd_t|cnd_t|sem_t|spinlock_t|LONG(?:64)?|U?INT|U?LONG|DWORD|BOOL|HANDLE|CRITICAL_SECTION|SRWLOCK)\\s|" +
-    "atomic<|std::|_Atomic\\())",
+    "atomic<|std::|_Atomic\\(|DEFINE_(?:RAW_)?(?:SPINLOCK|MUTEX)\\())",
 );
 // A procedure in a listing of Microsoft's compiler.
 const LISTING = /^[^\n]*\bPROC\b[^]*^[^\n]*\bENDP\b/m;
@@ -104,14 +104,14 @@ function explainProgram(words, text, place) {
  * @param {object} test
  * @returns {string}
  */
-export function explainMade({ made, isGuess, isOpen, races, isWaiting, isSwapping, isLocking, isTrying, isWide, isRepeated, isDelayed, isEnding, pointed, users = "", blocking = "" }) {
+export function explainMade({ made, isGuess, isOpen, races, isWaiting, isSwapping, isLocking, isTrying, isWide, isRepeated, isDelayed, isEnding, pointed, users = "", terms = "" }) {
   const end = `${isOpen ? "" : LEFT_OUT}.`;
   const objects = ` A pointer is a word here, 0 for null and 1 for the object, whose members are variables, as \`${pointed}\`; a null pointer reads them, too.`;
   const ofLocks = [[isLocking, OF_LOCKING + end], [isTrying, OF_TRYING]];
   const ofLoops = [[isWaiting, OF_WAITING + end], [isSwapping, OF_SWAPPING]];
   const parts = [[pointed, objects], ...ofLoops, ...ofLocks, [isWide, OF_WIDE], [isRepeated, OF_REPEATED], [isDelayed, OF_DELAYS], [isEnding, OF_ENTRY]];
   const question = made.endsWith("(true)\n") ? NOT_ASKED : isGuess ? OF_GUESS : "";
-  return `${users}${blocking}${explainRaces(races)}${parts.map(([isSo, sentence]) => (isSo ? sentence : "")).join("")}${question}`;
+  return `${users}${terms}${explainRaces(races)}${parts.map(([isSo, sentence]) => (isSo ? sentence : "")).join("")}${question}`;
 }
 
 /** Returns a sentence on plain variables, if there are some, on which threads race in a program; or "". */

@@ -65,6 +65,26 @@ struct Shared {
 void writer() { s.data = 42; s.ready = true; }
 void reader() { while (!s.ready) ; int r = s.data; }
 `;
+const MANY = `#include <atomic>
+#include <thread>
+#include <vector>
+std::atomic<int> count{0};
+void add() { for (int n = 0; n < 1000; ++n) count.fetch_add(1, std::memory_order_relaxed); }
+int main() {
+  std::vector<std::thread> v;
+  for (int n = 0; n < 10; ++n) v.emplace_back(add);
+  for (auto& t : v) t.join();
+  printf("%d", count.load());
+}
+`;
+const STARTED = `int n;
+int add(void *p) { ++n; return 0; }
+int main(void) {
+  thrd_t thr[10];
+  for (int i = 0; i < 10; ++i) thrd_create(&thr[i], add, NULL);
+  for (int i = 0; i < 10; ++i) thrd_join(thr[i], NULL);
+}
+`;
 // A program that is refused, the title of the button that changes it, and the parts that become others. Null is the title if nothing is changed.
 const CHANGES = [
   ["a loop that counts far", LOCK, "Count to 2", [["i < 100000", "i < 2"], ["200000", "4"]]],
@@ -77,6 +97,10 @@ const CHANGES = [
   ["a loop with many statements", "std::atomic<int> x{0};\nvoid a() { for (int i = 0; i < 9; i++) { x.store(i); x.store(i); } }\nvoid b() { int r = x.load(); }\n",
     "Count to 2", [["i < 9", "i < 2"]]],
   ["a thread that is long without loops", LOCK.replace(/for .*\{/, "{").replace("++counter;", "counter++; ".repeat(20)), null, []],
+  ["many threads", MANY, "Start 2 threads", [["n < 10;", "n < 2;"]]],
+  ["many threads in an array", STARTED, "Start 2 threads", [["thr[10]", "thr[2]"], ["i < 10", "i < 2"], ["i < 10", "i < 2"]]],
+  ["many threads, and a sum of theirs", STARTED.replace("NULL);\n}", "NULL);\n  assert(n == 20);\n}"), null, []],
+  ["many threads, each of which has started", MANY.replace("n < 10;", "n < 2;"), "Count to 2", [["n < 1000", "n < 2"]]],
   // A sum that the new count would not have.
   ["a loop with one pass more", LOCK.replace("i < 100000", "i <= 100000").replace("200000", "200002"), null, []],
   ["loops in loops", LOCK.replace("100000; ++i)", "100; ++i) for (int j = 0; j < 1000; ++j)"), null, []],
@@ -101,7 +125,7 @@ const SECTIONS = [
 function compareChanges({ faults }, compare) {
   for (const [name, text, title, parts] of CHANGES) {
     const { change } = faults.explainFault(makeFault(text), text);
-    const isOther = change && !/^(?:Count|Make \w+(?:, \w+)*(?: and \w+)? volatile)/.test(change.title);
+    const isOther = change && !/^(?:Count|Start|Make \w+(?:, \w+)*(?: and \w+)? volatile)/.test(change.title);
     compare(`the button for ${name}`, title, isOther ? null : change?.title ?? null);
     if (title === null) continue;
     const whole = parts.reduce((it, [part, other]) => it.replace(part, () => other), text);

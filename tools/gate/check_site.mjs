@@ -18,11 +18,11 @@ import { isDeepStrictEqual, parseArgs } from "node:util";
 import { MessageChannel, Worker, receiveMessageOnPort } from "node:worker_threads";
 import { compareAssemblyTexts } from "./assembly_texts.mjs";
 import { compareCPrograms } from "./c_programs.mjs";
-import { compareBlockingPrograms } from "./blocking_programs.mjs";
 import { compareChangedPrograms } from "./changed_programs.mjs";
 import { compareConvertedPrograms } from "./converted_programs.mjs";
 import { comparePhrases } from "./phrases.mjs";
 import { comparePseudoTexts } from "./pseudo_texts.mjs";
+import { compareProgramsInTerms } from "./programs_in_terms.mjs";
 import { compareRustPrograms } from "./rust_programs.mjs";
 import { SLOWEST, measure } from "./typed_texts.mjs";
 
@@ -1184,7 +1184,7 @@ async function main() {
   await comparePhrases((...compared) => tally.compare(...compared));
   await compareConvertedPrograms((...compared) => tally.compare(...compared));
   await compareChangedPrograms((...compared) => tally.compare(...compared));
-  await compareBlockingPrograms((...compared) => tally.compare(...compared));
+  await compareProgramsInTerms((...compared) => tally.compare(...compared));
   await compareFurtherFaults(page, program, tally, texts);
   if (!chosen.length) compareFinding(page, tally, familiesOfPage());
   if (!chosen.length) compareTyped(page, program, tally);

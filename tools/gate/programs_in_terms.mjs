@@ -1,7 +1,7 @@
-// Compares what the page makes of programs in C and C++ whose threads wait by semaphores, latches, barriers, conditions, or `wait` of atomic variables, with what
-// is typed in here: the rows of the test and its question, or why there is none.
+// Compares what the page makes of programs in C and C++ that have other terms than atomic variables and mutexes - semaphores, latches, barriers, conditions,
+// enumerations, and locks of the kernel - with what is typed in here: the rows of the test and its question, or why there is none.
 //
-//     node tools/gate/blocking_programs.mjs      compares; the last line is 'N passed, M failed'
+//     node tools/gate/programs_in_terms.mjs      compares; the last line is 'N passed, M failed'
 //
 // tools/gate/check_site.mjs compares this too. It needs neither a browser nor the module.
 
@@ -112,6 +112,27 @@ int ready, data;
 void *producer(void *p) { pthread_mutex_lock(&m); data = 1; ready = 1; pthread_cond_signal(&c); pthread_mutex_unlock(&m); return 0; }
 void *consumer(void *p) { pthread_mutex_lock(&m); while (ready == 0) pthread_cond_wait(&c, &m); int r = data; pthread_mutex_unlock(&m); return 0; }
 `;
+const BOOST = `class spinlock {
+private:
+  typedef enum {Locked, Unlocked} LockState;
+  boost::atomic<LockState> state_;
+public:
+  spinlock() : state_(Unlocked) {}
+  void lock() { while (state_.exchange(Locked, boost::memory_order_acquire) == Locked) { } }
+  void unlock() { state_.store(Unlocked, boost::memory_order_release); }
+};
+`;
+const STATE = `enum class State { Idle, Busy = 5, Late };
+std::atomic<State> s{State::Idle};
+int data;
+void a() { data = 1; s.store(State::Late, std::memory_order_release); }
+void b() { if (s.load(std::memory_order_acquire) == State::Late) { int r = data; } }
+`;
+const KERNEL = `static DEFINE_SPINLOCK(lock);
+int x, y, r1, r2;
+void cpu0(void) { spin_lock(&lock); WRITE_ONCE(x, 1); spin_unlock(&lock); r1 = READ_ONCE(y); }
+void cpu1(void) { WRITE_ONCE(y, 1); smp_mb(); r2 = READ_ONCE(x); }
+`;
 const GUARDED = "MOV EAX,$1; XCHG [m],EAX; MOV [data],$42; MOV [ready],$1; MOV EBX,$0; XCHG [m],EBX";
 const LOOKING = "MOV EAX,$1; XCHG [m],EAX; MOV EBX,[ready]; MOV ECX,[data]; MOV EDX,$0; XCHG [m],EDX";
 const OF_CONDITION = "forall (~0:EAX=0 \\/ ~1:EAX=0 \\/ ~1:EBX=1 \\/ 1:ECX=42)";
@@ -139,9 +160,19 @@ const MADE = [
   ["a condition with a lambda", CONDITION, [GUARDED, LOOKING], OF_CONDITION],
   ["a condition in a loop", CONDITION.replace("cv.wait(lk, [] { return ready; });", "while (!ready) cv.wait(lk);"), [GUARDED, LOOKING], OF_CONDITION],
   ["a condition of POSIX", POSIX_CONDITION, [GUARDED.replace("42", "1"), LOOKING], "exists (0:EAX=0 /\\ 1:EAX=0 /\\ ~1:EBX=0 /\\ 1:ECX=0)"],
+  ["an enumeration of Boost's spinlock", BOOST,
+    Array(2).fill("MOV EAX,$0; XCHG [the_lock_state_],EAX; MOV EBX,[counter]; ADD EBX,$1; MOV [counter],EBX; MOV [the_lock_state_],$1"),
+    "exists (~0:EAX=0 /\\ ~1:EAX=0 /\\ ~counter=2)"],
+  ["an enumeration with words", STATE, ["MOV [data],$1; MOV [s],$6", "MOV EAX,[s]; CMP EAX,$6; JNE END; MOV EBX,[data]; END:"], "exists (1:EAX=6 /\\ 1:EBX=0)"],
+  ["a lock of the kernel", KERNEL, ["MOV EAX,$1; XCHG [lock],EAX; MOV [x],$1; MOV [lock],$0; MOV EBX,[y]", "MOV [y],$1; MFENCE; MOV EAX,[x]"],
+    "exists (0:EAX=0 /\\ 0:EBX=0 /\\ 1:EAX=0)"],
+  ["a mutex of the kernel", KERNEL.replace("DEFINE_SPINLOCK", "DEFINE_MUTEX").replace("spin_lock", "mutex_lock").replace("spin_unlock", "mutex_unlock"),
+    ["MOV EAX,$1; XCHG [lock],EAX; MOV [x],$1; MOV ECX,$0; XCHG [lock],ECX; MOV EBX,[y]", "MOV [y],$1; MFENCE; MOV EAX,[x]"], "exists (0:EAX=0 /\\ 0:EBX=0 /\\ 1:EAX=0)"],
 ];
 // A program of which no test is made, and a part of its sentence.
 const REFUSED = [
+  ["an enumeration with a name that a variable has", STATE.replace("int data", "std::atomic<int> Busy; int data"), ""],
+  ["an enumeration with a sum", STATE.replace("= 5", "= 2 + 3"), ""],
   ["a wait for a sum", WAIT.replace("wait(false, std::memory_order_acquire)", "wait(1 - 1)"), "the page follows `wait` of an atomic variable for one word"],
   ["a wait of a variable while a loop looks at another one", WAIT.replace("ready.wait(false, std::memory_order_acquire);", "while (data == 0) ready.wait(false);"), ""],
   ["a barrier of three, for two threads", BARRIER.replace("NULL, 2)", "NULL, 3)"), "the page follows barriers at which"],
@@ -171,7 +202,7 @@ function listInstructions(test) {
  * Compares what the page makes of such programs, by its own modules.
  * @param {function(string, any, any)} compare
  */
-export async function compareBlockingPrograms(compare) {
+export async function compareProgramsInTerms(compare) {
   const { faults } = await loadModules(["faults"]);
   for (const [name, text, threads, question] of MADE) {
     const { change } = faults.explainFault(makeFault(text), text);
@@ -185,4 +216,4 @@ export async function compareBlockingPrograms(compare) {
   }
 }
 
-await runAlone(import.meta.url, compareBlockingPrograms);
+await runAlone(import.meta.url, compareProgramsInTerms);
