@@ -1,5 +1,5 @@
 // Finds what to change in a program in C or C++ that is not rewritten, where one change does: a loop that counts far counts to 2 or 1, one that starts many
-// threads starts 2, and a plain variable that a loop waits for is volatile. Not proved.
+// threads starts 2, a plain variable that a loop waits for is volatile, and what an endless loop does is done once. Not proved.
 
 import { makeChange } from "./change.js";
 import { blank, findClosing } from "./c_code.js";
@@ -15,6 +15,9 @@ const NAME = /[A-Za-z_]\w*/g;
 // What has a body of declarations. And the words before a name in a declaration of plain integers, after what begins it.
 const HOLDER = /\b(?:struct|class|namespace|union)\b[\w\s:]*$/;
 const PLAIN_TYPE = "(?:(?:unsigned|signed|long|short)\\s+)*(?:int|_?[Bb]ool|char|long|short|unsigned|s?size_t|u?int\\d+_t)\\b(?![^;{}()=]*[*&<])";
+// The head of an endless loop with a block, and what leaves a loop or begins its next pass.
+const ENDLESS = /\b(?:while\s*\(\s*(?:1|true)\s*\)|for\s*\(\s*;\s*;\s*\))\s*(?=\{)/g;
+const LEAVING = /\b(?:break|continue|return|goto|throw)\b/;
 // Why a thread is refused whose loops may have too many passes.
 const OF_ROOM = /six registers|too many statements/;
 // The counts that are tried; the least number that is a count; the most counts of which another number is a multiple, as the sum that is asked for; and
@@ -95,6 +98,13 @@ function makeVolatile(text, code, names) {
   return { whole: indices.reduce((it, at) => `${it.slice(0, at)}volatile ${it.slice(at)}`, text), names: [...places.keys()] };
 }
 
+/** Returns a program in which each endless loop is its block; null if one of them is left, or has a next pass before its end. */
+function runOnce(text, code) {
+  const heads = [...code.matchAll(ENDLESS)];
+  const isWhole = ({ 0: head, index }) => !LEAVING.test(code.slice(index, findClosing(code, index + head.length) + 1));
+  return heads.every(isWhole) ? heads.reverse().reduce((whole, { 0: head, index }) => whole.slice(0, index) + whole.slice(index + head.length), text) : null;
+}
+
 /** Returns programs that differ from one at the loop because of which it is refused, each with the title of the button that makes it. */
 function listRemedies(text, { why, index }) {
   const code = text.replace(NO_CODE, blank);
@@ -110,6 +120,10 @@ function listRemedies(text, { why, index }) {
     const count = findCount(code, head);
     const started = count && replaceThreads(text, code, count, String(COUNTS[0]));
     return started ? [{ whole: started, title: `Start ${COUNTS[0]} threads` }] : [];
+  }
+  if (new RegExp(`^(?:${ENDLESS.source})`).test(code.slice(index))) {
+    const once = runOnce(text, code);
+    return once ? [{ whole: once, title: "Run each endless loop once" }] : [];
   }
   if (!why.includes(OF_PLAIN_LOOPS)) return [];
   const { whole, names } = makeVolatile(text, code, head.match(NAME) ?? []);

@@ -85,6 +85,25 @@ int main(void) {
   for (int i = 0; i < 10; ++i) thrd_join(thr[i], NULL);
 }
 `;
+const ENDLESS = `volatile int flag[2], turn;
+int counter = 0;
+void *p0(void *arg) {
+    while (1) {
+        flag[0] = 1; turn = 1;
+        while (flag[1] == 1 && turn == 1);
+        counter++;
+        flag[0] = 0;
+    }
+}
+void *p1(void *arg) {
+    for (;;) {
+        flag[1] = 1; turn = 0;
+        while (flag[0] == 1 && turn == 0);
+        counter++;
+        flag[1] = 0;
+    }
+}
+`;
 // A program that is refused, the title of the button that changes it, and the parts that become others. Null is the title if nothing is changed.
 const CHANGES = [
   ["a loop that counts far", LOCK, "Count to 2", [["i < 100000", "i < 2"], ["200000", "4"]]],
@@ -101,6 +120,8 @@ const CHANGES = [
   ["many threads in an array", STARTED, "Start 2 threads", [["thr[10]", "thr[2]"], ["i < 10", "i < 2"], ["i < 10", "i < 2"]]],
   ["many threads, and a sum of theirs", STARTED.replace("NULL);\n}", "NULL);\n  assert(n == 20);\n}"), null, []],
   ["many threads, each of which has started", MANY.replace("n < 10;", "n < 2;"), "Count to 2", [["n < 1000", "n < 2"]]],
+  ["endless loops", ENDLESS, "Run each endless loop once", [["while (1) {", "{"], ["for (;;) {", "{"]]],
+  ["an endless loop that is left", ENDLESS.replace("counter++;", "if (counter++) break;"), null, []],
   // A sum that the new count would not have.
   ["a loop with one pass more", LOCK.replace("i < 100000", "i <= 100000").replace("200000", "200002"), null, []],
   ["loops in loops", LOCK.replace("100000; ++i)", "100; ++i) for (int j = 0; j < 1000; ++j)"), null, []],
@@ -125,7 +146,7 @@ const SECTIONS = [
 function compareChanges({ faults }, compare) {
   for (const [name, text, title, parts] of CHANGES) {
     const { change } = faults.explainFault(makeFault(text), text);
-    const isOther = change && !/^(?:Count|Start|Make \w+(?:, \w+)*(?: and \w+)? volatile)/.test(change.title);
+    const isOther = change && !/^(?:Count|Start|Run each|Make \w+(?:, \w+)*(?: and \w+)? volatile)/.test(change.title);
     compare(`the button for ${name}`, title, isOther ? null : change?.title ?? null);
     if (title === null) continue;
     const whole = parts.reduce((it, [part, other]) => it.replace(part, () => other), text);
