@@ -8,6 +8,7 @@ import { findSlip } from "./c_slips.js";
 import { findBareEntries } from "./initial_values.js";
 import { isAllIn } from "./other_language.js";
 import { rewriteRust } from "./rust_program.js";
+import { findRustRemedy } from "./rust_remedies.js";
 import { readTest } from "./tests.js";
 import { blankComments } from "./tokens.js";
 
@@ -92,7 +93,7 @@ function explainProgram(words, text, place) {
   if (!test) return { words: `${words} ${IS_READ}`, ...hint };
   const slip = test.made || isRust ? null : findSlip(text, test, rewriteProgram);
   if (slip) return { ...explainSlip(text, slip, place.text), ...hint };
-  if (!test.made) return explainFault(text, test, place.text, isRust ? null : findRemedy(text, test, rewriteProgram), hint);
+  if (!test.made) return explainFault(text, test, place.text, isRust ? findRustRemedy(text, rewriteRust) : findRemedy(text, test, rewriteProgram), hint);
   place.proposeChange(test.made, 0, place.text.length);
   Object.assign(place.change, { title: "Rewrite it as an x86 test", done: "Rewritten.", isCompiled: true });
   const compiled = isRust ? OF_BUTTON.replace("gcc and clang compile", "rustc compiles") : OF_BUTTON;

@@ -1,4 +1,4 @@
-// Compares what the page changes in programs in C and C++ that it refuses, where one change helps, and what it makes of comments in place of critical
+// Compares what the page changes in programs in C, C++ and Rust that it refuses, where one change helps, and what it makes of comments in place of critical
 // sections, with what is typed in here.
 //
 //     node tools/gate/changed_programs.mjs      compares; the last line is 'N passed, M failed'
@@ -104,6 +104,44 @@ void *p1(void *arg) {
     }
 }
 `;
+const BOOK = `use std::sync::{Arc, Mutex};
+use std::thread;
+
+fn main() {
+    let counter = Arc::new(Mutex::new(0));
+    let mut handles = vec![];
+    for _ in 0..10 {
+        let counter = Arc::clone(&counter);
+        let handle = thread::spawn(move || {
+            let mut num = counter.lock().unwrap();
+            *num += 1;
+        });
+        handles.push(handle);
+    }
+    for handle in handles {
+        handle.join().unwrap();
+    }
+    println!("Result: {} of 10", *counter.lock().unwrap());
+}
+`;
+const PRODUCT = `use std::sync::atomic::{AtomicUsize, Ordering};
+use std::sync::Arc;
+use std::thread;
+const ROUNDS: usize = 1_000;
+fn main() {
+    let counter = Arc::new(AtomicUsize::new(0));
+    let handles: Vec<_> = (0..8)
+        .map(|_| {
+            let counter = Arc::clone(&counter);
+            thread::spawn(move || {
+                for _ in 0..ROUNDS { counter.fetch_add(1, Ordering::Relaxed); }
+            })
+        })
+        .collect();
+    for h in handles { h.join().unwrap(); }
+    assert_eq!(counter.load(Ordering::SeqCst), 8_000);
+}
+`;
 // A program that is refused, the title of the button that changes it, and the parts that become others. Null is the title if nothing is changed.
 const CHANGES = [
   ["a loop that counts far", LOCK, "Count to 2", [["i < 100000", "i < 2"], ["200000", "4"]]],
@@ -122,6 +160,9 @@ const CHANGES = [
   ["many threads, each of which has started", MANY.replace("n < 10;", "n < 2;"), "Count to 2", [["n < 1000", "n < 2"]]],
   ["endless loops", ENDLESS, "Run each endless loop once", [["while (1) {", "{"], ["for (;;) {", "{"]]],
   ["an endless loop that is left", ENDLESS.replace("counter++;", "if (counter++) break;"), null, []],
+  ["threads in Rust", BOOK, "Make the count 2", [["0..10", "0..2"]]],
+  ["threads and rounds in Rust", PRODUCT, "Make each count 2", [["1_000", "2"], ["0..8", "0..2"], ["8_000", "4"]]],
+  ["a sum in Rust that is no product", PRODUCT.replace("8_000", "16_000"), null, []],
   // A sum that the new count would not have.
   ["a loop with one pass more", LOCK.replace("i < 100000", "i <= 100000").replace("200000", "200002"), null, []],
   ["loops in loops", LOCK.replace("100000; ++i)", "100; ++i) for (int j = 0; j < 1000; ++j)"), null, []],
@@ -146,7 +187,7 @@ const SECTIONS = [
 function compareChanges({ faults }, compare) {
   for (const [name, text, title, parts] of CHANGES) {
     const { change } = faults.explainFault(makeFault(text), text);
-    const isOther = change && !/^(?:Count|Start|Run each|Make \w+(?:, \w+)*(?: and \w+)? volatile)/.test(change.title);
+    const isOther = change && !/^(?:Count|Start|Run each|Make \w+(?:, \w+)*(?: and \w+)? volatile|Make (?:the|each) count)/.test(change.title);
     compare(`the button for ${name}`, title, isOther ? null : change?.title ?? null);
     if (title === null) continue;
     const whole = parts.reduce((it, [part, other]) => it.replace(part, () => other), text);
