@@ -50,10 +50,12 @@ export class CallWriter extends SwapWriter {
   constructor(program, number, kept) {
     super(program, number, kept);
     Object.assign(this, { program: { ...program, variables: this.variables }, called: program.threads[number], callCount: 0, depth: 0 });
-    // The functions whose calls the statement is in, the variables before the innermost one, and what its result is assigned to.
+    // The functions whose calls the statement is in, the variables before the innermost one, and what its result is assigned to. And of the last call
+    // what its result is assigned to, what is known at each of its ends, and the number of instructions before what follows it.
     this.frames = [];
     this.outer = new Set();
     this.target = null;
+    this.returned = null;
     this.hasConstants = false;
     this.changing = [...program.functions].filter(([, it]) => !program.isHerd && it.parameters.includes("&")).map(([name]) => name.split("__").at(-1));
   }
@@ -182,9 +184,10 @@ export class CallWriter extends SwapWriter {
     this.frames.push(called);
     this.writeStatements(readStatements(called.code, this.names), true);
     this.frames.pop();
-    this.known = [...this.exits.slice(exits.length), this.known].reduce(joinPaths);
+    const ends = [...this.exits.slice(exits.length), this.known];
+    this.known = ends.reduce(joinPaths);
     this.endFunction();
-    Object.assign(this, caller);
+    Object.assign(this, caller, { returned: { target, ends: ends.filter(Boolean), count: this.instructions.length } });
     branches.length = count;
     for (const name of this.locals) if (!inner.has(name)) [this.locals, this.limits, this.known].forEach((it) => it.delete(name));
   }

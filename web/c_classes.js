@@ -4,12 +4,18 @@
 // A `Class` has the declarations of its `members`, which have their initial words as their values, and its `methods`, which are functions.
 
 import { blank, findClosing, OF_LONE, OF_VALUES, parseConstant, parseDeclaration, refusePart, replaceNames, squeezeCode } from "./c_code.js";
+import { computeConstant } from "./c_constants.js";
 import { explainType } from "./c_reasons.js";
 
 const ACCESS = /^(?:public|private|protected)\s*:(?!:)/;
 // What a class may have that does not matter here, and what needs no code: a method that has none, or that of the compiler.
 const WITHOUT_CODE = /^[^;{}()]*\([^;{}()]*\)[^;{}()]{0,40};/;
 const CONSTANT = /^(?:(?:static|const|inline)\s+)*constexpr\b/;
+// A constant of a class in squeezed code: the groups are its name and its value.
+const NAMED = new RegExp(
+  "^(?=[^=]*\\bstatic )(?:(?:static|inline|const|constexpr) )+(?:auto|bool|int|long|unsigned(?: int| long)?|s?size_t|u?int(?:32|64)_t) " +
+    "(\\w+)[={]([^{};,]+)\\}?$",
+);
 // A method up to its code: the groups are its type, its name, and its parameters. And a constructor: its name, its parameters, and its initial values.
 const METHOD = /^((?:(?:std::)?\w+[\s*&]+)+)(\w+)\s*\(([^(){};]*)\)\s*(?:const\s*|override\s*|final\s*)*\{/;
 const CONSTRUCTOR = /^(?:(?:explicit|constexpr|inline)\s+)*(\w+)\s*\(([^(){};]*)\)\s*(?::((?:\s*,?\s*\w+\s*(?:\([^()]*\)|\{[^{}]*\}))*)\s*)?\{/;
@@ -98,10 +104,23 @@ class ClassReader {
     for (const [, name, value] of found) this.words.set(name, value);
   }
 
+  /** Gives the name of a constant its value. Returns whether squeezed code declares one. Throws NoTest if the name has another value elsewhere. */
+  readConstant(code, part) {
+    const [, name, value] = NAMED.exec(code) ?? [];
+    const number = name && /\b(?:const|constexpr) /.test(code) ? computeConstant(value) : null;
+    if (number === null || number < 0) return false;
+    const word = String(number);
+    if ((this.names.get(name) ?? word) !== word) refusePart(part, OF_LONE);
+    this.names.set(name, word);
+    this.skipPart(part.code.length);
+    return true;
+  }
+
   /** Reads a declaration of variables. */
   readVariables() {
     const part = this.cutPart(this.rest.search(/;|$/) + 1);
     const code = squeezeCode(replaceNames(part.code.replace(/\bmutable\b/, blank).replace(/;$/, ""), this.names));
+    if (this.readConstant(code, part)) return;
     const declared = parseDeclaration(code);
     const isStatic = /^(?:inline )?static\b/.test(code);
     if (!declared.length || isStatic || CONSTANT.test(code) || declared.some((it) => it.isPointer)) {

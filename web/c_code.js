@@ -29,14 +29,16 @@ export const WIDE = /(?:^|\W|_)(?:u?l?long|s?size_t|u?int(?:64|ptr)_t)\b/;
 const SMALL = /(?:^|\W|_)(?:[us]?char|u?short|u?int(?:8|16)_t)\b/;
 const SMALL_LIMIT = 128;
 // A variable in a declaration: the groups are its name, and its initial value after `=`, or in braces or parentheses.
-const DECLARATOR = /^(\w+(?:\[\d\](?==))?)(?:=(?!\{)(.+)|=?[{(](.*)[})])?$/;
+const DECLARATOR = /^(\w+(?:\[\d+\](?==))?)(?:=(?!\{)(.+)|=?[{(](.*)[})])?$/;
 // A declaration of mutexes in squeezed code: the groups are a `*` and their names. And an array in a declaration: the groups are its name, the number of
 // its words, and their initial values.
 const MUTEXES = new RegExp(
   "^(?:(?:static|extern|inline|mutable) )*(?:mutex|mtx_t|spinlock_t|CRITICAL_SECTION|SRWLOCK|pthread_(?:mutex_t|spinlock_t))(?: |(\\*))" +
     "(\\w+(?:,\\w+)*)(?:=PTHREAD_MUTEX_INITIALIZER|=SRWLOCK_INIT|\\{\\})?$",
 );
-const ARRAY = /^(\w+)\[([1-9])\](?:=?\{(.*)\})?$/;
+const ARRAY = /^(\w+)\[([1-9]\d{0,5})\](?:=?\{(.*)\})?$/;
+/** The number of words of an array that are read at most, which are its first ones. A test has fewer locations. */
+export const MOST_ELEMENTS = 16;
 // A constant of C that is in base 10 or 16. (One in base 8 is none here.)
 const CONSTANT_OF_C = /^(-?[1-9]\d*|0|0x[\da-f]+)(?:ul{0,2}|l{1,2}u?)?$/i;
 // A part that is long: the group is what is shown of it.
@@ -277,8 +279,8 @@ function splitDeclarators(code) {
 function listElements(declarator) {
   const [, name, count, values = ""] = ARRAY.exec(declarator) ?? [];
   const words = values.replace(/[{}]/g, "").split(",");
-  if (!name || words.length > Number(count)) return [declarator];
-  return Array.from({ length: Number(count) }, (_, index) => `${name}[${index}]=${words[index] || "0"}`);
+  if (!name || words.length > Math.min(Number(count), MOST_ELEMENTS)) return [declarator];
+  return Array.from({ length: Math.min(Number(count), MOST_ELEMENTS) }, (_, index) => `${name}[${index}]=${words[index] || "0"}`);
 }
 
 /**

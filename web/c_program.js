@@ -7,6 +7,7 @@ import { alignCells } from "./aligned.js";
 import { CallWriter } from "./c_calls.js";
 import { parseConstant, refusePart } from "./c_code.js";
 import { areEntering, findEntry, formatList, guessQuestion } from "./c_guess.js";
+import { hasNamedIndex, KnownWriter, writeKnown } from "./c_known.js";
 import { linkThreads } from "./c_links.js";
 import { rewriteTerms } from "./c_terms.js";
 import { addUsers, refuseUsers } from "./c_lone_lock.js";
@@ -20,7 +21,7 @@ import { rewritePointers } from "./c_pointers.js";
 import { checkThreads, readProgram } from "./c_reader.js";
 import { expandRelations, mapSites } from "./c_relations.js";
 import { rewriteRounds } from "./c_rounds.js";
-import { BITS, OF_BITS } from "./c_statements.js";
+import { BITS, OF_BITS, OF_LOOPS } from "./c_statements.js";
 import { rewriteTemplates } from "./c_templates.js";
 import { RESULT } from "./c_thread.js";
 import { findAllWords } from "./c_words.js";
@@ -45,6 +46,8 @@ const OF_PAIRS = ": a loop that exchanges needs a variable that is only set to t
 const SEPARATED = /(?<![\w.'])\d+(?:'[\da-fA-F]+)+/g;
 // A name in a question: the groups are the number of a thread before it, and the name. And those that are words of the question itself.
 const NAME = /(?<!\w)(?:P?(\d)\s*:\s*)?([A-Za-z_]\w*)/g;
+// A longer program is not written with words that are known.
+const MOST_KNOWN = 20000;
 const WORD_OF_QUESTION = /^(?:exists|forall|locations|not|true|false)$/;
 
 /** Returns the names of variables on which there is a race by a plain access: another thread accesses them too, and one of the two writes. */
@@ -185,9 +188,14 @@ function formatRows(writers) {
   return Array.from({ length: count }, (_, row) => ` ${columns.map((it) => it[row] ?? "").join(" | ")} ;\n`).join("");
 }
 
+/** Returns a writer of a thread, in which words are known if the program says of which variables they are not. */
+function makeWriter(program, number, kept) {
+  return program.unknowable ? new KnownWriter(program, number, kept) : new CallWriter(program, number, kept);
+}
+
 /** Returns the writer of a thread, in which the conditions around assertions have registers, as those at some indices have. */
 function writeAsserting(program, number, kept = []) {
-  const writer = new CallWriter(program, number, kept);
+  const writer = makeWriter(program, number, kept);
   try {
     return writer.writeThread();
   } catch (error) {
@@ -206,7 +214,7 @@ function writeThread(program, number, isEntering = false) {
   const branches = (isEntering && findEntry(writer)) || writer.loadedBranches;
   if (program.question.code || writer.assertion || !branches.length) return writer;
   try {
-    return new CallWriter(program, number, branches.map((it) => it.index)).writeThread();
+    return makeWriter(program, number, branches.map((it) => it.index)).writeThread();
   } catch {
     return writer;
   }
@@ -245,11 +253,14 @@ function makeQuestion(program, writers, used, ends, meaning) {
   return { question, isGuess: !asked, isOpen, said };
 }
 
-/** Returns the record of `rewriteProgram` of a text, whose question may have a `meaning` in words. Throws NoTest if it is not rewritten. */
-function writeTest(text, meaning) {
+/**
+ * Returns the record of `rewriteProgram` of a text, whose question may have a `meaning` in words, and in which words are known in the order of the
+ * program, or not. Throws NoTest if it is not rewritten.
+ */
+function writeTest(text, meaning, isKnown) {
   const program = linkThreads(startThreads(readProgram(text)));
   checkThreads(program);
-  const writers = writeThreads(program);
+  const writers = isKnown ? writeKnown(program, writeThreads) : writeThreads(program);
   if (writers.some((it) => it.unknownEnds.length)) {
     const findWords = findAllWords(writers, program.words);
     for (const it of writers) it.findEnds(findWords);
@@ -402,10 +413,27 @@ function rewritePointing(text, meaning) {
   }
 }
 
-/** Returns what `rewriteProgram` does of a program that makes no objects. */
+/**
+ * Returns what `rewriteProgram` does of a program that makes no objects. It is written with words that are known if it has indices that are no
+ * constants, or needs to know which result a function has.
+ */
 function tryProgram(text, meaning) {
+  const test = tryOnce(text, meaning, false);
+  const isOfKnown = !test.made && text.length < MOST_KNOWN && (hasNamedIndex(text) || needsResults(test, text));
+  const known = isOfKnown ? tryOnce(text, meaning, true) : test;
+  return known.made || known.index >= test.index ? known : test;
+}
+
+/** Returns whether a program is refused since a variable has a value after some results of a function, or since a loop calls one. */
+function needsResults({ why, index }, text) {
+  const isCalling = why.endsWith(OF_LOOPS) && /^while\s*\(\s*!?\s*[\w.]+\s*\(/.test(text.slice(index, index + 80));
+  return isCalling || why.endsWith(" has no value on some path to here");
+}
+
+/** Returns the same of a program in which words are known, or not. */
+function tryOnce(text, meaning, isKnown) {
   try {
-    const { program, ...test } = writeTest(text, meaning);
+    const { program, ...test } = writeTest(text, meaning, isKnown);
     checkTest(test.made, program);
     return test;
   } catch ({ message, index }) {

@@ -33,6 +33,8 @@ const COMPARISON = /[=!]=|[^=!]=!|<(?!<)|(?<!>)>(?!>)|&&|\|\|/;
 export const OF_FUNCTIONS = ": write what the function does in its place";
 /** Why an index is refused, as the end of a sentence. */
 export const OF_INDICES = ": an array is shared, and its indices are constants in it, as `a[0]`";
+/** Why the index of a long array is refused, as the end of a sentence. */
+export const OF_LENGTH = ": of an array the first 16 words are read";
 // Why a statement is refused, by a part of it in squeezed code, unless a rule says so.
 /** What sets or reads a bit in the Linux kernel. */
 export const BITS = /\b(?:test_and_)?(?:set|clear|change|test)_bit\w*\s*\(/;

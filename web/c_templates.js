@@ -1,7 +1,7 @@
 // Rewrites the class templates of a program in C++ that all have one list of arguments as classes, with the arguments in place of the parameters. Not proved.
 //
-// A `Template` has the `name` of its class, its `parameters`, the `begin` of its head, and the `from` and the `end` of its code. The record `Part` is that of
-// c_reader.js.
+// A `Template` has the `name` of its class, its `parameters`, their `defaults`, which are "" if they have none, the `begin` of its head, and the `from`
+// and the `end` of its code. The record `Part` is that of c_reader.js.
 
 import { blankComments, findClosing, refusePart, squeezeCode } from "./c_code.js";
 import { applyEdits } from "./c_edits.js";
@@ -11,7 +11,10 @@ const HEAD = /\btemplate\s*<([^<>;{}]*)>\s*/g;
 const CLASS = /^(?:class|struct)\s+(\w+)\s*(?:final\s*)?\{/;
 const METHOD = /^(?:[\w:]+(?:<[\w\s,]*>)?[\s*&]+){0,4}(\w+)\s*<[\w\s,]*>\s*::~?\w+\s*\([^(){};]*\)\s*(?:const\s*|noexcept\s*)*(?::[^{};]{0,200})?\{/;
 const FUNCTION = /^(?:[\w:]+[\s*&]+){1,5}\w+\s*\(/;
-const PARAMETER = /^(?:typename|class|(?:std::)?size_t|int|unsigned(?: int)?|bool)\s+(\w+)$/;
+// A parameter: the groups are its name, and its argument by default.
+const PARAMETER = new RegExp(
+  "^(?:typename|class|(?:std::)?(?:s?size_t|u?int(?:32|64)_t)|int|unsigned(?: int)?|bool)\\s+(\\w+)(?:\\s*=\\s*([\\w:]+(?: \\w+)?))?$",
+);
 const TYPE = /^(?:unsigned|signed|int|long|short|char|bool|(?:std::)?\w+_t)\b/;
 const ARGUMENT = /^(?:std::)?\w+(?: \w+)?$/;
 const OF_FUNCTIONS = ": a template of a function is not rewritten, so write the function for its types";
@@ -25,17 +28,21 @@ function listTemplates(text, code) {
     const from = index + head.length;
     const part = { code: text.slice(index, from + 60), index };
     const [begin, name] = CLASS.exec(code.slice(from)) ?? METHOD.exec(code.slice(from)) ?? refusePart(part, FUNCTION.test(code.slice(from)) ? OF_FUNCTIONS : OF_PARTS);
-    const parameters = list.split(",").map((it) => PARAMETER.exec(it.trim())?.[1] ?? refusePart(part, OF_SEVERAL));
+    const found = list.split(",").map((it) => PARAMETER.exec(it.trim()) ?? refusePart(part, OF_SEVERAL));
+    const [parameters, defaults] = [found.map((it) => it[1]), found.map((it) => it[2] ?? "")];
+    // A default may be another parameter.
+    if (defaults.some((it) => parameters.includes(it))) refusePart(part, OF_SEVERAL);
     const end = findClosing(code, from + begin.length - 1);
-    return end < 0 ? refusePart(part, ": its `}` is missing") : { name, parameters, begin: index, from, end };
+    return end < 0 ? refusePart(part, ": its `}` is missing") : { name, parameters, defaults, begin: index, from, end };
   });
 }
 
-/** Returns the uses of a class with arguments: each with the range of these, and the list of them. */
-function listUses(code, name) {
+/** Returns the uses of a class with arguments: each with the range of these, and the list of them, in which defaults are in place of those left out. */
+function listUses(code, name, defaults) {
   return [...code.matchAll(new RegExp(`\\b${name}\\s*(<([^<>;{}()]*)>)`, "g"))].map(({ 0: whole, 1: list, 2: values, index }) => {
     const end = index + whole.length;
-    return { begin: end - list.length, end, values: values.split(",").map((it) => squeezeCode(it)) };
+    const given = values.trim() ? values.split(",").map((it) => squeezeCode(it)) : [];
+    return { begin: end - list.length, end, values: [...given, ...defaults.slice(given.length).map((it) => squeezeCode(it))] };
   });
 }
 
@@ -52,7 +59,8 @@ function refuseName(text, code, value, templates, uses) {
 /** Returns the edits that put the arguments of a template in place of its parameters. Throws NoTest if its uses have several lists of arguments. */
 function listEdits(text, code, name, templates) {
   const isOwn = ({ begin, values }) => templates.some((it) => it.begin < begin && begin < it.end && values.join() === it.parameters.join());
-  const uses = listUses(code, name);
+  const { defaults } = templates.find((it) => it.defaults.some(Boolean)) ?? { defaults: [] };
+  const uses = listUses(code, name, defaults);
   const [first, ...others] = uses.filter((it) => !isOwn(it));
   if (!first) return [];
   const other = [first, ...others].find((it) => it.values.join() !== first.values.join() || !it.values.every((value) => ARGUMENT.test(value)));

@@ -225,9 +225,20 @@ export class ThreadWriter extends LockWriter {
       else if (statement.then) this.writeBranch(statement, isEnd);
       else if (statement.condition !== undefined) this.writeWaiting(statement);
       else this.writeSimple(this.squeeze(statement.code), isEnd);
+      if (this.writeRest(statements.slice(at + 1), isLast && this.guards.length === guardCount)) break;
     }
     if (this.known) this.unlockGuards(guardCount);
     this.guards.length = guardCount;
+  }
+
+  /** Returns the variables that are known if comparisons hold, and if they don't all hold. */
+  splitKnown() {
+    return [this.known, new Set(this.known)];
+  }
+
+  /** Writes the rest of statements otherwise than one after another. Returns whether it does. */
+  writeRest() {
+    return false;
   }
 
   /** Writes statements, after which the variables that they declare can't be used. */
@@ -265,7 +276,8 @@ export class ThreadWriter extends LockWriter {
     this.branches.push({ index, comparisons, whole: comparisons, settingCounts });
     const entered = [[...this.branches]];
     this.entered.push(entered);
-    const before = new Set(this.known);
+    const [inside, before] = this.splitKnown(comparisons);
+    this.known = inside;
     this.writeBlock(then, isLast && !otherwise.length);
     this.branches.length = depth;
     const after = this.known;

@@ -8,8 +8,8 @@
 // `added` the constant that it adds, or null. It `isLocked` if its load and its store are one instruction. It `isSure` if all runs of its thread do it.
 // The `around` are the branches that it is in, the innermost one last; the `exitCount` is the number of returns before it.
 
-import { parseConstant, refusePart, replaceNames, squeezeCode } from "./c_code.js";
-import { explainCondition, explainStatement, isCondition, OF_INDICES, parseChoice, removeOuterParentheses, splitTerms } from "./c_statements.js";
+import { MOST_ELEMENTS, parseConstant, refusePart, replaceNames, squeezeCode } from "./c_code.js";
+import { explainCondition, explainStatement, isCondition, OF_INDICES, OF_LENGTH, parseChoice, removeOuterParentheses, splitTerms } from "./c_statements.js";
 import { REGISTERS, WORD } from "./token_reader.js";
 
 // The patterns are of squeezed code. A call: the groups are its kind, an order in its name, a `&`, the variable, a value, and an order.
@@ -278,6 +278,8 @@ export class ValueWriter {
   findShared(name, isPointer) {
     if (/^\d/.test(name)) this.refuseStatement(OF_CONSTANTS);
     if (this.locals.has(name)) this.refuseStatement(`: \`${name}\` ${this.known.has(name) ? "is not shared" : "has no value on some path to here"}`);
+    const index = new RegExp(`\\b${name}\\[(\\d+)\\]`).exec(this.squeeze(this.statement.condition ?? this.statement.code))?.[1];
+    if (index >= MOST_ELEMENTS && this.variables.has(`${name}_${MOST_ELEMENTS - 1}`)) this.refuseStatement(OF_LENGTH);
     const isArray = this.variables.get(`${name}_0`)?.element || new RegExp(`\\b${name}\\s{0,9}\\[`).test(this.statement.condition ?? this.statement.code);
     const variable = this.variables.get(name) ?? this.refuseStatement(isArray ? OF_INDICES : `: \`${name}\` is not declared`);
     if (isPointer && !variable.isPointer) this.refuseStatement(`: \`${name}\` is no pointer, as \`&${name}\` is`);

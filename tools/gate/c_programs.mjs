@@ -382,6 +382,7 @@ const OF_ASSIGNMENTS = ": write each assignment as a statement of its own";
 const OF_PAIRS = ": a loop that exchanges needs a variable that is only set to the constant that it writes, and to the one at which it ends";
 const OF_MUTEXES = ": only a mutex, as `std::mutex m`, is locked and unlocked";
 const OF_GUARDS = ": a guard is locked and unlocked in no branch";
+const OF_KNOWN = ": an index is a constant, or comes from a variable that only this thread writes, and that has a known constant then";
 const OF_INDICES = ": an array is shared, and its indices are constants in it, as `a[0]`";
 const OF_SMALL = ": a variable of 8 or 16 bits is set to a constant from 0 to 127, or to another one that is loaded";
 const OF_WIDE = ": the page takes words of 64 bits as words of 32, which sums or constants of this program may exceed";
@@ -610,7 +611,7 @@ const REFUSED = [
   ["int d;", "int d_0, d[2];", `\`int d_0, d[2];\`${OF_LONE}`],
   ["int d;", "int d[2]; int d_1;", `\`int d_1;\`${OF_LONE}`],
   ["int d;", "int d[2];", `\`d[2] = 1\`${OF_INDICES}`, "x = 1;", "d[2] = 1;"],
-  ["int d;", "int d[2];", `\`d[r0] = 1\`${OF_INDICES}`, "int r0 = y;", "int r0 = y; d[r0] = 1;"],
+  ["int d;", "int d[2];", `\`d[r0] = 1\`${OF_KNOWN}`, "int r0 = y;", "int r0 = y; d[r0] = 1;"],
   ["int r0 = y;", "int a[2];", `\`int a[2]\`${OF_INDICES}`],
   ["int r0 = y;", "int a[2] = {1, 2};", `\`int a[2] = {1, 2}\`${OF_INDICES}`],
   ["int d;", "int *d;", `\`int *d;\`${OF_POINTERS}`, "int r0 = y;", "int r0 = y; d = 1;"],
@@ -1874,8 +1875,9 @@ void P0() { f(1); }
 `, "`a[i] = static_cast<unsigned char>(300)`: write the word that the cast results in"],
   ["an index that is no constant", `std::atomic<int> a[2], x;
 void P0() { int i = x; int r = std::atomic_load(&a[i]); }
+void P1() { x = 1; }
 // lw: exists (x=1)
-`, "`int r = std::atomic_load(&a[i])`: an array is shared, and its indices are constants in it, as `a[0]`"],
+`, "`int r = std::atomic_load(&a[i])`: an index is a constant, or comes from a variable that only this thread writes, and that has a known constant then"],
   ["compare-exchanges in branches", `std::atomic<int> c, x;
 bool take() { int e = 0; return c.compare_exchange_strong(e, 1); }
 void P0() { int e = 0; if (x) { if (take()) x = 2; } else if (c.compare_exchange_strong(e, 1)) x = 3; }
@@ -2327,9 +2329,9 @@ int main() { init(); for (int i = 0; i < N; i++) { ids[i] = i; pthread_create(&t
 ~exists (0:EAX=0 /\\ 1:EAX=0)
 `],
   ["a thread that changes its number", `int ids[2]; atomic_int x[2]; int r[2]; pthread_t t[2];
-void *w(void *arg) { int id = *(int *)arg; *(int *)arg = 7; x[id] = 1; return NULL; }
+void *w(void *arg) { int id = *(int *)arg; *(int *)arg = 7; id += r[0]; x[id] = 1; r[0] = 1; return NULL; }
 int main() { for (int i = 0; i < 2; i++) { ids[i] = i; pthread_create(&t[i], NULL, w, &ids[i]); } for (int i = 0; i < 2; i++) pthread_join(t[i], NULL); assert(x[0] == 1); }
-`, "`x[id] = 1`: an array is shared, and its indices are constants in it, as `a[0]`"],
+`, "`x[id] = 1`: an index is a constant, or comes from a variable that only this thread writes, and that has a known constant then"],
   ["ten threads", `std::atomic<int> x; void f() { x++; }
 int main() { std::vector<std::thread> v; for (int i = 0; i < 10; i++) v.emplace_back(f); for (auto& t : v) t.join(); }
 `, "`for (int i = 0; i < 10; i++)`: a test has 4 threads at most, so start fewer"],

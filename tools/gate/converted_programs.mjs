@@ -757,6 +757,315 @@ void b() { y = 1; r2 = x; f = 1; }
 int main() { std::thread t(a), u(b); t.join(); u.join(); }
 `,
     "X86 Mine\n(* 0:EAX is r1, 1:EAX is r2 *)\n{ x=0; y=0; f=0; }\n P0 | P1 ;\n MOV EBX,[f] | MOV [y],$1 ;\n CMP EBX,$1 | MOV EAX,[x] ;\n JNE L1 | MOV [f],$1 ;\n JMP L2 | ;\n L1: MOV [x],$2 | ;\n L2: MOV EAX,[y] | ;\nlocations [0:EAX; 1:EAX]\nexists (true)\n"],
+  ["a ring buffer of two words", `#include <atomic>
+#include <array>
+#include <cstddef>
+template<typename T, size_t N>
+class SpscQueue {
+  std::array<T, N> buffer;
+  std::atomic<size_t> head{0}, tail{0};
+public:
+  bool push(const T& v) {
+    size_t h = head.load(std::memory_order_relaxed);
+    size_t next = (h + 1) % N;
+    if (next == tail.load(std::memory_order_acquire)) return false;
+    buffer[h] = v;
+    head.store(next, std::memory_order_release);
+    return true;
+  }
+  bool pop(T& v) {
+    size_t t = tail.load(std::memory_order_relaxed);
+    if (t == head.load(std::memory_order_acquire)) return false;
+    v = buffer[t];
+    tail.store((t + 1) % N, std::memory_order_release);
+    return true;
+  }
+};
+SpscQueue<int, 2> q;
+void producer() { q.push(1); }
+void consumer() { int r; q.pop(r); }
+`,
+    "X86 Mine\n(* 1:EAX is q_head in its condition, 1:EBX is r *)\n{ q_buffer_0=0; q_head=0; q_tail=0; }\n P0 | P1 ;\n MOV EAX,[q_head] | MOV ECX,[q_tail] ;\n MOV EAX,[q_tail] | MOV EAX,[q_head] ;\n CMP EAX,$1 | CMP EAX,$0 ;\n JNE L2 | JNE L2 ;\n JMP L1 | JMP L1 ;\n L2: MOV [q_buffer_0],$1 | L2: MOV EBX,[q_buffer_0] ;\n MOV [q_head],$1 | MOV [q_tail],$1 ;\n L1: | L1: ;\nexists (~1:EAX=0 /\\ 1:EBX=0)\n"],
+  ["a ring buffer, and an assertion of what the consumer got", `#include <atomic>
+#include <thread>
+#include <cassert>
+constexpr size_t N = 4;
+int buf[N];
+std::atomic<size_t> head{0}, tail{0};
+bool push(int v) {
+  auto h = head.load(std::memory_order_relaxed);
+  auto next = (h + 1) % N;
+  if (next == tail.load(std::memory_order_acquire)) return false;
+  buf[h] = v;
+  head.store(next, std::memory_order_release);
+  return true;
+}
+bool pop(int& v) {
+  auto t = tail.load(std::memory_order_relaxed);
+  if (t == head.load(std::memory_order_acquire)) return false;
+  v = buf[t];
+  tail.store((t + 1) % N, std::memory_order_release);
+  return true;
+}
+void producer() { push(42); }
+void consumer() { int v; if (pop(v)) assert(v == 42); }
+int main() { std::thread a(producer), b(consumer); a.join(); b.join(); }
+`,
+    "X86 Mine\n(* 1:EAX is pop_result, 1:EBX is v *)\n{ buf_0=0; head=0; tail=0; }\n P0 | P1 ;\n MOV EAX,[head] | MOV ECX,[tail] ;\n MOV EAX,[tail] | MOV ECX,[head] ;\n CMP EAX,$1 | CMP ECX,$0 ;\n JNE L2 | JNE L2 ;\n JMP L1 | MOV EAX,$0 ;\n L2: MOV [buf_0],$42 | JMP L1 ;\n MOV [head],$1 | L2: MOV EBX,[buf_0] ;\n L1: | MOV [tail],$1 ;\n | MOV EAX,$1 ;\n | L1: CMP EAX,$0 ;\n | JE END ;\n | END: ;\nforall (1:EAX=0 \\/ 1:EBX=42)\n"],
+  ["a ring buffer that is a class template, and two pushes, the first of which may fail", `#include <atomic>
+#include <thread>
+template <typename T, size_t N>
+class SPSC {
+  T buf[N];
+  std::atomic<size_t> head{0};
+  std::atomic<size_t> tail{0};
+public:
+  bool push(const T& v) {
+    size_t h = head.load(std::memory_order_relaxed);
+    size_t next = (h + 1) & (N - 1);
+    if (next == tail.load(std::memory_order_acquire)) return false;
+    buf[h] = v;
+    head.store(next, std::memory_order_release);
+    return true;
+  }
+  bool pop(T& out) {
+    size_t t = tail.load(std::memory_order_relaxed);
+    if (t == head.load(std::memory_order_acquire)) return false;
+    out = buf[t];
+    tail.store((t + 1) & (N - 1), std::memory_order_release);
+    return true;
+  }
+};
+SPSC<int, 4> q;
+int r1;
+void producer() { q.push(1); q.push(2); }
+void consumer() { int v = 0; if (q.pop(v)) r1 = v; }
+int main() { std::thread a(producer), b(consumer); a.join(); b.join(); }
+`,
+    "X86 Mine\n(* 0:EAX is h, 1:EAX is v, 1:EBX is q_head in its condition, 1:ECX is pop_result, 1:EDX is r1 *)\n{ q_buf_0=0; q_buf_1=0; q_head=0; q_tail=0; }\n P0 | P1 ;\n MOV EBX,[q_head] | MOV EAX,$0 ;\n MOV EBX,[q_tail] | MOV ESI,[q_tail] ;\n CMP EBX,$1 | MOV EBX,[q_head] ;\n JNE L2 | CMP EBX,$0 ;\n JMP L1 | JNE L2 ;\n L2: MOV [q_buf_0],$1 | MOV ECX,$0 ;\n MOV [q_head],$1 | JMP L1 ;\n L1: MOV EAX,[q_head] | L2: MOV EAX,[q_buf_0] ;\n CMP EAX,$0 | MOV [q_tail],$1 ;\n JNE L4 | MOV ECX,$1 ;\n MOV EBX,[q_tail] | L1: CMP ECX,$0 ;\n CMP EBX,$1 | JE END ;\n JNE L5 | MOV EDX,EAX ;\n JMP L3 | END: ;\n L5: MOV [q_buf_0],$2 | ;\n MOV [q_head],$1 | ;\n JMP L3 | ;\n L4: MOV EBX,[q_tail] | ;\n CMP EBX,$2 | ;\n JNE L6 | ;\n JMP L3 | ;\n L6: MOV [q_buf_1],$2 | ;\n MOV [q_head],$2 | ;\n L3: | ;\nlocations [0:EAX; 1:ECX; 1:EDX; q_buf_1]\nexists (~1:EBX=0 /\\ 1:EAX=0)\n"],
+  ["a ring buffer in C whose next index is counted and set back", `#include <stdatomic.h>
+#include <pthread.h>
+#define N 8
+int buf[N];
+atomic_int head, tail;
+int push(int v) {
+  int h = atomic_load_explicit(&head, memory_order_relaxed);
+  int next = h;
+  if (++next == N) next = 0;
+  if (next == atomic_load_explicit(&tail, memory_order_acquire)) return 0;
+  buf[h] = v;
+  atomic_store_explicit(&head, next, memory_order_release);
+  return 1;
+}
+int pop(int *v) {
+  int t = atomic_load_explicit(&tail, memory_order_relaxed);
+  if (t == atomic_load_explicit(&head, memory_order_acquire)) return 0;
+  *v = buf[t];
+  int n = t + 1;
+  if (n == N) n = 0;
+  atomic_store_explicit(&tail, n, memory_order_release);
+  return 1;
+}
+void *producer(void *arg) { push(7); return NULL; }
+void *consumer(void *arg) { int x; pop(&x); return NULL; }
+int main() { pthread_t a, b; pthread_create(&a, NULL, producer, NULL); pthread_create(&b, NULL, consumer, NULL); pthread_join(a, NULL); pthread_join(b, NULL); }
+`,
+    "X86 Mine\n(* 0:EAX is next, 1:EAX is head in its condition, 1:EBX is x, 1:ECX is n *)\n{ buf_0=0; head=0; tail=0; }\n P0 | P1 ;\n MOV EBX,[head] | MOV EDX,[tail] ;\n MOV EAX,$0 | MOV EAX,[head] ;\n MOV EAX,$1 | CMP EAX,$0 ;\n MOV EBX,[tail] | JNE L2 ;\n CMP EBX,$1 | JMP L1 ;\n JNE L2 | L2: MOV EBX,[buf_0] ;\n JMP L1 | MOV ECX,$1 ;\n L2: MOV [buf_0],$7 | MOV [tail],$1 ;\n MOV [head],$1 | L1: ;\n L1: | ;\nlocations [0:EAX; 1:ECX]\nexists (~1:EAX=0 /\\ 1:EBX=0)\n"],
+  ["a ring buffer of volatile variables, which indices are loaded from", `#include <pthread.h>
+#define SIZE 16
+volatile int buffer[SIZE];
+volatile int in = 0, out = 0;
+void *producer(void *arg) {
+  int i = in;
+  while ((i + 1) % SIZE == out) ;
+  buffer[i] = 7;
+  in = (i + 1) % SIZE;
+  return 0;
+}
+void *consumer(void *arg) {
+  int o = out;
+  while (in == o) ;
+  int item = buffer[o];
+  out = (o + 1) % SIZE;
+  return 0;
+}
+int main() { pthread_t a, b; pthread_create(&a, NULL, producer, NULL); pthread_create(&b, NULL, consumer, NULL); pthread_join(a, NULL); pthread_join(b, NULL); }
+`,
+    "X86 Mine\n(* 0:EAX is out after its loop, 1:EAX is in after its loop, 1:EBX is item *)\n(* every wait ends: ~0:EAX=1 /\\ ~1:EAX=0 *)\n{ buffer_0=0; in=0; out=0; }\n P0 | P1 ;\n MOV EBX,[in] | MOV ECX,[out] ;\n MOV EAX,[out] | MOV EAX,[in] ;\n MOV [buffer_0],$7 | MOV EBX,[buffer_0] ;\n MOV [in],$1 | MOV [out],$1 ;\nexists (~0:EAX=1 /\\ ~1:EAX=0 /\\ 1:EBX=0)\n"],
+  ["a ring buffer of volatile variables that are indices", `#include <pthread.h>
+#define SIZE 16
+volatile int buffer[SIZE];
+volatile int in = 0, out = 0;
+void *producer(void *arg) {
+  while ((in + 1) % SIZE == out) ;
+  buffer[in] = 7;
+  in = (in + 1) % SIZE;
+  return 0;
+}
+void *consumer(void *arg) {
+  while (in == out) ;
+  int item = buffer[out];
+  out = (out + 1) % SIZE;
+  return 0;
+}
+int main() { pthread_t a, b; pthread_create(&a, NULL, producer, NULL); pthread_create(&b, NULL, consumer, NULL); pthread_join(a, NULL); pthread_join(b, NULL); }
+`,
+    "X86 Mine\n(* 0:EAX is out after its loop, 1:EAX is in after its loop, 1:EBX is item *)\n(* every wait ends: ~0:EAX=1 /\\ ~1:EAX=0 *)\n{ buffer_0=0; in=0; out=0; }\n P0 | P1 ;\n MOV EBX,[in] | MOV ECX,[out] ;\n MOV EAX,[out] | MOV EAX,[in] ;\n MOV EBX,[in] | MOV ECX,[out] ;\n MOV [buffer_0],$7 | MOV EBX,[buffer_0] ;\n MOV EBX,[in] | MOV ECX,[out] ;\n MOV [in],$1 | MOV [out],$1 ;\nexists (~0:EAX=1 /\\ ~1:EAX=0 /\\ 1:EBX=0)\n"],
+  ["a ring buffer whose indices are remainders of counts", `#include <atomic>
+#include <thread>
+struct Queue {
+  int buf[8];
+  std::atomic<unsigned> head{0}, tail{0};
+  bool push(int v) {
+    unsigned h = head.load(std::memory_order_relaxed);
+    if (h - tail.load(std::memory_order_acquire) == 8) return false;
+    buf[h % 8] = v;
+    head.store(h + 1, std::memory_order_release);
+    return true;
+  }
+  bool pop(int& v) {
+    unsigned t = tail.load(std::memory_order_relaxed);
+    if (head.load(std::memory_order_acquire) == t) return false;
+    v = buf[t % 8];
+    tail.store(t + 1, std::memory_order_release);
+    return true;
+  }
+};
+Queue q;
+void producer() { for (int i = 1; i <= 2; i++) while (!q.push(i)) ; }
+void consumer() { int v; for (int i = 0; i < 2; i++) { while (!q.pop(v)) ; } }
+int main() { std::thread a(producer), b(consumer); a.join(); b.join(); }
+`,
+    "X86 Mine\n(* 0:EAX is push_result, 0:EBX is push_result_2, 1:EAX is q_head in its condition, 1:EBX is pop_result, 1:ECX is v, 1:EDX is pop_result_2 *)\n(* every wait ends: 0:EAX=1 /\\ 0:EBX=1 /\\ 1:EBX=1 /\\ 1:EDX=1 *)\n{ q_buf_0=0; q_buf_1=0; q_head=0; q_tail=0; }\n P0 | P1 ;\n MOV ECX,[q_head] | MOV ESI,[q_tail] ;\n MOV ECX,[q_tail] | MOV EAX,[q_head] ;\n CMP ECX,$4294967288 | CMP EAX,$0 ;\n JNE L2 | JNE L2 ;\n MOV EAX,$0 | MOV EBX,$0 ;\n JMP L1 | JMP L1 ;\n L2: MOV [q_buf_0],$1 | L2: MOV ECX,[q_buf_0] ;\n MOV [q_head],$1 | MOV [q_tail],$1 ;\n MOV EAX,$1 | MOV EBX,$1 ;\n L1: MOV ECX,[q_head] | L1: MOV ESI,[q_tail] ;\n MOV ECX,[q_tail] | MOV EAX,[q_head] ;\n CMP ECX,$4294967289 | CMP EAX,$1 ;\n JNE L4 | JNE L4 ;\n MOV EBX,$0 | MOV EDX,$0 ;\n JMP L3 | JMP L3 ;\n L4: MOV [q_buf_1],$2 | L4: MOV ECX,[q_buf_1] ;\n MOV [q_head],$2 | MOV [q_tail],$2 ;\n MOV EBX,$1 | MOV EDX,$1 ;\n L3: | L3: ;\nexists (0:EAX=1 /\\ 0:EBX=1 /\\ 1:EBX=1 /\\ 1:EDX=1 /\\ ~1:EAX=1 /\\ 1:ECX=0)\n"],
+  ["a ring buffer of 1024 words, which is an argument by default", `#include <atomic>
+#include <thread>
+#include <array>
+template <typename T, size_t N = 1024>
+class RingBuffer {
+public:
+  bool push(const T& v) {
+    const auto h = head_.load(std::memory_order_relaxed);
+    const auto next = (h + 1 == N) ? 0 : h + 1;
+    if (next == tail_.load(std::memory_order_acquire)) return false;
+    buf_[h] = v;
+    head_.store(next, std::memory_order_release);
+    return true;
+  }
+  bool pop(T& out) {
+    const auto t = tail_.load(std::memory_order_relaxed);
+    if (t == head_.load(std::memory_order_acquire)) return false;
+    out = buf_[t];
+    tail_.store(t + 1 == N ? 0 : t + 1, std::memory_order_release);
+    return true;
+  }
+private:
+  std::array<T, N> buf_;
+  alignas(64) std::atomic<size_t> head_{0};
+  alignas(64) std::atomic<size_t> tail_{0};
+};
+RingBuffer<int> q;
+int main() {
+  std::thread a([] { q.push(1); });
+  std::thread b([] { int x; if (q.pop(x)) { assert(x == 1); } });
+  a.join(); b.join();
+}
+`,
+    "X86 Mine\n(* 1:EAX is pop_result, 1:EBX is x *)\n{ q_buf__0=0; q_head_=0; q_tail_=0; }\n P0 | P1 ;\n MOV EAX,[q_head_] | MOV ECX,[q_tail_] ;\n MOV EAX,[q_tail_] | MOV ECX,[q_head_] ;\n CMP EAX,$1 | CMP ECX,$0 ;\n JNE L2 | JNE L2 ;\n JMP L1 | MOV EAX,$0 ;\n L2: MOV [q_buf__0],$1 | JMP L1 ;\n MOV [q_head_],$1 | L2: MOV EBX,[q_buf__0] ;\n L1: | MOV [q_tail_],$1 ;\n | MOV EAX,$1 ;\n | L1: CMP EAX,$0 ;\n | JE END ;\n | END: ;\nforall (1:EAX=0 \\/ 1:EBX=1)\n"],
+  ["a ring buffer, in which loops call its functions till they succeed", `#include <atomic>
+#include <thread>
+#include <iostream>
+template<typename T, std::size_t Size>
+class SPSCQueue {
+public:
+    SPSCQueue() : head_(0), tail_(0) {}
+    bool enqueue(const T& item) {
+        std::size_t tail = tail_.load(std::memory_order_relaxed);
+        std::size_t next = (tail + 1) % Size;
+        if (next == head_.load(std::memory_order_acquire))
+            return false; // full
+        buffer_[tail] = item;
+        tail_.store(next, std::memory_order_release);
+        return true;
+    }
+    bool dequeue(T& item) {
+        std::size_t head = head_.load(std::memory_order_relaxed);
+        if (head == tail_.load(std::memory_order_acquire))
+            return false; // empty
+        item = buffer_[head];
+        head_.store((head + 1) % Size, std::memory_order_release);
+        return true;
+    }
+private:
+    T buffer_[Size];
+    std::atomic<std::size_t> head_;
+    std::atomic<std::size_t> tail_;
+};
+int main() {
+    SPSCQueue<int, 8> queue;
+    std::thread producer([&] {
+        for (int i = 0; i < 2; ++i) {
+            while (!queue.enqueue(i)) { std::this_thread::yield(); }
+        }
+    });
+    std::thread consumer([&] {
+        for (int i = 0; i < 2; ++i) {
+            int value;
+            while (!queue.dequeue(value)) { std::this_thread::yield(); }
+            std::cout << value << std::endl;
+        }
+    });
+    producer.join();
+    consumer.join();
+}
+`,
+    "X86 Mine\n(* 0:EAX is enqueue_result, 0:EBX is enqueue_result_2, 1:EAX is queue_tail_ in its condition, 1:EBX is dequeue_result, 1:ECX is value, 1:EDX is dequeue_result_2 *)\n(* every wait ends: 0:EAX=1 /\\ 0:EBX=1 /\\ 1:EBX=1 /\\ 1:EDX=1 *)\n{ queue_buffer__0=0; queue_buffer__1=0; queue_head_=0; queue_tail_=0; }\n P0 | P1 ;\n MOV ECX,[queue_tail_] | MOV ESI,[queue_head_] ;\n MOV ECX,[queue_head_] | MOV EAX,[queue_tail_] ;\n CMP ECX,$1 | CMP EAX,$0 ;\n JNE L2 | JNE L2 ;\n MOV EAX,$0 | MOV EBX,$0 ;\n JMP L1 | JMP L1 ;\n L2: MOV [queue_buffer__0],$0 | L2: MOV ECX,[queue_buffer__0] ;\n MOV [queue_tail_],$1 | MOV [queue_head_],$1 ;\n MOV EAX,$1 | MOV EBX,$1 ;\n L1: MOV ECX,[queue_tail_] | L1: MOV ESI,[queue_head_] ;\n MOV ECX,[queue_head_] | MOV EAX,[queue_tail_] ;\n CMP ECX,$2 | CMP EAX,$1 ;\n JNE L4 | JNE L4 ;\n MOV EBX,$0 | MOV EDX,$0 ;\n JMP L3 | JMP L3 ;\n L4: MOV [queue_buffer__1],$1 | L4: MOV ECX,[queue_buffer__1] ;\n MOV [queue_tail_],$2 | MOV [queue_head_],$2 ;\n MOV EBX,$1 | MOV EDX,$1 ;\n L3: | L3: ;\nexists (0:EAX=1 /\\ 0:EBX=1 /\\ 1:EBX=1 /\\ 1:EDX=1 /\\ ~1:EAX=1 /\\ 1:ECX=0)\n"],
+  ["an index that a condition may have changed", `#include <atomic>
+#include <thread>
+int buf[4];
+std::atomic<int> head{0}, x{0};
+void p1() {
+  int i = 0;
+  if (x.load() == 1 && head.exchange(1) == 0) i = 2;
+  int h = head.load();
+  buf[h] = 5;
+}
+void p2() { x = 1; int r = buf[0]; int s = buf[1]; }
+int main() { std::thread a(p1), b(p2); a.join(); b.join(); }
+`,
+    "X86 Mine\n(* 0:EAX is i, 0:EBX is h, 1:EAX is r, 1:EBX is s *)\n{ buf_0=0; buf_1=0; head=0; x=0; }\n P0 | P1 ;\n MOV EAX,$0 | MOV ECX,$1 ;\n MOV ECX,[x] | XCHG [x],ECX ;\n CMP ECX,$1 | MOV EAX,[buf_0] ;\n JNE L1 | MOV EBX,[buf_1] ;\n MOV ECX,$1 | ;\n XCHG [head],ECX | ;\n CMP ECX,$0 | ;\n JNE L1 | ;\n MOV EAX,$2 | ;\n L1: MOV EBX,[head] | ;\n CMP EBX,$0 | ;\n JNE L2 | ;\n MOV [buf_0],$5 | ;\n JMP END | ;\n L2: MOV [buf_1],$5 | ;\n END: | ;\nlocations [0:EAX; 0:EBX]\nexists (~1:EAX=0 /\\ 1:EBX=0)\n"],
+  ["an index that a branch may have changed", `#include <atomic>
+#include <thread>
+int buf[4];
+std::atomic<int> head{0}, x{0};
+void p1() {
+  if (x.load() == 1) { head = 2; }
+  int i = head;
+  buf[i] = 5;
+}
+void p2() { x = 1; int r = buf[0]; int s = buf[2]; }
+int main() { std::thread a(p1), b(p2); a.join(); b.join(); }
+`,
+    "X86 Mine\n(* 0:EAX is i, 1:EAX is r, 1:EBX is s *)\n{ buf_0=0; buf_2=0; head=0; x=0; }\n P0 | P1 ;\n MOV EBX,[x] | MOV ECX,$1 ;\n CMP EBX,$1 | XCHG [x],ECX ;\n JNE L1 | MOV EAX,[buf_0] ;\n MOV EBX,$2 | MOV EBX,[buf_2] ;\n XCHG [head],EBX | ;\n L1: MOV EAX,[head] | ;\n CMP EAX,$0 | ;\n JNE L2 | ;\n MOV [buf_0],$5 | ;\n JMP END | ;\n L2: MOV [buf_2],$5 | ;\n END: | ;\nlocations [0:EAX]\nexists (~1:EAX=0 /\\ 1:EBX=0)\n"],
+  ["an index that the thread changes", `#include <atomic>
+#include <thread>
+int buf[4];
+std::atomic<int> head{0};
+int r;
+void p1() { int h = head.load(); h++; buf[h] = 5; int k = h; h = 3; buf[k] = 6; head = k; }
+void p2() { if (head.load() == 1) { int a = buf[1]; r = a; } }
+int main() { std::thread a(p1), b(p2); a.join(); b.join(); }
+`,
+    "X86 Mine\n(* 0:EAX is h, 1:EAX is head in its condition, 1:EBX is a, 1:ECX is r *)\n{ buf_1=0; head=0; }\n P0 | P1 ;\n MOV EAX,[head] | MOV EAX,[head] ;\n MOV EAX,$1 | CMP EAX,$1 ;\n MOV [buf_1],$5 | JNE END ;\n MOV EAX,$3 | MOV EBX,[buf_1] ;\n MOV [buf_1],$6 | MOV ECX,EBX ;\n MOV EBX,$1 | END: ;\n XCHG [head],EBX | ;\nlocations [0:EAX; 1:ECX]\nexists (1:EAX=1 /\\ 1:EBX=0)\n"],
+  ["a variable that has a value if its function says so", `#include <atomic>
+#include <thread>
+std::atomic<int> f{0};
+int data;
+bool take(int& v) { if (f.load(std::memory_order_acquire) == 1) { v = data; return true; } return false; }
+void p1() { data = 3; f.store(1, std::memory_order_release); }
+void p2() { int v; if (!take(v)) return; assert(v == 3); }
+int main() { std::thread a(p1), b(p2); a.join(); b.join(); }
+`,
+    "X86 Mine\n(* 1:EAX is v, 1:EBX is take_result *)\n{ f=0; data=0; }\n P0 | P1 ;\n MOV [data],$3 | MOV ECX,[f] ;\n MOV [f],$1 | CMP ECX,$1 ;\n | JNE L3 ;\n | MOV EAX,[data] ;\n | MOV EBX,$1 ;\n | JMP L2 ;\n | L3: MOV EBX,$0 ;\n | L2: CMP EBX,$0 ;\n | JNE L1 ;\n | JMP END ;\n | L1: END: ;\nforall (1:EBX=0 \\/ 1:EAX=3)\n"],
 ];
 // A program of rounds, whose loop does `sets` before the threads run.
 const makeRounds = (sets, code) => `#include <semaphore.h>
@@ -1022,35 +1331,6 @@ void t1() { Gate r; while (r.g() != 0) {} X.store(1, std::memory_order_relaxed);
 void t2() { Y = 1; int a = X; }
 `,
     "`Gate r`: an object of a class is declared outside of functions", "Gate r; while (r.g() != 0) {} "],
-  ["a ring buffer", `#include <atomic>
-#include <array>
-#include <cstddef>
-template<typename T, size_t N>
-class SpscQueue {
-  std::array<T, N> buffer;
-  std::atomic<size_t> head{0}, tail{0};
-public:
-  bool push(const T& v) {
-    size_t h = head.load(std::memory_order_relaxed);
-    size_t next = (h + 1) % N;
-    if (next == tail.load(std::memory_order_acquire)) return false;
-    buffer[h] = v;
-    head.store(next, std::memory_order_release);
-    return true;
-  }
-  bool pop(T& v) {
-    size_t t = tail.load(std::memory_order_relaxed);
-    if (t == head.load(std::memory_order_acquire)) return false;
-    v = buffer[t];
-    tail.store((t + 1) % N, std::memory_order_release);
-    return true;
-  }
-};
-SpscQueue<int, 2> q;
-void producer() { q.push(1); }
-void consumer() { int r; q.pop(r); }
-`,
-    "`size_t next = (h + 1) % 2`: the x86 format has sums only", "size_t next = (h + 1) % N;"],
   ["a template of a function", `#include <atomic>
 #include <thread>
 template<typename T>
@@ -1497,6 +1777,120 @@ void P0(void) { atomic_store_explicit(w, 1, memory_order_relaxed); r1 = atomic_l
 void P1(void) { atomic_store_explicit(&w[1], 1, memory_order_relaxed); r2 = atomic_load_explicit(w, memory_order_relaxed); }
 `,
     "`atomic_store_explicit(w, 1, memory_order..`: an array is shared, and its indices are constants in it, as `a[0]`", "atomic_store"],
+  ["a ring buffer that a third thread sets back", `#include <atomic>
+#include <thread>
+int buf[4];
+std::atomic<int> head{0}, tail{0};
+bool push(int v) {
+  int h = head.load(std::memory_order_relaxed);
+  int next = (h + 1) % 4;
+  if (next == tail.load(std::memory_order_acquire)) return false;
+  buf[h] = v;
+  head.store(next, std::memory_order_release);
+  return true;
+}
+bool pop(int& v) {
+  int t = tail.load(std::memory_order_relaxed);
+  if (t == head.load(std::memory_order_acquire)) return false;
+  v = buf[t];
+  tail.store((t + 1) % 4, std::memory_order_release);
+  return true;
+}
+void reset() { head = 0; }
+void p1() { push(1); }
+void p2() { int v; pop(v); }
+void p3() { reset(); }
+int main() { std::thread a(p1), b(p2), c(p3); a.join(); b.join(); c.join(); }
+`,
+    "`int next = (h + 1) % 4`: `h` is no known constant here, since another thread may write `head`", "int next = (h + 1) % 4;"],
+  ["a ring buffer that a third thread sets back by a reference", `#include <atomic>
+#include <thread>
+int buf[4];
+std::atomic<int> head{0}, tail{0};
+bool push(int v) {
+  int h = head.load(std::memory_order_relaxed);
+  int next = (h + 1) % 4;
+  if (next == tail.load(std::memory_order_acquire)) return false;
+  buf[h] = v;
+  head.store(next, std::memory_order_release);
+  return true;
+}
+bool pop(int& v) {
+  int t = tail.load(std::memory_order_relaxed);
+  if (t == head.load(std::memory_order_acquire)) return false;
+  v = buf[t];
+  tail.store((t + 1) % 4, std::memory_order_release);
+  return true;
+}
+void set(std::atomic<int>& x) { x = 0; }
+void p1() { push(1); }
+void p2() { int v; pop(v); }
+void p3() { set(head); }
+int main() { std::thread a(p1), b(p2), c(p3); a.join(); b.join(); c.join(); }
+`,
+    "`int next = (h + 1) % 4`: `h` is no known constant here, since another thread may write `head`", "int next = (h + 1) % 4;"],
+  ["a loop whose function counts if it fails", `#include <atomic>
+#include <thread>
+std::atomic<int> flag{0}, tries{0};
+bool ready() { if (flag.load() == 0) { tries++; return false; } return true; }
+int data;
+void p1() { data = 1; flag.store(1); }
+void p2() { while (!ready()) ; int r = data; }
+int main() { std::thread a(p1), b(p2); a.join(); b.join(); }
+`,
+    "`while (!ready())`: a loop that waits by a function calls one that changes nothing if the loop goes on, and returns constants", "while (!ready()) ; int r"],
+  ["a loop whose function counts by a reference if it fails", `#include <atomic>
+#include <thread>
+std::atomic<int> flag{0};
+int n;
+bool ready(int& c) { if (flag.load() == 0) { c = c + 1; return false; } return true; }
+int data;
+void p1() { data = 1; flag.store(1); }
+void p2() { int c = 0; while (!ready(c)) ; int r = data; }
+int main() { std::thread a(p1), b(p2); a.join(); b.join(); }
+`,
+    "`while (!ready(c))`: a loop that waits by a function calls one that changes nothing if the loop goes on, and returns constants", "while (!ready(c)) ; int "],
+  ["an index that is another one in a branch", `#include <atomic>
+#include <thread>
+int buf[4];
+std::atomic<int> head{0}, x{0};
+void p1() {
+  int i = 0;
+  if (x.load() == 1) { i = 1; head = 2; }
+  buf[i] = 5;
+}
+void p2() { x = 1; int r = buf[0]; int s = buf[1]; }
+int main() { std::thread a(p1), b(p2); a.join(); b.join(); }
+`,
+    "`buf[i] = 5`: an index is a constant, or comes from a variable that only this thread writes, and that has a known constant then", "buf[i] = 5;"],
+  ["an index that is counted", `#include <atomic>
+#include <thread>
+int buf[4];
+std::atomic<int> head{0};
+void p1() { int i = 0; buf[i++] = 5; buf[i] = 6; head = i; }
+void p2() { if (head.load() == 1) { int a = buf[1]; } }
+int main() { std::thread a(p1), b(p2); a.join(); b.join(); }
+`,
+    "`buf[i++] = 5`: an index is a constant, or comes from a variable that only this thread writes, and that has a known constant then", "buf[i++] = 5; buf[i] = 6"],
+  ["a variable that has a value after one result only", `#include <atomic>
+#include <thread>
+std::atomic<int> f{0};
+int data;
+bool take(int& v) { if (f.load(std::memory_order_acquire) == 1) { v = data; return true; } return false; }
+void p1() { data = 3; f.store(1, std::memory_order_release); }
+void p2() { int v; if (take(v)) { f.store(2); } assert(v == 3); }
+int main() { std::thread a(p1), b(p2); a.join(); b.join(); }
+`,
+    "`assert(v == 3)`: `v` has no value on some path to here", "assert(v == 3); }"],
+  ["an index after the first 16", `#include <atomic>
+#include <thread>
+int a[100];
+std::atomic<int> f{40};
+void p1() { int i = f.load(); a[i] = 3; }
+void p2() { int r = a[40]; int k = 0; for (int i = 0; i < 2; i++) { k = i; a[k] = 1; } }
+int main() { std::thread x(p1), b(p2); x.join(); b.join(); }
+`,
+    "`a[i] = 3`: of an array the first 16 words are read", "a[i] = 3; }"],
 ];
 
 /** Returns a test with one blank in place of several, since names have other lengths than those in a form. */
