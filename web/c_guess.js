@@ -131,9 +131,15 @@ function listNames({ parts, name }) {
   return parts ? parts.flatMap(listNames) : [name];
 }
 
-/** Returns whether a question can ask of the variable that a thread loaded last: it has a value, or it is known in which states it has one. */
-function isAskedOf({ loaded, known, loadedBranches }) {
+/**
+ * Returns whether a question can ask of the variable that a thread loaded last: it has a value, or it is known in which states it has one, since variables
+ * of the conditions around the load are not set again.
+ */
+function isAskedOf(writer) {
+  const { loaded, known, loadedBranches } = writer;
   const comparisons = loadedBranches.flatMap((it) => it.comparisons);
+  const isSetAgain = ({ variable }, count) => variable !== null && writer.countSettings(variable) !== count;
+  if (loadedBranches.some(({ whole, settingCounts }) => whole.some((it, at) => isSetAgain(it, settingCounts[at])))) return false;
   if (comparisons.some(({ variable, word }) => variable === null || word === null)) return false;
   return comparisons.length > 0 || known.has(loaded);
 }

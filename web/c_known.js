@@ -7,12 +7,13 @@
 // shared one.
 
 import { CallWriter } from "./c_calls.js";
-import { MOST_ELEMENTS, replaceNames, squeezeCode } from "./c_code.js";
+import { MOST_ELEMENTS, parseConstant, replaceNames, squeezeCode } from "./c_code.js";
 import { computeConstant, foldConstants } from "./c_constants.js";
 import { resolvePlaces } from "./c_places.js";
-import { OF_INDICES, OF_LENGTH, parseChoice, removeOuterParentheses } from "./c_statements.js";
+import { OF_INDICES, OF_LENGTH, parseChoice, removeOuterParentheses, splitOutside } from "./c_statements.js";
 import { joinPaths, OF_BRANCHES } from "./c_thread.js";
 import { SPARE } from "./c_values.js";
+import { findAllWords } from "./c_words.js";
 import { REGISTERS, WORD } from "./token_reader.js";
 
 // An instruction that changes something: the groups are a location, the register that is exchanged with it, and another register.
@@ -32,10 +33,17 @@ const SHARED = new RegExp(
 );
 const LOADING = /^(?:[A-Za-z_]\w*|atomic_load\w{0,20}\([^()]*\))$/;
 const DIFFERENCE = /^\(?(\d+)-([A-Za-z_]\w*|atomic_load\w{0,20}\([^()]*\))\)?([=!]=)(\d+)$/;
+const RESULT_OF = /(?:^|: )(?:MOV \w+,\[\w+\]|(?:XCHG|LOCK XADD) \[\w+\],\w+)$/;
+// A relation in squeezed code: the groups are its sides and its sign.
+const RELATION = /^((?:[^<>=!&|]|&(?=\w))+)([<>]=?)((?:[^<>=!&|]|&(?=\w))+)$/;
+const COMPARED = /^(?:[A-Za-z_]\w*|atomic_(?:load|exchange|fetch_(?:add|sub))\w{0,20}\([^()]*\))$/;
 const CALLS = /\b(\w+)\(/g;
 // A variable with more words is not known by trying them.
 const MOST_WORDS = 4;
+const MOST_LISTED = 8;
 const MOST_ROUNDS = 20;
+const OF_RELATIONS = ": the page writes a condition as equalities, and here the words that are compared are too many, or not known, so compare by `==`";
+const OF_SECOND = ": load what is compared by `<` and its like into a variable of the thread first, as `int r0 = x;`";
 const OF_PASSES = ": a loop that waits by a function calls one that changes nothing if the loop goes on, and returns constants";
 const OF_WORDS = ": an index is a constant, or comes from a variable that only this thread writes, and that has a known constant then";
 
@@ -43,6 +51,11 @@ const OF_WORDS = ": an index is a constant, or comes from a variable that only t
 function findFact(known, key) {
   const fact = [...known].find((it) => it.startsWith(`${key}=`));
   return fact ? Number(fact.slice(key.length + 1)) : null;
+}
+
+/** Returns whether squeezed code has a relation that is no equality. */
+function isRelation(code) {
+  return /(?<![<-])[<>](?![<>])/.test(code) && !/<<|>>/.test(code);
 }
 
 /** Returns a condition that compares a load with a constant in place of one that compares the difference of a constant and the load. */
@@ -65,6 +78,10 @@ export class KnownWriter extends CallWriter {
     this.isConditional = false;
     // The variables of the thread that it has loaded from those which other threads write, with the names of these.
     this.loadedFrom = new Map();
+    // Where each variable of the thread has its words from, the words of shared ones, and the names of those whose words are used.
+    this.origins = new Map();
+    this.wordLists = program.wordLists;
+    this.listed = new Set();
     // The shared variables that are in indices of the statement.
     this.indexed = new Set();
     // The variables of the thread before a loop that waits by a function, and how often something changes that such a loop may not change.
@@ -192,12 +209,20 @@ export class KnownWriter extends CallWriter {
     super.assignLocal(name, number === null ? value : String(number));
     if (this.findCall(value)) return;
     const [access, another] = this.accesses.slice(count);
+    this.recordOrigin(name, number, another ? null : access);
     if (number !== null) this.learn(name, (number + WORD) % WORD);
     else if (access && !another && !access.isWrite && LOAD.test(this.instructions.at(-1)) && this.learnLoad(name, access.name)) {
       // No question asks of what is known.
       Object.assign(this, { loaded, loadedBranches });
       this.loads.pop();
     }
+  }
+
+  /** Records where a variable of the thread has its word from: a number, or an access whose result it is. */
+  recordOrigin(name, number, access) {
+    const isResult = access && RESULT_OF.test(this.instructions.at(-1));
+    const origin = number !== null ? { word: (number + WORD) % WORD } : isResult ? { name: access.name } : null;
+    this.origins.set(name, [...this.origins.get(name) ?? [], origin]);
   }
 
   /** Records the word of a variable that the thread has loaded from a shared one. Returns whether it is one of some that are known. */
@@ -288,10 +313,61 @@ export class KnownWriter extends CallWriter {
       code = `${open}${name}${code.slice(stepped.length)}`;
     }
     const number = this.compute(code);
-    if (number === null) return this.writeFilled({ ...statement, condition: this.fillCondition(code) }, isLast);
+    if (number === null) return this.writeFilled({ ...statement, condition: this.writeRelations(this.fillCondition(code)) }, isLast);
     this.writeBlock(number ? statement.then : statement.otherwise, isLast);
     this.isOver = !this.known;
     return undefined;
+  }
+
+  /**
+   * Returns a condition of equalities in place of one with relations of variables and constants, and writes the load in the first one: each variable has
+   * one of a few words. Throws NoTest if these are not known.
+   */
+  writeRelations(code) {
+    if (splitOutside(removeOuterParentheses(code), "||").length > 1 || !isRelation(code)) return code;
+    const parts = splitOutside(removeOuterParentheses(code), "&&");
+    const first = parts.findIndex((it) => /\w\(/.test(it) || (it.match(/[A-Za-z_]\w*/g) ?? []).some((name) => this.isShared(name)));
+    return parts.map((it, at) => (isRelation(it) ? this.writeRelation(it, at === first) : it)).join("&&");
+  }
+
+  /** Returns equalities in place of a relation of a variable and a constant. It may load the variable if it `isFirst` to load one. */
+  writeRelation(code, isFirst) {
+    const [, negation, relation] = /^(!?)(.*)$/.exec(removeOuterParentheses(code));
+    const [, left, sign, right] = RELATION.exec(removeOuterParentheses(relation)) ?? this.refuseStatement(OF_RELATIONS);
+    const isReversed = parseConstant(left) !== null;
+    const [value, word] = isReversed ? [right, parseConstant(left)] : [left, parseConstant(right)];
+    if (!isFirst && !this.locals.has(value) && COMPARED.test(value)) this.refuseStatement(OF_SECOND);
+    const variable = this.locals.has(value) ? value : COMPARED.test(value) && word !== null ? this.loadCompared(value) : null;
+    const words = variable && this.known.has(variable) && word !== null ? this.listLocal(variable) : null;
+    if (!words || [...words, word].some((it) => it >= WORD / 2)) this.refuseStatement(OF_RELATIONS);
+    const holds = (it) => Boolean(computeConstant(isReversed ? `${word}${sign}${it}` : `${it}${sign}${word}`)) === (negation === "");
+    const [held, others] = [words.filter(holds), words.filter((it) => !holds(it))];
+    if (!held.length) return "0";
+    if (!others.length) return "1";
+    return held.length === 1 ? `${variable}==${held[0]}` : others.map((it) => `${variable}!=${it}`).join("&&");
+  }
+
+  /** Returns whether a name is that of a shared variable. */
+  isShared(name) {
+    return this.variables.has(name) && !this.locals.has(name);
+  }
+
+  /** Loads a shared variable that is compared into one of the thread. Returns the name of this. */
+  loadCompared(load) {
+    const { loaded, loadedBranches } = this;
+    const variable = this.nameNew(`${this.parseOperation(load).name}_compared`);
+    this.locals.add(variable);
+    this.assignLocal(variable, load);
+    return Object.assign(this, { loaded, loadedBranches }) && variable;
+  }
+
+  /** Returns the words that a variable of the thread may have: constants to which it was set, and words of variables that it loaded; null if not known. */
+  listLocal(variable) {
+    const origins = this.origins.get(variable) ?? [];
+    if (origins.length !== this.countSettings(variable) || origins.includes(null)) return null;
+    for (const it of origins) if (it.name) this.listed.add(it.name);
+    const lists = origins.map((it) => (it.name ? this.wordLists.get(it.name) ?? [this.words.get(it.name)] : [it.word]));
+    return lists.includes(null) ? null : [...new Set(lists.flat())].sort((one, other) => one - other);
   }
 
   /** Writes an `if` with a condition in which known words are in place of variables. */
@@ -412,6 +488,19 @@ function listWritten({ name: own, code: { code: first }, values = [] }, { names,
   return [...words.keys()].filter((name) => code.includes(name) && isWritten(name));
 }
 
+/** Adds the words that shared variables may have, as threads are written, to those of which conditions are written. Returns whether it adds some. */
+function extendLists(wordLists, writers, { words }) {
+  const findWords = findAllWords(writers, words);
+  let isExtended = false;
+  for (const name of new Set(writers.flatMap((it) => [...it.listed]))) {
+    const [before, found] = [wordLists.get(name) ?? [words.get(name)], findWords(name)];
+    if (wordLists.get(name) === null || found?.every((it) => before.includes(it))) continue;
+    isExtended = true;
+    wordLists.set(name, !found || found.length > MOST_LISTED ? null : [...new Set([...before, ...found])]);
+  }
+  return isExtended;
+}
+
 /**
  * Returns the writers of threads, in which variables that other threads write are not known.
  * @param {Program} program
@@ -421,15 +510,17 @@ function listWritten({ name: own, code: { code: first }, values = [] }, { names,
 export function writeKnown(program, write) {
   const written = program.threads.map((it) => listWritten(it, program));
   const unknowable = written.map((_, number) => new Set(written.filter((_names, other) => other !== number).flat()));
+  const wordLists = new Map();
   for (let round = 0; round < MOST_ROUNDS; round += 1) {
-    const writers = write({ ...program, unknowable });
+    const writers = write({ ...program, unknowable, wordLists });
     const accesses = writers.flatMap((it) => it.accesses);
     const isBroken = ({ number }, name) => accesses.some((it) => it.isWrite && it.name === name && it.thread !== number);
     const broken = writers.map((writer) => [...writer.assumed].filter((it) => isBroken(writer, it)));
-    if (!broken.some((it) => it.length)) return writers;
+    if (!extendLists(wordLists, writers, program) && !broken.some((it) => it.length)) return writers;
     for (const [number, names] of broken.entries()) for (const it of names) unknowable[number].add(it);
   }
-  return write({ ...program, unknowable: written.map(() => new Set(program.words.keys())) });
+  const none = new Map([...program.words.keys()].map((it) => [it, null]));
+  return write({ ...program, unknowable: written.map(() => new Set(program.words.keys())), wordLists: none });
 }
 
 /**

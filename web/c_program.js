@@ -21,7 +21,7 @@ import { rewritePointers } from "./c_pointers.js";
 import { checkThreads, readProgram } from "./c_reader.js";
 import { expandRelations, mapSites } from "./c_relations.js";
 import { rewriteRounds } from "./c_rounds.js";
-import { BITS, OF_BITS, OF_LOOPS } from "./c_statements.js";
+import { BITS, OF_BITS, OF_CONDITIONS, OF_LOOPS } from "./c_statements.js";
 import { rewriteTemplates } from "./c_templates.js";
 import { RESULT } from "./c_thread.js";
 import { findAllWords } from "./c_words.js";
@@ -424,10 +424,11 @@ function tryProgram(text, meaning) {
   return known.made || known.index >= test.index ? known : test;
 }
 
-/** Returns whether a program is refused since a variable has a value after some results of a function, or since a loop calls one. */
+/** Returns whether a program is refused for a variable that has a value after some results of a function, a loop that calls one, or a relation. */
 function needsResults({ why, index }, text) {
   const isCalling = why.endsWith(OF_LOOPS) && /^while\s*\(\s*!?\s*[\w.]+\s*\(/.test(text.slice(index, index + 80));
-  return isCalling || why.endsWith(" has no value on some path to here");
+  const isRelation = why.endsWith(OF_CONDITIONS) && /^[^{};]*[<>]/.test(text.slice(index, index + 200));
+  return isCalling || isRelation || why.endsWith(" has no value on some path to here");
 }
 
 /** Returns the same of a program in which words are known, or not. */

@@ -382,6 +382,7 @@ const OF_ASSIGNMENTS = ": write each assignment as a statement of its own";
 const OF_PAIRS = ": a loop that exchanges needs a variable that is only set to the constant that it writes, and to the one at which it ends";
 const OF_MUTEXES = ": only a mutex, as `std::mutex m`, is locked and unlocked";
 const OF_GUARDS = ": a guard is locked and unlocked in no branch";
+const OF_RELATIONS = ": the page writes a condition as equalities, and here the words that are compared are too many, or not known, so compare by `==`";
 const OF_KNOWN = ": an index is a constant, or comes from a variable that only this thread writes, and that has a known constant then";
 const OF_INDICES = ": an array is shared, and its indices are constants in it, as `a[0]`";
 const OF_SMALL = ": a variable of 8 or 16 bits is set to a constant from 0 to 127, or to another one that is loaded";
@@ -528,7 +529,7 @@ const REFUSED = [
   ["P1(void)", "P1(int *argument)", "`void P1(int *argument) { y = 1; int r0 =..`: a thread is a function without parameters, or with an unused `void *`"],
   ["void P1(void) { y = 1;", "void *P1(void *argument) { y = argument;", "`y = argument`: `argument` is not declared"],
   ["void P1(void)", "int main(void) { return 0; }\nvoid P1(void)", "`}`: `main` starts no thread, so leave it out"],
-  ["x = 1;", "if (y < 1) x = 1;", `\`if (y < 1)\`${OF_CONDITIONS}`],
+  ["x = 1;", "if (y < x) x = 1;", `\`if (y < x)\`${OF_RELATIONS}`],
   ["x = 1;", "if ((y == 1 || x) && y == 2) x = 1;", `\`if ((y == 1 || x) && y == 2)\`${OF_CONDITIONS}`],
   ["int r0 = y;", "int r0 = 0; if (x == 1 || y ? 0 : 1) x = 2;", `\`if (x == 1 || y ? 0 : 1)\`${OF_CONDITIONS}`],
   ["x = 1;", "if (y == x) x = 1;", `\`if (y == x)\`${OF_SIDES}`],

@@ -1066,6 +1066,62 @@ void p2() { int v; if (!take(v)) return; assert(v == 3); }
 int main() { std::thread a(p1), b(p2); a.join(); b.join(); }
 `,
     "X86 Mine\n(* 1:EAX is v, 1:EBX is take_result *)\n{ f=0; data=0; }\n P0 | P1 ;\n MOV [data],$3 | MOV ECX,[f] ;\n MOV [f],$1 | CMP ECX,$1 ;\n | JNE L3 ;\n | MOV EAX,[data] ;\n | MOV EBX,$1 ;\n | JMP L2 ;\n | L3: MOV EBX,$0 ;\n | L2: CMP EBX,$0 ;\n | JNE L1 ;\n | JMP END ;\n | L1: END: ;\nforall (1:EBX=0 \\/ 1:EAX=3)\n"],
+  ["a relation of a load in a condition", `#include <atomic>
+#include <thread>
+std::atomic<int> x{0}, data{0};
+int r1, r2;
+void p1() { data.store(1, std::memory_order_relaxed); x.store(1, std::memory_order_release); x.store(2, std::memory_order_release); }
+void p2() { if (x.load(std::memory_order_acquire) > 0) r1 = data.load(std::memory_order_relaxed); }
+int main() { std::thread a(p1), b(p2); a.join(); b.join(); }
+`,
+    "X86 Mine\n(* 1:EAX is x_compared, 1:EBX is r1 *)\n{ x=0; data=0; }\n P0 | P1 ;\n MOV [data],$1 | MOV EAX,[x] ;\n MOV [x],$1 | CMP EAX,$0 ;\n MOV [x],$2 | JE END ;\n | MOV EBX,[data] ;\n | END: ;\nexists (~1:EAX=0 /\\ 1:EBX=0)\n"],
+  ["relations of a variable that has few words", `#include <atomic>
+#include <thread>
+std::atomic<int> x{0}, data{0};
+void p1() { data.store(1, std::memory_order_relaxed); x.store(1, std::memory_order_release); x.store(2, std::memory_order_release); x = 3; }
+void p2() { int r = x.load(std::memory_order_acquire); if (r >= 1 && r <= 2) { int d = data.load(std::memory_order_relaxed); assert(d == 1); } }
+int main() { std::thread a(p1), b(p2); a.join(); b.join(); }
+`,
+    "X86 Mine\n(* 1:EAX is r, 1:EBX is d *)\n{ x=0; data=0; }\n P0 | P1 ;\n MOV [data],$1 | MOV EAX,[x] ;\n MOV [x],$1 | CMP EAX,$0 ;\n MOV [x],$2 | JE END ;\n MOV EAX,$3 | CMP EAX,$3 ;\n XCHG [x],EAX | JE END ;\n | MOV EBX,[data] ;\n | END: ;\nforall (1:EAX=0 \\/ 1:EAX=3 \\/ 1:EBX=1)\n"],
+  ["relations of variables that sums of one another are stored to", `#include <atomic>
+#include <thread>
+std::atomic<int> x{0}, y{0};
+void p1() { if (y.load() < 1) x = y + 1; }
+void p2() { if (x.load() < 2) y = x + 1; }
+int main() { std::thread a(p1), b(p2); a.join(); b.join(); }
+`,
+    "X86 Mine\n(* 0:EAX is y_compared, 1:EAX is x_compared *)\n{ x=0; y=0; }\n P0 | P1 ;\n MOV EAX,[y] | MOV EAX,[x] ;\n CMP EAX,$0 | CMP EAX,$2 ;\n JNE END | JE END ;\n MOV EBX,[y] | MOV EBX,[x] ;\n ADD EBX,$1 | ADD EBX,$1 ;\n XCHG [x],EBX | XCHG [y],EBX ;\n END: | END: ;\nexists (0:EAX=0 /\\ 1:EAX=0)\n"],
+  ["a relation of what an addition finds", `#include <atomic>
+#include <thread>
+std::atomic<int> count{0}; int winners;
+void work() { if (count.fetch_add(1) < 1) winners = winners + 1; }
+int main() { std::thread a(work), b(work); a.join(); b.join(); assert(winners == 1); }
+`,
+    "X86 Mine\n(* 0:EAX is count_compared, 1:EAX is count_compared *)\n{ count=0; winners=0; }\n P0 | P1 ;\n MOV EAX,$1 | MOV EAX,$1 ;\n LOCK XADD [count],EAX | LOCK XADD [count],EAX ;\n CMP EAX,$0 | CMP EAX,$0 ;\n JNE END | JNE END ;\n MOV EBX,[winners] | MOV EBX,[winners] ;\n ADD EBX,$1 | ADD EBX,$1 ;\n MOV [winners],EBX | MOV [winners],EBX ;\n END: | END: ;\nlocations [count]\nforall (winners=1)\n"],
+  ["relations joined by ||, of a variable that a branch sets", `#include <atomic>
+#include <thread>
+std::atomic<int> x{0}, y{0};
+void p1() { x = 1; y = 3; }
+void p2() { int a = 0; if (y > 2) a = 2; if (a > 1 || y < 1) { int s = x; } }
+int main() { std::thread a(p1), b(p2); a.join(); b.join(); }
+`,
+    "X86 Mine\n(* 1:EAX is a, 1:EBX is y_compared, 1:ECX is s, 1:EDX is y_compared_ *)\n{ x=0; y=0; }\n P0 | P1 ;\n MOV EAX,$1 | MOV EAX,$0 ;\n XCHG [x],EAX | MOV EBX,[y] ;\n MOV EAX,$3 | CMP EBX,$3 ;\n XCHG [y],EAX | JNE L1 ;\n | MOV EAX,$2 ;\n | L1: CMP EAX,$2 ;\n | JNE L2 ;\n | MOV ECX,[x] ;\n | JMP END ;\n | L2: MOV EDX,[y] ;\n | CMP EDX,$0 ;\n | JNE END ;\n | MOV ECX,[x] ;\n | END: ;\nlocations [1:EBX]\nexists (~1:EAX=2 /\\ 1:EDX=0 /\\ 1:ECX=0)\n"],
+  ["a relation of a variable that is counted, before a return", `#include <atomic>
+#include <thread>
+std::atomic<int> x{0}, y{0};
+void p1() { x = 1; for (int i = 0; i < 3; i++) y++; }
+void p2() { int r = y; if (r <= 1) { return; } int s = x; assert(s == 1); }
+int main() { std::thread a(p1), b(p2); a.join(); b.join(); }
+`,
+    "X86 Mine\n(* 1:EAX is r, 1:EBX is s *)\n{ x=0; y=0; }\n P0 | P1 ;\n MOV EAX,$1 | MOV EAX,[y] ;\n XCHG [x],EAX | CMP EAX,$2 ;\n MOV EAX,$1 | JE L1 ;\n LOCK XADD [y],EAX | CMP EAX,$3 ;\n MOV EAX,$1 | JE L1 ;\n LOCK XADD [y],EAX | JMP END ;\n MOV EAX,$1 | L1: MOV EBX,[x] ;\n LOCK XADD [y],EAX | END: ;\nforall (~1:EAX=2 /\\ ~1:EAX=3 \\/ 1:EBX=1)\n"],
+  ["a variable that is set again after its relation", `#include <atomic>
+#include <thread>
+std::atomic<int> x{0}, y{0};
+void p1() { x = 1; y = 3; }
+void p2() { int a = y; if (!(a > 2)) return; a = 0; if (a < 1) { int s = x; } }
+int main() { std::thread a(p1), b(p2); a.join(); b.join(); }
+`,
+    "X86 Mine\n(* 1:EAX is a, 1:EBX is s *)\n{ x=0; y=0; }\n P0 | P1 ;\n MOV EAX,$1 | MOV EAX,[y] ;\n XCHG [x],EAX | CMP EAX,$0 ;\n MOV EAX,$3 | JNE L1 ;\n XCHG [y],EAX | JMP END ;\n | L1: MOV EAX,$0 ;\n | MOV EBX,[x] ;\n | END: ;\nlocations [1:EAX; 1:EBX]\nexists (true)\n"],
 ];
 // A program of rounds, whose loop does `sets` before the threads run.
 const makeRounds = (sets, code) => `#include <semaphore.h>
@@ -1891,6 +1947,46 @@ void p2() { int r = a[40]; int k = 0; for (int i = 0; i < 2; i++) { k = i; a[k] 
 int main() { std::thread x(p1), b(p2); x.join(); b.join(); }
 `,
     "`a[i] = 3`: of an array the first 16 words are read", "a[i] = 3; }"],
+  ["a relation of words below 0", `#include <atomic>
+#include <thread>
+std::atomic<int> x{0}, y{0};
+void p1() { x = -1; y = 1; }
+void p2() { if (x.load() < 0) y = 2; }
+int main() { std::thread a(p1), b(p2); a.join(); b.join(); }
+`,
+    "`if (x.load() < 0)`: the page writes a condition as equalities, and here the words that are compared are too many, or not known, so compare by `==`", "if (x.load() < 0) y = 2;"],
+  ["a relation of a load after an exchange", `#include <atomic>
+#include <thread>
+std::atomic<int> x{0}, y{0}, l{0};
+void p1() { x = 1; y = 3; }
+void p2() { if (l.exchange(1) == 0 && y.load() > 1) { int r = x; } }
+int main() { std::thread a(p1), b(p2); a.join(); b.join(); }
+`,
+    "`if (l.exchange(1) == 0 && y.load() > 1)`: load what is compared by `<` and its like into a variable of the thread first, as `int r0 = x;`", "if (l.exchange(1) == 0 &"],
+  ["a relation of a sum", `#include <atomic>
+#include <thread>
+std::atomic<int> x{0}, y{0};
+void p1() { x = 1; y = 3; }
+void p2() { int r = y; r = r + 1; if (r > 1) { int s = x; } }
+int main() { std::thread a(p1), b(p2); a.join(); b.join(); }
+`,
+    "`if (r > 1)`: the page writes a condition as equalities, and here the words that are compared are too many, or not known, so compare by `==`", "if (r > 1) { int s = x; "],
+  ["a relation of words without a sign that are great", `#include <atomic>
+#include <thread>
+std::atomic<unsigned> x{0}, y{5};
+void p1() { x = 1; y = 3; y = 4000000000u; }
+void p2() { if (y < 4) { int s = x; } }
+int main() { std::thread a(p1), b(p2); a.join(); b.join(); }
+`,
+    "`if (y < 4)`: the page writes a condition as equalities, and here the words that are compared are too many, or not known, so compare by `==`", "if (y < 4) { int s = x; "],
+  ["a relation of two variables", `#include <atomic>
+#include <thread>
+std::atomic<int> x{0}, y{0};
+void p1() { x = 1; y = 3; }
+void p2() { int a = x; int b = y; if (a < b) { int s = x; } }
+int main() { std::thread a(p1), b(p2); a.join(); b.join(); }
+`,
+    "`if (a < b)`: the page writes a condition as equalities, and here the words that are compared are too many, or not known, so compare by `==`", "if (a < b) { int s = x; "],
 ];
 
 /** Returns a test with one blank in place of several, since names have other lengths than those in a form. */
