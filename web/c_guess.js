@@ -94,7 +94,7 @@ function listLostAdditions({ words }, accesses, isSure = true) {
 /**
  * Returns a question for a test that has none: whether an addition can be lost, if a load and a store make one; or whether all threads can enter their
  * branches at once; and otherwise whether all variables that threads loaded last can have their first words, if these loads are reached, and if what a
- * thread loaded before has another one. It is `true` if a thread loads otherwise, or none loads. The question of a defect has `phrases`, which say what it is.
+ * thread loaded before has another one. Or can a thread find a location not yet set that a lock is for? It is `true` if a thread loads otherwise, or none loads. The question of a defect has `phrases`, which say what it is.
  * @param {Program} program
  * @param {ThreadWriter[]} writers
  * @param {object[]} accesses
@@ -102,9 +102,32 @@ function listLostAdditions({ words }, accesses, isSure = true) {
  */
 export function guessQuestion(program, writers, accesses) {
   const lost = sayLost(listLostAdditions(program, accesses));
-  const phrases = lost.length ? lost : sayEntered(program, writers, accesses);
+  const entered = lost.length ? lost : sayEntered(program, writers, accesses);
+  const phrases = entered.length ? entered : sayUnset(program, writers, accesses);
   if (!phrases.length) return { question: guessFirstWords(program, writers), phrases };
   return { question: `~exists (${formatFormula({ sign: "/\\", parts: phrases.map((it) => it.formula) })})`, phrases };
+}
+
+/**
+ * Returns the phrase that a thread finds a location not yet set, if all threads take a lock, set it in a branch to one constant, and load it last: as
+ * double-checked locking does. None if that is not what they do.
+ */
+function sayUnset({ words }, writers, accesses) {
+  const name = writers[0].loads.at(-1)?.location;
+  const written = accesses.filter((it) => it.isWrite && it.name === name);
+  const [first] = written;
+  const isOnce = ({ isSure, word }) => !isSure && word !== null && word === first.word && word !== words.get(name);
+  if (writers.length < 2 || !first || !written.every(isOnce)) return [];
+  const isSetting = (writer) => {
+    const { variable, location } = writer.loads.at(-1) ?? {};
+    const [, register] = location === name ? writer.makeSite(variable).split(":") : [];
+    const last = writer.instructions.findLast((it) => new RegExp(`(?:MOV|ADD) ${register},|(?:XCHG|XADD) \\[\\w+\\],${register}$`).test(it));
+    const isLast = last?.endsWith(`MOV ${register},[${name}]`) && writer.accesses.findLast((it) => it.name === name && it.isRead)?.isSure;
+    return isLast && writer.waits.length > 0 && written.some((it) => it.thread === writer.number);
+  };
+  if (!writers.every(isSetting)) return [];
+  const parts = writers.map((it) => ({ name: it.makeSite(it.loads.at(-1).variable), word: words.get(name), isEqual: true }));
+  return [{ words: `a thread finds ${name} not yet set`, formula: { sign: "\\/", parts } }];
 }
 
 /** Returns the question whether variables that threads loaded last can have their first words, as `guessQuestion` says. */

@@ -6,6 +6,7 @@
 // `Declaration` are those of c_reader.js.
 
 import { blank, blankComments, findClosing, parseConstant, parseDeclaration, refusePart, squeezeCode } from "./c_code.js";
+import { isDoublyChecked } from "./c_once.js";
 import { splitOutside } from "./c_statements.js";
 import { WORD } from "./token_reader.js";
 
@@ -58,6 +59,7 @@ const OF_SHARED = ": load the pointer into a variable of the thread first";
 const OF_CONSTRUCTORS = ": a constructor gives members its arguments or constants, and no argument has a value by default";
 const OF_TYPES = ": give it a name that no pointer of another type has";
 const OF_MEMBERS = ": an object that pointers are of has integers, `bool` and such pointers";
+const OF_NOTHING = ": an object that pointers are of has a variable, which a thread may find not yet set";
 const OF_STATIC = ": what a class has for all its objects is not rewritten, so write it outside of the class";
 const DEEPEST = 4;
 // The largest numbers of pointers and of letters that a program has here.
@@ -199,7 +201,7 @@ class PointerWriter {
     const shared = /\bstatic\b[^;{}()=]*/.exec(own);
     if (shared) refusePart(this.cutPart(index + shared.index, shared[0].length), OF_STATIC);
     const [constructor = "", parameters = "", given = ""] = CONSTRUCTOR.exec(own) ?? [];
-    if (constructor) type.parameters = parameters.split(",").map((it) => /(\w*)\s*$/.exec(it)[1]);
+    if (constructor) type.parameters = parameters.split(",").filter((it) => it.trim()).map((it) => /(\w*)\s*$/.exec(it)[1]);
     type.given = new Map([...given.matchAll(GIVEN)].map(([, member, value]) => [member, value.replace(NULL, "0") || "0"]));
     const isKnown = (it) => type.parameters.includes(it) || parseConstant(it) !== null;
     if (parameters.includes("=") || ![...type.given.values()].every(isKnown)) refusePart(type.whole, OF_CONSTRUCTORS);
@@ -208,6 +210,7 @@ class PointerWriter {
       const isRead = declared.length && declared.every(({ isPointer, element, value }) => !isPointer && !element && (!value || parseConstant(value) !== null));
       return isRead ? declared.map((member) => ({ ...member, isUnsigned: UNSIGNED.test(it) })) : refusePart(type.whole, OF_MEMBERS);
     });
+    if (!type.members.length) refusePart(type.whole, OF_NOTHING);
   }
 
   /** Returns what is before each brace that is open at an index, the outermost first, without namespaces. */
@@ -235,6 +238,7 @@ class PointerWriter {
 
   /** Throws NoTest unless the code at an index is executed once at most: it is in no loop and no branch, and what it is in is named once. */
   checkOnce(index, part, depth = 0) {
+    if (!depth && isDoublyChecked(this.code, index)) return;
     const heads = this.findHeads(index);
     const isInLoop = (at) => REPEATING.test(this.code.slice(this.findStatement(at), at));
     const isRepeated = heads.some((it) => it.isBranching || isInLoop(it.at)) || isInLoop(index);

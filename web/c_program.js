@@ -22,7 +22,8 @@ import { checkThreads, readProgram } from "./c_reader.js";
 import { expandRelations, mapSites } from "./c_relations.js";
 import { rewriteRounds } from "./c_rounds.js";
 import { BITS, OF_BITS, OF_CONDITIONS, OF_LOOPS } from "./c_statements.js";
-import { rewriteTemplates } from "./c_templates.js";
+import { listStaticEdits } from "./c_statics.js";
+import { applyEdits, rewriteTemplates } from "./c_templates.js";
 import { RESULT } from "./c_thread.js";
 import { findAllWords } from "./c_words.js";
 import { readTest } from "./tests.js";
@@ -343,8 +344,8 @@ function rewriteJoined(text, meaning) {
 function rewriteUnblocked(text, meaning) {
   try {
     const without = rewriteTemplates(text);
-    if (!without) return rewriteUndelayed(text, meaning);
-    const { index, ...test } = rewriteUndelayed(without.text, meaning);
+    if (!without) return rewriteStatic(text, meaning);
+    const { index, ...test } = rewriteStatic(without.text, meaning);
     return { ...test, index: index === undefined ? undefined : without.findIndex(index) };
   } catch ({ message, index }) {
     return { why: message, index };
@@ -352,6 +353,16 @@ function rewriteUnblocked(text, meaning) {
 }
 
 /** Returns what `rewriteProgram` does of a program without templates. */
+function rewriteStatic(text, meaning) {
+  const test = rewriteUndelayed(text, meaning);
+  const edits = test.made ? [] : listStaticEdits(text);
+  if (!edits.length) return test;
+  const without = applyEdits(text, edits);
+  const { index, ...other } = rewriteUndelayed(without.text, meaning);
+  return { ...other, index: index === undefined ? undefined : without.findIndex(index) };
+}
+
+/** Returns what `rewriteProgram` does of a program whose classes have no static members. */
 function rewriteUndelayed(text, meaning) {
   const test = rewriteWhole(text, meaning);
   const without = test.made ? null : blankDelays(text);

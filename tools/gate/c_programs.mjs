@@ -529,7 +529,7 @@ const REFUSED = [
   ["P1(void)", "P1(int *argument)", "`void P1(int *argument) { y = 1; int r0 =..`: a thread is a function without parameters, or with an unused `void *`"],
   ["void P1(void) { y = 1;", "void *P1(void *argument) { y = argument;", "`y = argument`: `argument` is not declared"],
   ["void P1(void)", "int main(void) { return 0; }\nvoid P1(void)", "`}`: `main` starts no thread, so leave it out"],
-  ["x = 1;", "if (y < x) x = 1;", `\`if (y < x)\`${OF_RELATIONS}`],
+  ["x = 1;", "if (y + 1 < 3) x = 1;", `\`if (y + 1 < 3)\`${OF_RELATIONS}`],
   ["x = 1;", "if ((y == 1 || x) && y == 2) x = 1;", `\`if ((y == 1 || x) && y == 2)\`${OF_CONDITIONS}`],
   ["int r0 = y;", "int r0 = 0; if (x == 1 || y ? 0 : 1) x = 2;", `\`if (x == 1 || y ? 0 : 1)\`${OF_CONDITIONS}`],
   ["x = 1;", "if (y == x) x = 1;", `\`if (y == x)\`${OF_SIDES}`],

@@ -1122,6 +1122,195 @@ void p2() { int a = y; if (!(a > 2)) return; a = 0; if (a < 1) { int s = x; } }
 int main() { std::thread a(p1), b(p2); a.join(); b.join(); }
 `,
     "X86 Mine\n(* 1:EAX is a, 1:EBX is s *)\n{ x=0; y=0; }\n P0 | P1 ;\n MOV EAX,$1 | MOV EAX,[y] ;\n XCHG [x],EAX | CMP EAX,$0 ;\n MOV EAX,$3 | JNE L1 ;\n XCHG [y],EAX | JMP END ;\n | L1: MOV EAX,$0 ;\n | MOV EBX,[x] ;\n | END: ;\nlocations [1:EAX; 1:EBX]\nexists (true)\n"],
+  ["double-checked locking of an object", `#include <atomic>
+#include <mutex>
+#include <thread>
+struct Data { int x; };
+std::atomic<Data*> instance{nullptr};
+std::mutex m;
+Data* get() {
+  Data* p = instance.load(std::memory_order_acquire);
+  if (!p) {
+    std::lock_guard<std::mutex> lock(m);
+    p = instance.load(std::memory_order_relaxed);
+    if (!p) {
+      p = new Data;
+      p->x = 42;
+      instance.store(p, std::memory_order_release);
+    }
+  }
+  return p;
+}
+void t1() { Data* d = get(); int r = d->x; }
+void t2() { Data* d = get(); int r = d->x; }
+int main() { std::thread a(t1), b(t2); a.join(); b.join(); }
+`,
+    "X86 Mine\n(* 0:EAX is p, 0:EBX is m at its lock, 0:ECX is d, 0:EDX is r, 1:EAX is p, 1:EBX is m at its lock, 1:ECX is d, 1:EDX is r *)\n(* every wait ends: 0:EBX=0 /\\ 1:EBX=0 *)\n(* a thread finds Data_x not yet set: 0:EDX=0 \\/ 1:EDX=0 *)\n{ Data_x=0; instance=0; m=0; }\n P0 | P1 ;\n MOV EAX,[instance] | MOV EAX,[instance] ;\n CMP EAX,$0 | CMP EAX,$0 ;\n JNE L2 | JNE L2 ;\n MOV EBX,$1 | MOV EBX,$1 ;\n XCHG [m],EBX | XCHG [m],EBX ;\n MOV EAX,[instance] | MOV EAX,[instance] ;\n CMP EAX,$0 | CMP EAX,$0 ;\n JNE L3 | JNE L3 ;\n MOV EAX,$1 | MOV EAX,$1 ;\n MOV [Data_x],$42 | MOV [Data_x],$42 ;\n MOV [instance],EAX | MOV [instance],EAX ;\n L3: MOV ESI,$0 | L3: MOV ESI,$0 ;\n XCHG [m],ESI | XCHG [m],ESI ;\n L2: MOV ECX,EAX | L2: MOV ECX,EAX ;\n MOV EDX,[Data_x] | MOV EDX,[Data_x] ;\nlocations [0:EAX; 0:ECX; 1:EAX; 1:ECX; instance; Data_x]\n~exists (0:EBX=0 /\\ 1:EBX=0 /\\ (0:EDX=0 \\/ 1:EDX=0))\n"],
+  ["double-checked locking by a lock and an unlock", `#include <atomic>
+#include <mutex>
+#include <thread>
+struct Data { int x; };
+std::atomic<Data*> instance{nullptr};
+std::mutex m;
+Data* get() {
+  Data* p = instance.load(std::memory_order_acquire);
+  if (!p) {
+    m.lock();
+    p = instance.load(std::memory_order_relaxed);
+    if (!p) {
+      p = new Data;
+      p->x = 42;
+      instance.store(p, std::memory_order_release);
+    }
+    m.unlock();
+  }
+  return p;
+}
+void t1() { Data* d = get(); int r = d->x; }
+void t2() { Data* d = get(); int r = d->x; }
+int main() { std::thread a(t1), b(t2); a.join(); b.join(); }
+`,
+    "X86 Mine\n(* 0:EAX is p, 0:EBX is m at its lock, 0:ECX is d, 0:EDX is r, 1:EAX is p, 1:EBX is m at its lock, 1:ECX is d, 1:EDX is r *)\n(* every wait ends: 0:EBX=0 /\\ 1:EBX=0 *)\n(* a thread finds Data_x not yet set: 0:EDX=0 \\/ 1:EDX=0 *)\n{ Data_x=0; instance=0; m=0; }\n P0 | P1 ;\n MOV EAX,[instance] | MOV EAX,[instance] ;\n CMP EAX,$0 | CMP EAX,$0 ;\n JNE L2 | JNE L2 ;\n MOV EBX,$1 | MOV EBX,$1 ;\n XCHG [m],EBX | XCHG [m],EBX ;\n MOV EAX,[instance] | MOV EAX,[instance] ;\n CMP EAX,$0 | CMP EAX,$0 ;\n JNE L3 | JNE L3 ;\n MOV EAX,$1 | MOV EAX,$1 ;\n MOV [Data_x],$42 | MOV [Data_x],$42 ;\n MOV [instance],EAX | MOV [instance],EAX ;\n L3: MOV ESI,$0 | L3: MOV ESI,$0 ;\n XCHG [m],ESI | XCHG [m],ESI ;\n L2: MOV ECX,EAX | L2: MOV ECX,EAX ;\n MOV EDX,[Data_x] | MOV EDX,[Data_x] ;\nlocations [0:EAX; 0:ECX; 1:EAX; 1:ECX; instance; Data_x]\n~exists (0:EBX=0 /\\ 1:EBX=0 /\\ (0:EDX=0 \\/ 1:EDX=0))\n"],
+  ["double-checked locking by a flag", `#include <atomic>
+#include <mutex>
+#include <thread>
+struct Data { int x; };
+std::atomic<Data*> instance{nullptr};
+std::atomic_flag m;
+Data* get() {
+  Data* p = instance.load(std::memory_order_acquire);
+  if (!p) {
+    while (m.test_and_set(std::memory_order_acquire)) ;
+    p = instance.load(std::memory_order_relaxed);
+    if (!p) {
+      p = new Data;
+      p->x = 42;
+      instance.store(p, std::memory_order_release);
+    }
+    m.clear(std::memory_order_release);
+  }
+  return p;
+}
+void t1() { Data* d = get(); int r = d->x; }
+void t2() { Data* d = get(); int r = d->x; }
+int main() { std::thread a(t1), b(t2); a.join(); b.join(); }
+`,
+    "X86 Mine\n(* 0:EAX is p, 0:EBX is m at its lock, 0:ECX is d, 0:EDX is r, 1:EAX is p, 1:EBX is m at its lock, 1:ECX is d, 1:EDX is r *)\n(* every wait ends: 0:EBX=0 /\\ 1:EBX=0 *)\n(* a thread finds Data_x not yet set: 0:EDX=0 \\/ 1:EDX=0 *)\n{ Data_x=0; instance=0; m=0; }\n P0 | P1 ;\n MOV EAX,[instance] | MOV EAX,[instance] ;\n CMP EAX,$0 | CMP EAX,$0 ;\n JNE L2 | JNE L2 ;\n MOV EBX,$1 | MOV EBX,$1 ;\n XCHG [m],EBX | XCHG [m],EBX ;\n MOV EAX,[instance] | MOV EAX,[instance] ;\n CMP EAX,$0 | CMP EAX,$0 ;\n JNE L3 | JNE L3 ;\n MOV EAX,$1 | MOV EAX,$1 ;\n MOV [Data_x],$42 | MOV [Data_x],$42 ;\n MOV [instance],EAX | MOV [instance],EAX ;\n L3: MOV [m],$0 | L3: MOV [m],$0 ;\n L2: MOV ECX,EAX | L2: MOV ECX,EAX ;\n MOV EDX,[Data_x] | MOV EDX,[Data_x] ;\nlocations [0:EAX; 0:ECX; 1:EAX; 1:ECX; instance; m; Data_x]\n~exists (0:EBX=0 /\\ 1:EBX=0 /\\ (0:EDX=0 \\/ 1:EDX=0))\n"],
+  ["double-checked locking that stores the pointer first", `#include <atomic>
+#include <mutex>
+#include <thread>
+struct Data { int x; };
+std::atomic<Data*> instance{nullptr};
+std::mutex m;
+Data* get() {
+  Data* p = instance.load(std::memory_order_acquire);
+  if (!p) {
+    std::lock_guard<std::mutex> lock(m);
+    p = instance.load(std::memory_order_relaxed);
+    if (!p) {
+      p = new Data;
+      instance.store(p, std::memory_order_release);
+      p->x = 42;
+    }
+  }
+  return p;
+}
+void t1() { Data* d = get(); int r = d->x; }
+void t2() { Data* d = get(); int r = d->x; }
+int main() { std::thread a(t1), b(t2); a.join(); b.join(); }
+`,
+    "X86 Mine\n(* 0:EAX is p, 0:EBX is m at its lock, 0:ECX is d, 0:EDX is r, 1:EAX is p, 1:EBX is m at its lock, 1:ECX is d, 1:EDX is r *)\n(* every wait ends: 0:EBX=0 /\\ 1:EBX=0 *)\n(* a thread finds Data_x not yet set: 0:EDX=0 \\/ 1:EDX=0 *)\n{ Data_x=0; instance=0; m=0; }\n P0 | P1 ;\n MOV EAX,[instance] | MOV EAX,[instance] ;\n CMP EAX,$0 | CMP EAX,$0 ;\n JNE L2 | JNE L2 ;\n MOV EBX,$1 | MOV EBX,$1 ;\n XCHG [m],EBX | XCHG [m],EBX ;\n MOV EAX,[instance] | MOV EAX,[instance] ;\n CMP EAX,$0 | CMP EAX,$0 ;\n JNE L3 | JNE L3 ;\n MOV EAX,$1 | MOV EAX,$1 ;\n MOV [instance],EAX | MOV [instance],EAX ;\n MOV [Data_x],$42 | MOV [Data_x],$42 ;\n L3: MOV ESI,$0 | L3: MOV ESI,$0 ;\n XCHG [m],ESI | XCHG [m],ESI ;\n L2: MOV ECX,EAX | L2: MOV ECX,EAX ;\n MOV EDX,[Data_x] | MOV EDX,[Data_x] ;\nlocations [0:EAX; 0:ECX; 1:EAX; 1:ECX; instance; Data_x]\n~exists (0:EBX=0 /\\ 1:EBX=0 /\\ (0:EDX=0 \\/ 1:EDX=0))\n"],
+  ["double-checked locking by a plain pointer", `#include <mutex>
+#include <thread>
+struct S { int v; };
+S* instance = nullptr;
+std::mutex m;
+S* get() {
+  if (instance == nullptr) {
+    std::lock_guard<std::mutex> lock(m);
+    if (instance == nullptr) {
+      S* p = new S;
+      p->v = 1;
+      instance = p;
+    }
+  }
+  return instance;
+}
+void t1() { S* d = get(); int r = d->v; }
+void t2() { S* d = get(); int r = d->v; }
+int main() { std::thread a(t1), b(t2); a.join(); b.join(); }
+`,
+    "X86 Mine\n(* 0:EAX is m at its lock, 0:EBX is p, 0:ECX is d, 0:EDX is r, 1:EAX is m at its lock, 1:EBX is p, 1:ECX is d, 1:EDX is r *)\n(* every wait ends: 0:EAX=0 /\\ 1:EAX=0 *)\n(* a thread finds S_v not yet set: 0:EDX=0 \\/ 1:EDX=0 *)\n{ S_v=0; instance=0; m=0; }\n P0 | P1 ;\n MOV ESI,[instance] | MOV ESI,[instance] ;\n CMP ESI,$0 | CMP ESI,$0 ;\n JNE L2 | JNE L2 ;\n MOV EAX,$1 | MOV EAX,$1 ;\n XCHG [m],EAX | XCHG [m],EAX ;\n MOV ESI,[instance] | MOV ESI,[instance] ;\n CMP ESI,$0 | CMP ESI,$0 ;\n JNE L3 | JNE L3 ;\n MOV EBX,$1 | MOV EBX,$1 ;\n MOV [S_v],$1 | MOV [S_v],$1 ;\n MOV [instance],EBX | MOV [instance],EBX ;\n L3: MOV ESI,$0 | L3: MOV ESI,$0 ;\n XCHG [m],ESI | XCHG [m],ESI ;\n L2: MOV ECX,[instance] | L2: MOV ECX,[instance] ;\n MOV EDX,[S_v] | MOV EDX,[S_v] ;\nlocations [0:EBX; 0:ECX; 1:EBX; 1:ECX; instance; S_v]\n~exists (0:EAX=0 /\\ 1:EAX=0 /\\ (0:EDX=0 \\/ 1:EDX=0))\n"],
+  ["double-checked locking of a word", `#include <atomic>
+#include <mutex>
+#include <thread>
+std::atomic<bool> initialized{false};
+std::mutex m;
+int value;
+void init() {
+  if (!initialized.load(std::memory_order_acquire)) {
+    std::lock_guard<std::mutex> lock(m);
+    if (!initialized.load(std::memory_order_relaxed)) {
+      value = 42;
+      initialized.store(true, std::memory_order_release);
+    }
+  }
+}
+void t1() { init(); int r = value; }
+void t2() { init(); int r = value; }
+int main() { std::thread a(t1), b(t2); a.join(); b.join(); }
+`,
+    "X86 Mine\n(* 0:EAX is m at its lock, 0:EBX is r, 1:EAX is m at its lock, 1:EBX is r *)\n(* every wait ends: 0:EAX=0 /\\ 1:EAX=0 *)\n(* a thread finds value not yet set: 0:EBX=0 \\/ 1:EBX=0 *)\n{ initialized=0; m=0; value=0; }\n P0 | P1 ;\n MOV ECX,[initialized] | MOV ECX,[initialized] ;\n CMP ECX,$0 | CMP ECX,$0 ;\n JNE L1 | JNE L1 ;\n MOV EAX,$1 | MOV EAX,$1 ;\n XCHG [m],EAX | XCHG [m],EAX ;\n MOV ECX,[initialized] | MOV ECX,[initialized] ;\n CMP ECX,$0 | CMP ECX,$0 ;\n JNE L2 | JNE L2 ;\n MOV [value],$42 | MOV [value],$42 ;\n MOV [initialized],$1 | MOV [initialized],$1 ;\n L2: MOV ECX,$0 | L2: MOV ECX,$0 ;\n XCHG [m],ECX | XCHG [m],ECX ;\n L1: MOV EBX,[value] | L1: MOV EBX,[value] ;\nlocations [initialized; value]\n~exists (0:EAX=0 /\\ 1:EAX=0 /\\ (0:EBX=0 \\/ 1:EBX=0))\n"],
+  ["a class whose static method makes its object, with fences", `#include <atomic>
+#include <mutex>
+#include <thread>
+class Singleton {
+private:
+  static std::atomic<Singleton*> instance_;
+  static std::mutex mutex_;
+  int data;
+  Singleton() : data(42) {}
+public:
+  Singleton(const Singleton&) = delete;
+  Singleton& operator=(const Singleton&) = delete;
+  static Singleton* getInstance() {
+    Singleton* tmp = instance_.load(std::memory_order_relaxed);
+    std::atomic_thread_fence(std::memory_order_acquire);
+    if (tmp == nullptr) {
+      std::lock_guard<std::mutex> lock(mutex_);
+      tmp = instance_.load(std::memory_order_relaxed);
+      if (tmp == nullptr) {
+        tmp = new Singleton;
+        std::atomic_thread_fence(std::memory_order_release);
+        instance_.store(tmp, std::memory_order_relaxed);
+      }
+    }
+    return tmp;
+  }
+
+};
+std::atomic<Singleton*> Singleton::instance_;
+std::mutex Singleton::mutex_;
+void work() { Singleton* s = Singleton::getInstance(); int r = s->data; }
+int main() { std::thread a(work), b(work); a.join(); b.join(); }
+`,
+    "X86 Mine\n(* 0:EAX is tmp, 0:EBX is mutex_ at its lock, 0:ECX is s, 0:EDX is r, 1:EAX is tmp, 1:EBX is mutex_ at its lock, 1:ECX is s, 1:EDX is r *)\n(* every wait ends: 0:EBX=0 /\\ 1:EBX=0 *)\n(* a thread finds Singleton_data not yet set: 0:EDX=0 \\/ 1:EDX=0 *)\n{ Singleton_data=0; instance_=0; mutex_=0; }\n P0 | P1 ;\n MOV EAX,[instance_] | MOV EAX,[instance_] ;\n CMP EAX,$0 | CMP EAX,$0 ;\n JNE L2 | JNE L2 ;\n MOV EBX,$1 | MOV EBX,$1 ;\n XCHG [mutex_],EBX | XCHG [mutex_],EBX ;\n MOV EAX,[instance_] | MOV EAX,[instance_] ;\n CMP EAX,$0 | CMP EAX,$0 ;\n JNE L3 | JNE L3 ;\n MOV [Singleton_data],$42 | MOV [Singleton_data],$42 ;\n MOV EAX,$1 | MOV EAX,$1 ;\n MOV [instance_],EAX | MOV [instance_],EAX ;\n L3: MOV ESI,$0 | L3: MOV ESI,$0 ;\n XCHG [mutex_],ESI | XCHG [mutex_],ESI ;\n L2: MOV ECX,EAX | L2: MOV ECX,EAX ;\n MOV EDX,[Singleton_data] | MOV EDX,[Singleton_data] ;\nlocations [0:EAX; 0:ECX; 1:EAX; 1:ECX; instance_; Singleton_data]\n~exists (0:EBX=0 /\\ 1:EBX=0 /\\ (0:EDX=0 \\/ 1:EDX=0))\n"],
+  ["static members of a class", `#include <atomic>
+#include <thread>
+class Config {
+public:
+  static std::atomic<bool> ready;
+  static int value;
+  static void set() { value = 7; ready.store(true, std::memory_order_release); }
+  static int get() { if (ready.load(std::memory_order_acquire)) return value; return 7; }
+};
+std::atomic<bool> Config::ready{false};
+int Config::value = 0;
+void t1() { Config::set(); }
+void t2() { int r = Config::get(); assert(r == 7); }
+int main() { std::thread a(t1), b(t2); a.join(); b.join(); }
+`,
+    "X86 Mine\n(* 1:EAX is r *)\n{ ready=0; value=0; }\n P0 | P1 ;\n MOV [value],$7 | MOV EBX,[ready] ;\n MOV [ready],$1 | CMP EBX,$0 ;\n | JE L2 ;\n | MOV EAX,[value] ;\n | JMP L1 ;\n | L2: MOV EAX,$7 ;\n | L1: ;\nforall (1:EAX=7)\n"],
 ];
 // A program of rounds, whose loop does `sets` before the threads run.
 const makeRounds = (sets, code) => `#include <semaphore.h>
@@ -1429,7 +1618,7 @@ private:
 std::atomic<Singleton*> Singleton::m_instance;
 std::mutex Singleton::m_mutex;
 `,
-    "`static Singleton* getInstance`: what a class has for all its objects is not rewritten, so write it outside of the class", "static Singleton* getInstance("],
+    "`class Singleton { public: private: };`: an object that pointers are of has a variable, which a thread may find not yet set", "class Singleton {"],
   ["double-checked locking of a pointer", `#include <atomic>
 #include <mutex>
 struct Widget { int value; };
@@ -1987,6 +2176,267 @@ void p2() { int a = x; int b = y; if (a < b) { int s = x; } }
 int main() { std::thread a(p1), b(p2); a.join(); b.join(); }
 `,
     "`if (a < b)`: the page writes a condition as equalities, and here the words that are compared are too many, or not known, so compare by `==`", "if (a < b) { int s = x; "],
+  ["an object that is made without the lock", `#include <atomic>
+#include <mutex>
+#include <thread>
+struct Data { int x; };
+std::atomic<Data*> instance{nullptr};
+std::mutex m;
+Data* get() {
+  Data* p = instance.load(std::memory_order_acquire);
+  if (!p) {
+    p = instance.load(std::memory_order_relaxed);
+    if (!p) {
+      p = new Data;
+      p->x = 42;
+      instance.store(p, std::memory_order_release);
+    }
+  }
+  return p;
+}
+void t1() { Data* d = get(); int r = d->x; }
+void t2() { Data* d = get(); int r = d->x; }
+int main() { std::thread a(t1), b(t2); a.join(); b.join(); }
+`,
+    "`new Data`: an object is made in a statement of its own, in no loop and no branch", "new Data;"],
+  ["an object whose pointer another thread sets to null", `#include <atomic>
+#include <mutex>
+#include <thread>
+struct Data { int x; };
+std::atomic<Data*> instance{nullptr};
+std::mutex m;
+Data* get() {
+  Data* p = instance.load(std::memory_order_acquire);
+  if (!p) {
+    std::lock_guard<std::mutex> lock(m);
+    p = instance.load(std::memory_order_relaxed);
+    if (!p) {
+      p = new Data;
+      p->x = 42;
+      instance.store(p, std::memory_order_release);
+    }
+  }
+  return p;
+}
+void t1() { Data* d = get(); int r = d->x; }
+void t2() { Data* d = get(); int r = d->x; instance.store(nullptr); }
+int main() { std::thread a(t1), b(t2); a.join(); b.join(); }
+`,
+    "`new Data`: an object is made in a statement of its own, in no loop and no branch", "new Data;"],
+  ["an object whose pointer is stored after the branch", `#include <atomic>
+#include <mutex>
+#include <thread>
+struct Data { int x; };
+std::atomic<Data*> instance{nullptr};
+std::mutex m;
+Data* get() {
+  Data* p = instance.load(std::memory_order_acquire);
+  if (!p) {
+    std::lock_guard<std::mutex> lock(m);
+    p = instance.load(std::memory_order_relaxed);
+    if (!p) {
+      p = new Data;
+      p->x = 42;
+    }
+    instance.store(p, std::memory_order_release);
+  }
+  return p;
+}
+void t1() { Data* d = get(); int r = d->x; }
+void t2() { Data* d = get(); int r = d->x; }
+int main() { std::thread a(t1), b(t2); a.join(); b.join(); }
+`,
+    "`new Data`: an object is made in a statement of its own, in no loop and no branch", "new Data;"],
+  ["an object that is made after the guard's block", `#include <atomic>
+#include <mutex>
+#include <thread>
+struct Data { int x; };
+std::atomic<Data*> instance{nullptr};
+std::mutex m;
+Data* get() {
+  Data* p = instance.load(std::memory_order_acquire);
+  if (!p) {
+    { std::lock_guard<std::mutex> lock(m); }
+    p = instance.load(std::memory_order_relaxed);
+    if (!p) {
+      p = new Data;
+      p->x = 42;
+      instance.store(p, std::memory_order_release);
+    }
+  }
+  return p;
+}
+void t1() { Data* d = get(); int r = d->x; }
+void t2() { Data* d = get(); int r = d->x; }
+int main() { std::thread a(t1), b(t2); a.join(); b.join(); }
+`,
+    "`new Data`: an object is made in a statement of its own, in no loop and no branch", "new Data;"],
+  ["an object whose pointer is loaded again into another variable", `#include <atomic>
+#include <mutex>
+#include <thread>
+struct Data { int x; };
+std::atomic<Data*> instance{nullptr};
+std::mutex m;
+Data* get() {
+  Data* p = instance.load(std::memory_order_acquire);
+  if (!p) {
+    std::lock_guard<std::mutex> lock(m);
+    Data* q = instance.load(std::memory_order_relaxed);
+    if (!p) {
+      p = new Data;
+      p->x = 42;
+      instance.store(p, std::memory_order_release);
+    }
+  }
+  return p;
+}
+void t1() { Data* d = get(); int r = d->x; }
+void t2() { Data* d = get(); int r = d->x; }
+int main() { std::thread a(t1), b(t2); a.join(); b.join(); }
+`,
+    "`new Data`: an object is made in a statement of its own, in no loop and no branch", "new Data;"],
+  ["an object that is made if the pointer is not null", `#include <atomic>
+#include <mutex>
+#include <thread>
+struct Data { int x; };
+std::atomic<Data*> instance{nullptr};
+std::mutex m;
+Data* get() {
+  Data* p = instance.load(std::memory_order_acquire);
+  if (!p) {
+    std::lock_guard<std::mutex> lock(m);
+    p = instance.load(std::memory_order_relaxed);
+    if (p) {
+      p = new Data;
+      p->x = 42;
+      instance.store(p, std::memory_order_release);
+    }
+  }
+  return p;
+}
+void t1() { Data* d = get(); int r = d->x; }
+void t2() { Data* d = get(); int r = d->x; }
+int main() { std::thread a(t1), b(t2); a.join(); b.join(); }
+`,
+    "`new Data`: an object is made in a statement of its own, in no loop and no branch", "new Data;"],
+  ["an object whose lock is given back before the store", `#include <atomic>
+#include <mutex>
+#include <thread>
+struct Data { int x; };
+std::atomic<Data*> instance{nullptr};
+std::mutex m;
+Data* get() {
+  Data* p = instance.load(std::memory_order_acquire);
+  if (!p) {
+    std::lock_guard<std::mutex> lock(m);
+    p = instance.load(std::memory_order_relaxed);
+    if (!p) {
+      p = new Data;
+      p->x = 42; m.unlock();
+      instance.store(p, std::memory_order_release);
+    }
+  }
+  return p;
+}
+void t1() { Data* d = get(); int r = d->x; }
+void t2() { Data* d = get(); int r = d->x; }
+int main() { std::thread a(t1), b(t2); a.join(); b.join(); }
+`,
+    "`new Data`: an object is made in a statement of its own, in no loop and no branch", "new Data;"],
+  ["an object whose pointer is stored in a branch", `#include <atomic>
+#include <mutex>
+#include <thread>
+struct Data { int x; };
+std::atomic<Data*> instance{nullptr};
+std::mutex m;
+Data* get() {
+  Data* p = instance.load(std::memory_order_acquire);
+  if (!p) {
+    std::lock_guard<std::mutex> lock(m);
+    p = instance.load(std::memory_order_relaxed);
+    if (!p) {
+      p = new Data;
+      if (p->x == 1)             instance.store(p, std::memory_order_release);
+    }
+  }
+  return p;
+}
+void t1() { Data* d = get(); int r = d->x; }
+void t2() { Data* d = get(); int r = d->x; }
+int main() { std::thread a(t1), b(t2); a.join(); b.join(); }
+`,
+    "`new Data`: an object is made in a statement of its own, in no loop and no branch", "new Data;"],
+  ["an object whose lock another function gives back", `#include <atomic>
+#include <mutex>
+#include <thread>
+struct Data { int x; };
+std::atomic<Data*> instance{nullptr};
+std::mutex m;
+Data* get() {
+  Data* p = instance.load(std::memory_order_acquire);
+  if (!p) {
+    std::lock_guard<std::mutex> lock(m);
+    p = instance.load(std::memory_order_relaxed);
+    if (!p) {
+      p = new Data;
+      p->x = 42;
+      instance.store(p, std::memory_order_release);
+    }
+  }
+  return p;
+}
+void t1() { Data* d = get(); int r = d->x; }
+void t3() { m.unlock(); }
+void t2() { t3(); Data* d = get(); int r = d->x; }
+int main() { std::thread a(t1), b(t2); a.join(); b.join(); }
+`,
+    "`new Data`: an object is made in a statement of its own, in no loop and no branch", "new Data;"],
+  ["double-checked locking, and assertions before the other thread ends", `#include <atomic>
+#include <mutex>
+#include <thread>
+class Singleton {
+public:
+  static Singleton* getInstance() {
+    Singleton* p = instance.load(std::memory_order_acquire);
+    if (p == nullptr) {
+      std::lock_guard<std::mutex> lock(m);
+      p = instance.load(std::memory_order_relaxed);
+      if (p == nullptr) {
+        p = new Singleton();
+        instance.store(p, std::memory_order_release);
+      }
+    }
+    return p;
+  }
+  int value;
+private:
+  Singleton() { value = 42; }
+  static std::atomic<Singleton*> instance;
+  static std::mutex m;
+};
+std::atomic<Singleton*> Singleton::instance{nullptr};
+std::mutex Singleton::m;
+void t1() { Singleton* s = Singleton::getInstance(); assert(s->value == 42); }
+void t2() { Singleton* s = Singleton::getInstance(); assert(s->value == 42); }
+int main() { std::thread a(t1), b(t2); a.join(); b.join(); }
+`,
+    "`assert(Singleton_value == 42)`: another thread may still wait then, in a loop or for a lock, so assert it at the end of `main`", "assert(s->value == 42); "],
+  ["a static member with the name of a variable", `#include <atomic>
+#include <thread>
+class Config {
+public:
+  static std::atomic<bool> ready;
+  static int value;
+  static void set() { value = 7; ready.store(true, std::memory_order_release); }
+};
+std::atomic<bool> Config::ready{false};
+int Config::value = 0;
+int value = 3;
+void t1() { Config::set(); }
+void t2() { int r = value; }
+int main() { std::thread a(t1), b(t2); a.join(); b.join(); }
+`,
+    "`static std::atomic<bool> ready;`: a class has integers, `bool`, mutexes, arrays of these, and functions", "static std::atomic<bool>"],
 ];
 
 /** Returns a test with one blank in place of several, since names have other lengths than those in a form. */
