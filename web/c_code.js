@@ -129,6 +129,7 @@ export function squeezeCode(code) {
     .replace(/\b(READ|WRITE)_ONCE\((\*?)/g, (_, macro, star) => `atomic_${macro === "READ" ? "load" : "store"}_relaxed(${star ? "" : "&"}`)
     .replace(/\bsmp_(load_acquire|store_release)\(/g, "atomic_$1(")
     .replace(/\bsmp_store_mb\((\*?)/g, (_, star) => `atomic_exchange(${star ? "" : "&"}`)
+    .replace(/\batomic_(read_acquire|set_release)\((?!\*)/g, (_, verb) => `atomic_${verb === "read_acquire" ? "load_acquire" : "store_release"}(`)
     .replace(/\batomic_(read|set)\((?!\*)/g, (_, verb) => `atomic_${verb === "read" ? "load" : "store"}_relaxed(`)
     .replace(/\batomic_(inc|dec)\((&?\w+)\)/g, (_, verb, name) => `atomic_fetch_${verb === "inc" ? "add" : "sub"}(${name},1)`)
     .replace(/\bxchg(?:_relaxed|_acquire|_release)?\(/g, "atomic_exchange(");

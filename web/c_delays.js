@@ -26,6 +26,8 @@ const RANDOM = "(?:std\\s*::\\s*)?(?:mt19937(?:_64)?|minstd_rand0?|default_rando
 const NUMBERS = /^(?:std|s?rand|random|rand_r|\d\w*)$/;
 // Where a program defines one of these itself: a function, a macro, or an object that is called.
 const OWN_NUMBERS = /\b(?:s?rand|random|rand_r)\b\s*(?:\([^(){};]*\)\s*(?:\{|->|[A-Za-z_])|=(?!=)|\{|\))|\bdefine[ \t]+(?:s?rand|random|rand_r)\b|\busing\s+(?!std\b)[\w:]+::(?:s?rand|random|rand_r)\b/;
+// A number that a variable gives, which is the group.
+const OF_SEED = /\brand_r\s*\(\s*&\s*(\w+)\s*\)/g;
 // What chooses the numbers that a program gets.
 const SEEDING = /(?<=[;{}])\s*(?:std\s*::\s*)?srand\s*\(\s*(?:\(\s*unsigned(?:\s+int)?\s*\)\s*)?(?:\d+|(?:std\s*::\s*)?time\s*\(\s*(?:NULL|nullptr|0)\s*\))\s*\)\s*;/g;
 // A loop without statements: the group is its condition. And one that counts: the groups are its variable, its first value, its bound, and how it counts.
@@ -120,9 +122,18 @@ function listRanges(matches) {
 }
 
 /** Returns whether code names only what gives random numbers: objects, their methods, functions of C, and constants. */
-function isRandom(code, objects, constants) {
+function isRandom(value, objects, constants, seeds = []) {
+  const code = value.replace(OF_SEED, (whole, seed) => (seeds.includes(seed) ? "rand()" : whole));
   const names = code.replace(/(?<=\w\s*)\.\s*\w+(?=\s*\()/g, "").match(/[A-Za-z_]\w*/g) ?? [];
   return !/(?<![=!<>])=(?!=)|(?<!&)&(?!&)|->|\[/.test(code) && names.every((it) => objects.includes(it) || constants.includes(it) || NUMBERS.test(it));
+}
+
+/** Returns the names of variables that are only numbers for `rand_r`. */
+function listSeeds(code) {
+  const names = [...new Set([...code.matchAll(OF_SEED)].map((it) => it[1]))];
+  const left = code.replace(OF_SEED, " ");
+  const isDeclared = (name) => new RegExp(`\\b(?:unsigned(?:\\s+int)?|int)\\s+(?:\\w+\\s*=\\s*\\w+\\s*,\\s*)*${name}\\s*(?:=\\s*\\w+\\s*)?[,;]`).test(left);
+  return names.filter((name) => left.match(new RegExp(`\\b${name}\\b`, "g"))?.length === 1 && isDeclared(name));
 }
 
 /** Returns whether a condition that names only what gives random numbers may fail: none of the remainders of a division by a constant may all fulfil it. */
@@ -168,11 +179,12 @@ function listObjects(code, classes, harmless, global, isDirected) {
 /** Returns the ranges of the delays of a code, and of the objects that are only in them; and whether there are delays. */
 function listDelays(code, classes, harmless, constants, global, isDirected) {
   let objects = listObjects(code, classes, harmless, global, isDirected);
+  const seeds = listSeeds(code);
   for (;;) {
     const names = objects.map((it) => it.name);
     const isKnown = (name) => objects.some((it) => it.name === name && it.isKnown);
-    const isWaiting = ([, condition]) => /\w\s*\(/.test(condition) && isRandom(condition, names, constants) && canFail(condition);
-    const isCounting = ([, , first, bound, other]) => [first, bound ?? other].every((it) => isRandom(it, names, constants));
+    const isWaiting = ([, condition]) => /\w\s*\(/.test(condition) && isRandom(condition, names, constants, seeds) && canFail(condition);
+    const isCounting = ([, , first, bound, other]) => [first, bound ?? other].every((it) => isRandom(it, names, constants, seeds));
     const found = listRanges([...[...code.matchAll(WAITING)].filter(isWaiting), ...[...code.matchAll(COUNTED)].filter(isCounting)]);
     const loops = found.map((it) => ({ ...it, isStatement: true }));
     const calls = listRanges([...code.matchAll(/(?<=[;{}])\s*(\w+)\s*\.\s*\w+\s*\([\w\s,]*\)\s*;/g)].filter(([, it]) => isKnown(it)));

@@ -33,6 +33,8 @@ const LEAVES = /\b(?:break|continue|goto)\b/;
 const MOST_PASSES = 16;
 /** Why a loop that counts far is refused, as the end of a sentence. */
 export const OF_PASSES = ": count to 2 or 3 here, since a thread of a test has 32 instructions at most";
+// A loop that counts down to 0: the group is its variable.
+const COUNTDOWN = /^while\s*\(\s*(\w+)\s*--\s*(?:(?:>|!=)\s*0\s*)?\)/;
 const DO = /^do\b/;
 // An `else` after a branch. And how much of a code may have the head of a statement up to its parenthesis.
 const ELSE = /^\s*else\b/;
@@ -64,7 +66,7 @@ export function isStoredAlike(before, body) {
 class ThreadReader extends StatementReader {
   /** Returns the loop here, if it counts, or only waits or loads. Throws NoTest at another one, at a `switch`, and at an `else`. */
   readLoop() {
-    return this.readCounted() ?? this.readWaiting() ?? this.readEndless() ?? this.readPass() ?? this.readStoring() ?? super.readLoop();
+    return this.readCounted() ?? this.readCountdown() ?? this.readWaiting() ?? this.readEndless() ?? this.readPass() ?? this.readStoring() ?? super.readLoop();
   }
 
   /**
@@ -101,6 +103,30 @@ class ThreadReader extends StatementReader {
     const replace = (number) => inner.replace(new RegExp(`(?<![\\w.>])${name}\\b`, "g"), String(number).padEnd(name.length));
     const readPass = (number) => ({ code: head, index, block: this.makeReader({ code: replace(number), index: at }, numbers.length).readAll() });
     return { code: head, index, block: numbers.map(readPass) };
+  }
+
+  /**
+   * Returns a block of the passes of the loop here, which counts a variable down to 0 that is declared with a constant before, and of what the variable is
+   * after them; null if it is no such loop, or its body has the variable, too.
+   */
+  readCountdown() {
+    const { rest } = this;
+    const [head, name] = COUNTDOWN.exec(rest) ?? [];
+    const { code, end } = head ? findBody(rest, head.length) : {};
+    const before = this.code.slice(0, this.at);
+    const declared = head && new RegExp(`\\bint\\s+${name}\\s*=\\s*(\\w+)\\s*;([^]*)$`).exec(before);
+    const [, value, between] = declared || [];
+    const count = parseConstant(this.names.get(value) ?? value ?? "");
+    const isNamed = (text) => new RegExp(`\\b${name}\\b`).test(text);
+    const isIn = between === undefined || isNamed(between) || /[{}]/.test(between) || isNamed(code) || LEAVES.test(code) || /\breturn\b/.test(code);
+    if (isIn || count === null || this.depth > DEEPEST) return null;
+    if (count * this.passCount > MOST_PASSES) refusePart(this.takePart(head.length), OF_PASSES);
+    const inner = code.startsWith("{") ? code.slice(1, -1) : code;
+    const { index } = this.takePart(end);
+    const at = index + end - code.length + (inner === code ? 0 : 1);
+    const readPass = () => ({ code: head, index, block: this.makeReader({ code: inner, index: at }, count).readAll() });
+    const last = { code: `${name} = -1`, index };
+    return { code: head, index, block: [...Array.from({ length: count }, readPass), last] };
   }
 
   /** Returns the loop here with its `condition` and what it `assigns` and `calls`; null if it does more than to wait. */

@@ -114,6 +114,16 @@ function writeArray(whole, type, count, name) {
   return `${type} ${name}[${count}]`.padStart(whole.length);
 }
 
+/** Returns code in which words and lengths of arrays of the standard library are as those of arrays, in the same places. */
+function writeArrays(code) {
+  const names = [...code.matchAll(ARRAY)].map(([, , count, name]) => [name, count]);
+  return names.reduce((text, [name, count]) => {
+    const at = new RegExp(`\\b${name}\\s*\\.\\s*at\\s*\\(([^()]*)\\)`, "g");
+    const size = new RegExp(`\\b${name}\\s*\\.\\s*size\\s*\\(\\s*\\)`, "g");
+    return text.replace(at, (whole, index) => `${name}[${index}]`.padEnd(whole.length)).replace(size, (whole) => count.padEnd(whole.length));
+  }, code).replace(ARRAY, writeArray);
+}
+
 /** Reads a program from its begin to its end. `rest` is what is not read yet, in which comments are blank. */
 class ProgramReader {
   /** @param {string} text */
@@ -157,7 +167,8 @@ class ProgramReader {
   readProgram() {
     const asked = this.takeComments();
     if (this.isHerd) this.readHeading();
-    this.rest = blankUncompiled(this.rest).replace(HEADERS, blank).replace(WITHOUT_EFFECT, blank).replace(ARRAY, writeArray).replace(/\bif\s+constexpr\b/g, (it) => "if".padEnd(it.length)).trimStart();
+    const compiled = writeArrays(blankUncompiled(this.rest).replace(HEADERS, blank).replace(WITHOUT_EFFECT, blank));
+    this.rest = compiled.replace(/\bif\s+constexpr\b/g, (it) => "if".padEnd(it.length)).trimStart();
     this.takeMethods();
     while (this.rest && !QUESTION.test(this.rest)) this.readDefinition();
     const question = this.rest ? this.cutPart(this.rest.length) : asked;

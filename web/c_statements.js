@@ -19,10 +19,14 @@ const ELSE = /^else\b/;
 // How statements begin that are refused.
 const LOOP = /^(?:else|while|for|do|switch)\b/;
 const SWITCH = /^switch\b/;
+// A body that only counts a variable.
+const STEP = "(?:(?:\\+\\+|--)\\s*\\w+|\\w+\\s*(?:\\+\\+|--|[+-]=\\s*\\d+))\\s*;";
+const COUNTING = new RegExp(`^\\s*(?:\\{\\s*${STEP}\\s*\\}|${STEP})`);
 const HEAD = /^\w+\s*(?=\()/;
 const DIRECTIVE = /^#[ \t]*(?:if|elif|else|endif)[^\n]*/;
 /** Why a loop is refused, as the end of a sentence. */
 export const OF_LOOPS = ": write out each pass of a loop. `tools/from_c.py` follows loops";
+const OF_COUNTING = ": how often it counts depends on when it ends, so leave out the counting, or write some passes of it";
 const OF_SWITCH = ": write an `if` for each case";
 const OF_ELSE = ": an `else` follows the one statement or block of its `if`";
 /** What prints, in squeezed code: the groups are a call, and a stream. */
@@ -189,7 +193,8 @@ export class StatementReader {
     const head = HEAD.exec(rest)?.[0].length;
     const length = head ? findClosing(rest, head) + 1 : rest.search(/[;{]|$/);
     const [, why] = [[ELSE, OF_ELSE], [SWITCH, OF_SWITCH]].find(([pattern]) => pattern.test(rest)) ?? [LOOP, OF_LOOPS];
-    return refusePart(this.takePart(length), why);
+    const isCounting = why === OF_LOOPS && COUNTING.test(rest.slice(length));
+    return refusePart(this.takePart(length), isCounting ? OF_COUNTING : why);
   }
 }
 

@@ -1311,6 +1311,64 @@ void t2() { int r = Config::get(); assert(r == 7); }
 int main() { std::thread a(t1), b(t2); a.join(); b.join(); }
 `,
     "X86 Mine\n(* 1:EAX is r *)\n{ ready=0; value=0; }\n P0 | P1 ;\n MOV [value],$7 | MOV EBX,[ready] ;\n MOV [ready],$1 | CMP EBX,$0 ;\n | JE L2 ;\n | MOV EAX,[value] ;\n | JMP L1 ;\n | L2: MOV EAX,$7 ;\n | L1: ;\nforall (1:EAX=7)\n"],
+  ["a loop that counts down from a constant", `#include <stdatomic.h>
+#include <pthread.h>
+atomic_int x;
+void *w(void *a) { int n = 3; while (n--) { atomic_fetch_add(&x, 1); } return 0; }
+int main() { pthread_t a, b; pthread_create(&a, NULL, w, NULL); pthread_create(&b, NULL, w, NULL); pthread_join(a, NULL); pthread_join(b, NULL); assert(x == 6); }
+`,
+    "X86 Mine\n(* 0:EAX is n, 1:EAX is n *)\n{ x=0; }\n P0 | P1 ;\n MOV EAX,$3 | MOV EAX,$3 ;\n MOV EBX,$1 | MOV EBX,$1 ;\n LOCK XADD [x],EBX | LOCK XADD [x],EBX ;\n MOV EBX,$1 | MOV EBX,$1 ;\n LOCK XADD [x],EBX | LOCK XADD [x],EBX ;\n MOV EBX,$1 | MOV EBX,$1 ;\n LOCK XADD [x],EBX | LOCK XADD [x],EBX ;\n MOV EAX,$4294967295 | MOV EAX,$4294967295 ;\nforall (x=6)\n"],
+  ["a loop that counts down, and the number after it", `#include <atomic>
+#include <thread>
+std::atomic<int> x; int r;
+void w() { int n = 2; while (n-- > 0) x++; r = n; }
+void v() { x = 4; }
+int main() { std::thread a(w), b(v); a.join(); b.join(); }
+`,
+    "X86 Mine\n(* 0:EAX is n, 0:EBX is r *)\n{ x=0; }\n P0 | P1 ;\n MOV EAX,$2 | MOV EAX,$4 ;\n MOV ECX,$1 | XCHG [x],EAX ;\n LOCK XADD [x],ECX | ;\n MOV ECX,$1 | ;\n LOCK XADD [x],ECX | ;\n MOV EAX,$4294967295 | ;\n MOV EBX,EAX | ;\nlocations [0:EAX; 0:EBX; x]\nexists (true)\n"],
+  ["the kernel's atomic_set_release", `atomic_t x; int data;
+void P0(void) { data = 1; atomic_set_release(&x, 1); }
+void P1(void) { int r0 = atomic_read_acquire(&x); int r1 = data; }
+`,
+    "X86 Mine\n(* 1:EAX is r0, 1:EBX is r1 *)\n{ x=0; data=0; }\n P0 | P1 ;\n MOV [data],$1 | MOV EAX,[x] ;\n MOV [x],$1 | MOV EBX,[data] ;\nexists (~1:EAX=0 /\\ 1:EBX=0)\n"],
+  ["delays by rand_r", `#include <pthread.h>
+#include <stdlib.h>
+int x, y, r1, r2; unsigned seed1 = 1, seed2 = 2;
+void *a(void *arg) { while (rand_r(&seed1) % 8 != 0) ; x = 1; r1 = y; return 0; }
+void *b(void *arg) { while (rand_r(&seed2) % 8 != 0) ; y = 1; r2 = x; return 0; }
+int main() { pthread_t t, u; pthread_create(&t, 0, a, 0); pthread_create(&u, 0, b, 0); pthread_join(t, 0); pthread_join(u, 0); if (r1 == 0 && r2 == 0) printf("reorder\\n"); }
+`,
+    "X86 Mine\n(* 0:EAX is r1, 1:EAX is r2 *)\n{ x=0; y=0; }\n P0 | P1 ;\n MOV [x],$1 | MOV [y],$1 ;\n MOV EAX,[y] | MOV EAX,[x] ;\nexists (0:EAX=0 /\\ 1:EAX=0)\n"],
+  ["at of an array", `#include <atomic>
+#include <array>
+#include <thread>
+std::array<std::atomic<int>, 2> flag;
+int counter;
+void p0() { flag.at(0).store(1); if (flag.at(1).load() == 0) counter++; }
+void p1() { flag[1].store(1); if (flag.at(0).load() == 0) counter++; }
+int main() { std::thread a(p0), b(p1); a.join(); b.join(); }
+`,
+    "X86 Mine\n(* 0:EAX is flag_1 in its condition, 1:EAX is flag_0 in its condition *)\n(* both threads enter their if: 0:EAX=0 /\\ 1:EAX=0 *)\n{ flag_0=0; flag_1=0; counter=0; }\n P0 | P1 ;\n MOV EBX,$1 | MOV EBX,$1 ;\n XCHG [flag_0],EBX | XCHG [flag_1],EBX ;\n MOV EAX,[flag_1] | MOV EAX,[flag_0] ;\n CMP EAX,$0 | CMP EAX,$0 ;\n JNE END | JNE END ;\n MOV EBX,[counter] | MOV EBX,[counter] ;\n ADD EBX,$1 | ADD EBX,$1 ;\n MOV [counter],EBX | MOV [counter],EBX ;\n END: | END: ;\nlocations [counter]\n~exists (0:EAX=0 /\\ 1:EAX=0)\n"],
+  ["Peterson's lock as a class", `#include <atomic>
+#include <thread>
+class Peterson {
+  std::atomic<bool> flag[2];
+  std::atomic<int> turn{0};
+public:
+  void lock(int me) {
+    int other = 1 - me;
+    flag[me].store(true);
+    turn.store(other);
+    while (flag[other].load() && turn.load() == other) ;
+  }
+  void unlock(int me) { flag[me].store(false); }
+};
+Peterson p; int counter;
+void a() { p.lock(0); counter++; p.unlock(0); }
+void b() { p.lock(1); counter++; p.unlock(1); }
+int main() { std::thread x(a), y(b); x.join(); y.join(); }
+`,
+    "X86 Mine\n(* 0:EAX is p_flag_1 after its loop, 0:EBX is p_turn after its loop, 1:EAX is p_flag_0 after its loop, 1:EBX is p_turn after its loop *)\n(* every wait ends: (0:EAX=0 \\/ ~0:EBX=1) /\\ (1:EAX=0 \\/ ~1:EBX=0) *)\n(* an addition to counter is lost: ~counter=2 *)\n{ p_flag_0=0; p_flag_1=0; p_turn=0; counter=0; }\n P0 | P1 ;\n MOV ECX,$1 | MOV ECX,$1 ;\n XCHG [p_flag_0],ECX | XCHG [p_flag_1],ECX ;\n MOV ECX,$1 | MOV ECX,$0 ;\n XCHG [p_turn],ECX | XCHG [p_turn],ECX ;\n MOV EAX,[p_flag_1] | MOV EAX,[p_flag_0] ;\n CMP EAX,$0 | CMP EAX,$0 ;\n JE L2 | JE L2 ;\n MOV EBX,[p_turn] | MOV EBX,[p_turn] ;\n L2: MOV ECX,[counter] | L2: MOV ECX,[counter] ;\n ADD ECX,$1 | ADD ECX,$1 ;\n MOV [counter],ECX | MOV [counter],ECX ;\n MOV ECX,$0 | MOV ECX,$0 ;\n XCHG [p_flag_0],ECX | XCHG [p_flag_1],ECX ;\nlocations [p_turn]\n~exists ((0:EAX=0 \\/ ~0:EBX=1) /\\ (1:EAX=0 \\/ ~1:EBX=0) /\\ ~counter=2)\n"],
 ];
 // A program of rounds, whose loop does `sets` before the threads run.
 const makeRounds = (sets, code) => `#include <semaphore.h>
@@ -2437,6 +2495,37 @@ void t2() { int r = value; }
 int main() { std::thread a(t1), b(t2); a.join(); b.join(); }
 `,
     "`static std::atomic<bool> ready;`: a class has integers, `bool`, mutexes, arrays of these, and functions", "static std::atomic<bool>"],
+  ["a loop that counts till it ends", `#include <atomic>
+#include <thread>
+std::atomic<bool> stop{false};
+int i;
+void w() { while (!stop) ++i; }
+int main() { std::thread a(w); stop = true; a.join(); }
+`,
+    "`while (!stop)`: how often it counts depends on when it ends, so leave out the counting, or write some passes of it", "while (!stop) ++i; }"],
+  ["a loop that counts down from one of two numbers", `#include <atomic>
+#include <thread>
+std::atomic<int> x; int r;
+void w() { unsigned int n = 2; if (x) n = 3; while (n--) x++; }
+int main() { std::thread a(w), b(w); a.join(); b.join(); }
+`,
+    "`while (n--)`: how often it counts depends on when it ends, so leave out the counting, or write some passes of it", "while (n--) x++; }"],
+  ["a number for rand_r that is loaded, too", `#include <pthread.h>
+#include <stdlib.h>
+int x, y, r1, r2; unsigned seed1 = 1;
+void *a(void *arg) { while (rand_r(&seed1) % 8 != 0) ; x = 1; r1 = y; return 0; }
+void *b(void *arg) { y = 1; r2 = x + seed1; return 0; }
+int main() { pthread_t t, u; pthread_create(&t, 0, a, 0); pthread_create(&u, 0, b, 0); pthread_join(t, 0); pthread_join(u, 0); if (r1 == 0 && r2 == 0) printf("reorder\\n"); }
+`,
+    "`while (rand_r(&seed1) % 8 != 0)`: write out each pass of a loop. `tools/from_c.py` follows loops", "while (rand_r(&seed1) % "],
+  ["a loop that counts down a number that is loaded before", `#include <atomic>
+#include <thread>
+std::atomic<int> x; int r;
+void w() { int n = 2; while (n-- > 0) x++; r = n; }
+void v() { int n = 2; x = n; while (n--) { x = 4; } }
+int main() { std::thread a(w), b(v); a.join(); b.join(); }
+`,
+    "`while (n--)`: write out each pass of a loop. `tools/from_c.py` follows loops", "while (n--) { x = 4; } }"],
 ];
 
 /** Returns a test with one blank in place of several, since names have other lengths than those in a form. */
