@@ -233,7 +233,7 @@ export class Beside {
 
   /** Says how the lists of states differ, once both are shown, and marks in each what the other has not. */
   compare() {
-    const reports = this.sides.map(({ states }) => states.report && states.shortReport);
+    const reports = this.sides.map(({ states }) => states.report && states.counted);
     const { why, both, alone = [null, null] } = reports.every(Boolean) ? compareReports(...reports) : {};
     for (const [index, side] of this.sides.entries()) side.states.mark(alone[index]);
     const [first, second] = alone.map((lines) => lines?.length);

@@ -1,6 +1,7 @@
 // Shows a test beside its compiled program, with its fences and without; and below each its list, as it comes, with a film to each state.
 
 import { ask } from "./ask.js";
+import { leaveOutWaiting } from "./condition_words.js";
 import { el, makeButton, makePlainMark, renderSentence } from "./dom.js";
 import { Film } from "./film.js";
 import * as guess from "./guess.js";
@@ -10,6 +11,7 @@ import { askOrSearch, isTooLong, makeSearchOffer } from "./search.js";
 import { Strip } from "./strip.js";
 import { findTints, renderCode } from "./tint.js";
 import { showError, clearFault } from "./errors.js";
+import { ENDED } from "./verdicts.js";
 
 // The largest numbers of rows and threads of a code that is shown large.
 const [MAX_ROWS, MAX_THREADS] = [6, 2];
@@ -114,8 +116,9 @@ export class Compile {
 
 /** Shows the list of a text, which is asked for by itself. */
 class List {
+  /** Makes an empty list of a text, which is made of the one in the editor, `of`. */
   constructor(name, title, text, { editor, watch }) {
-    Object.assign(this, { name, title, text, editor, watch, report: null, isSearched: false });
+    Object.assign(this, { name, title, text, editor, watch, of: editor.text, report: null, isSearched: false });
     this.place = el("div", {});
     const choose = (line) => {
       this.strip.select(line);
@@ -132,7 +135,8 @@ class List {
     const answer = await askOrSearch(this.editor, "states", { text: this.text, search }, how);
     if (!answer) return;
     placeholder.replaceChildren();
-    Object.assign(this, { report: answer.report ?? null, isSearched: answer.isSearched });
+    const report = answer.report ? leaveOutWaiting(this.of, answer.report) : null;
+    Object.assign(this, { report, hasWaiting: report !== (answer.report ?? null), isSearched: answer.isSearched });
     if (!this.report) return this.fail(answer, placeholder, onList);
     this.draw();
     onList();
@@ -147,10 +151,10 @@ class List {
 
   /** Draws the list of states. */
   draw() {
-    const { report, isSearched } = this;
+    const { report, isSearched, hasWaiting } = this;
     this.strip.wide = this.place.closest("[role=tabpanel]");
     const states = report.number === 1 ? "1 state" : `${report.number.toLocaleString("en")} states`;
-    const title = el("h3", {}, `${this.title}: ${states}${isSearched ? ", by a search" : ""}`);
+    const title = el("h3", {}, `${this.title}: ${states}${hasWaiting ? ENDED : ""}${isSearched ? ", by a search" : ""}`);
     this.place.replaceChildren(title, this.strip.place, describeLeftOut(report) ?? "");
     this.strip.show(report, findTints(this.text), null);
   }

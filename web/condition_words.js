@@ -8,6 +8,7 @@ import { formatSite, isTrueIn, listObservedSites, listSites, makeSiteKey } from 
 import { listVariables } from "./register_names.js";
 import { parseReportLine } from "./replays.js";
 import { readTest } from "./tests.js";
+import { parseHeading } from "./tokens.js";
 
 const MAX_ATOMS = 6;
 // The kinds of statements that read a word from memory into a register, and those that put another word into one.
@@ -163,6 +164,33 @@ export function makeEndTest(text) {
   const shown = new Set((test ? listObservedSites(test) : []).map(makeSiteKey));
   const isShown = proposition && listSites(proposition).every((it) => shown.has(makeSiteKey(it)));
   return isShown ? (line) => isTrueIn(proposition, parseOutcome(test, line)) : null;
+}
+
+/**
+ * Returns a function that returns those of some states in which every wait has ended, as the phrase of an x86 test says, given a function that returns a state's
+ * line; all of them if there is no phrase, or a wait has not ended in any of them. What is counted of a test's states is counted in these.
+ * @template State
+ * @param {string} text
+ * @returns {function(State[], function(State): string): State[]}
+ */
+export function makeEndedFilter(text) {
+  const hasEnded = parseHeading(text).language === "X86" ? makeEndTest(text) : null;
+  return (states, lineOf) => {
+    const ended = hasEnded ? states.filter((it) => hasEnded(lineOf(it))) : [];
+    return ended.length ? ended : states;
+  };
+}
+
+/**
+ * Returns a report of a test, or of a program with its code, with only the states in which every wait of the test has ended; all that is counted is counted in
+ * it.
+ * @param {string} text
+ * @param {Report} report
+ * @returns {Report}
+ */
+export function leaveOutWaiting(text, report) {
+  const states = makeEndedFilter(text)(report.states, ({ line }) => line);
+  return states.length === report.states.length ? report : { ...report, states, number: states.length, positive: states.filter((it) => it.holds).length };
 }
 
 /**

@@ -7,7 +7,7 @@
 // second as NoAnswer, or as NoTest if the page's own reader does not read the test; `answerQuestion` catches them.
 
 import { formatCanonicalText, listSourceCells, listX86Cells } from "./canonical.js";
-import { makeEndTest, parseQuestion } from "./condition_words.js";
+import { makeEndedFilter, parseQuestion } from "./condition_words.js";
 import { describeEvent, describeRefusal } from "./effects.js";
 import { findEnoughTogether, makeExchangeTable } from "./exchanges.js";
 import { makeExecution } from "./executions.js";
@@ -216,12 +216,10 @@ function answerFences(program, text, { everything, search = false }, onProgress)
  */
 function makeEndedList(text) {
   const decoded = decodeText(text);
-  const hasEnded = parseLanguage(text) === "X86" ? makeEndTest(decoded) : null;
-  if (!hasEnded) return (list) => list;
-  const { isAsked, isRequired } = parseQuestion(decoded);
+  const [leaveOut, { isAsked, isRequired }] = [makeEndedFilter(decoded), parseQuestion(decoded)];
   return (list) => {
-    const lines = list?.lines.filter(hasEnded) ?? [];
-    return lines.length ? { lines, positive: lines.filter((it) => isAsked(it) !== isRequired).length } : list;
+    const lines = leaveOut(list?.lines ?? [], (it) => it);
+    return lines.length === list?.lines.length ? list : list && { lines, positive: lines.filter((it) => isAsked(it) !== isRequired).length };
   };
 }
 

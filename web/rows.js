@@ -65,7 +65,14 @@ export class Rows {
     const hasChoice = report.is_marked && report.positive && report.positive < report.number;
     const only = hasChoice ? el("label", {}, box, ` only the ${formatNumber(report.positive)} where the condition holds`) : null;
     const file = makeButton("Save the list as a file", () => saveReport(report), { class: "save-list" });
-    return el("div", { class: "rows-tools" }, el("span", { class: "small" }, `${formatNumber(report.number)} states`), this.never, only, file);
+    return el("div", { class: "rows-tools" }, el("span", { class: "small" }, this.countStates(formatNumber)), this.never, only, file);
+  }
+
+  /** Returns how many states are counted, and how many more the list has. */
+  countStates(formatNumber) {
+    const { states, number } = this.report;
+    const more = states.length - number;
+    return `${formatNumber(number)} states${more > 0 ? `, and ${formatNumber(more)} more` : ""}`;
   }
 
   /** Returns the button of a state that the condition asks about and that no run ends in, with its words in the order of the columns. */

@@ -2,7 +2,7 @@
 // is refused by count can be made by a search instead.
 
 import { ask } from "./ask.js";
-import { describeCondition, makeEndTest, parseQuestion } from "./condition_words.js";
+import { describeCondition, leaveOutWaiting, makeEndTest, parseQuestion } from "./condition_words.js";
 import { makeStateKey } from "./differences.js";
 import { el, makeButton, makePlainMark, renderSentence } from "./dom.js";
 import * as guess from "./guess.js";
@@ -17,7 +17,7 @@ import { SeenHere } from "./seen_here.js";
 import { Strip } from "./strip.js";
 import { findTints, renderCode, renderTestName, renderTintedSentence } from "./tint.js";
 import { showError, clearFault } from "./errors.js";
-import { describeBuffered, describeCount, describeInterleaved, describeVerdict, isUnasked } from "./verdicts.js";
+import { ENDED, describeBuffered, describeCount, describeInterleaved, describeVerdict, isUnasked } from "./verdicts.js";
 
 // How many milliseconds it may take to find which states interleaving gives.
 const MAX_MILLISECONDS = 10000;
@@ -34,7 +34,6 @@ const BY = {
 const NO_QUESTION = ["can", "No question.", "The list has all states in which a run ends. Ask what must not happen, as `~exists (x=1)`."];
 const SIGNS_IN_WORDS = "/\\ and, \\/ or, ~ not";
 const SIGNS = { can: "○", yes: "✓", cannot: "⊘", wrong: "!" };
-const ENDED = " in which every wait ends";
 const STUCK = "In none of these states every wait has ended: no run of the program comes to its end.";
 const VEILED = "The answer comes when a run of yours decides it or you have found all states";
 /** Returns, as children for `el`, why states are not marked. */
@@ -67,9 +66,9 @@ export class States {
     const { why = null, runPanel = panel, graphPlace = null, firstStep = "telling", next = null, ...others } = more;
     const { onVeil = () => null, ownOf = () => null, noteOf = () => "", onWatch = null, onUnlisted = () => null, ...called } = others;
     Object.assign(this, { editor, onReveal, onVeil, ownOf, noteOf, firstStep, why, onWatch, onUnlisted });
-    // `found` has the keys of the states that are found by hand, `answered` the text of which the verdict was shown, and `hidden` the states of the
-    // report that the list leaves out, since a wait has not ended in them.
-    Object.assign(this, { report: null, isByHand: false, isSearched: false, isVeiled: false, found: new Set(), answered: null, hidden: new Set() });
+    // `found` has the keys of the states that are found by hand, `answered` the text of which the verdict was shown, `counted` is the report without the states
+    // in which a wait has not ended, and `isWhole` says whether the list has these, too.
+    Object.assign(this, { report: null, isByHand: false, isSearched: false, isVeiled: false, found: new Set(), answered: null, counted: null, isWhole: false });
     this.verdict = el("div", { role: "status", tabindex: "-1", class: "verdicts" });
     this.list = el("div", { class: "list-place" });
     this.strip = new Strip(editor, { choose: (line) => this.choose(line), why });
@@ -156,7 +155,7 @@ export class States {
     if (this.foundIn !== this.editor.text) Object.assign(this, { foundIn: this.editor.text, found: new Set() });
     Object.assign(this, { report, language, words, isVeiled: this.isKeptBack(this.isByHand || link?.view === "hand") });
     this.missing = findMissingState(report, parseQuestion(this.editor.text));
-    this.hidden = this.findHidden();
+    Object.assign(this, { counted: leaveOutWaiting(this.editor.text, report), isWhole: false });
     this.strip.buffered = new Set();
     this.showVerdict();
     this.showNotes();
@@ -179,49 +178,42 @@ export class States {
     this.list.replaceChildren(describeLeftOut(report) ?? "", unmarked, this.makeHiddenNote());
   }
 
-  /** Returns the states in which a wait has not ended, as the phrase of the test says; none if that is so in all states (`isStuck`). */
-  findHidden() {
-    const hasEnded = makeEndTest(this.editor.text);
-    const hidden = this.report.states.filter(({ line }) => hasEnded && !hasEnded(line));
-    this.isStuck = hidden.length > 0 && hidden.length === this.report.number;
-    return new Set(this.isStuck ? [] : hidden);
+  /** Returns whether there are states in which a wait has not ended, and others. */
+  get hasWaiting() {
+    return this.counted !== this.report;
   }
 
-  /** Returns a sentence on the states that the list hides, with a button that shows them; "" if there are none, unless no wait ends in any state. */
+  /** Returns a sentence on the states in which a wait has not ended, with a button that shows or hides them; "" if there are none, or none are others. */
   makeHiddenNote() {
-    const { size } = this.hidden;
+    const { report, counted, isWhole } = this;
     if (this.isByHand) return "";
-    if (!size) return this.isStuck ? el("p", { class: "small hidden-states" }, STUCK) : "";
-    const isSingle = size === 1;
-    const words = `${isSingle ? "1 state" : `${size} states`} more, in which a wait has not ended, ${isSingle ? "is" : "are"} hidden. `;
-    const show = makeButton(isSingle ? "Show it" : "Show them", () => this.showHidden(), { class: "link" });
-    return el("p", { class: "small hidden-states" }, words, show);
+    const makeNote = (...words) => el("p", { class: "small hidden-states" }, words);
+    const hasEnded = this.hasWaiting ? null : makeEndTest(this.editor.text);
+    if (hasEnded && report.states.length && !report.states.some(({ line }) => hasEnded(line))) return makeNote(STUCK);
+    if (!this.hasWaiting) return "";
+    const number = report.number - counted.number;
+    const [states, are, them] = number === 1 ? ["1 state", "is", "it"] : [`${number} states`, "are", "them"];
+    const toggle = makeButton(`${isWhole ? "Hide" : "Show"} ${them}`, () => this.showWaiting(!isWhole), { class: "link" });
+    return makeNote(`${states} more, in which a wait has not ended, ${are} ${isWhole ? "shown, too, and not counted" : "hidden"}. `, toggle);
   }
 
-  /** Shows all states of the report. */
-  showHidden() {
-    this.hidden = new Set();
-    this.showAnswer();
+  /** Lists the states in which a wait has not ended, too, or no longer. */
+  showWaiting(isWhole) {
+    this.isWhole = isWhole;
     this.showNotes();
     this.showList();
-    if (!this.editor.isAlone) this.onReveal();
   }
 
-  /** Shows all states if the list hides the one of a line. */
+  /** Lists all states if the list hides the one of a line. */
   uncover(line) {
-    if ([...this.hidden].some((it) => it.line === line)) this.showHidden();
+    if (!this.listed.some((it) => it.line === line)) this.showWaiting(true);
   }
 
-  /** Returns the states of the report that the list does not hide. */
+  /** Returns the states that are listed: those that are counted; also all others if the reader wants to see them, or those of them that are found by hand. */
   get listed() {
-    return this.report.states.filter((it) => !this.hidden.has(it));
-  }
-
-  /** Returns the report with only these states; all that is counted is counted in it. */
-  get shortReport() {
-    if (!this.hidden.size) return this.report;
-    const states = this.listed;
-    return { ...this.report, states, number: states.length, positive: states.filter((it) => it.holds).length };
+    const { report, counted, found } = this;
+    if (this.isByHand) return report.states.filter((it) => counted.states.includes(it) || found.has(makeStateKey(it.line)));
+    return this.isWhole ? report.states : counted.states;
   }
 
   /** Returns whether the verdict is kept back from a reader who looks for the states: one who was shown it on this text knows it. */
@@ -266,7 +258,7 @@ export class States {
     const { report, found, isByHand, isVeiled } = this;
     const known = report.states.filter(({ line }) => isVeiled && found.has(makeStateKey(line))).map((it, index) => ({ ...it, index }));
     this.strip.hide(isByHand ? found : null);
-    const shown = isVeiled ? { ...report, states: known, number: known.length, positive: 0 } : isByHand ? report : this.shortReport;
+    const shown = isVeiled ? { ...report, states: known, number: known.length, positive: 0 } : { ...this.counted, states: this.listed };
     this.strip.show(shown, findTints(this.editor.text), this.missing);
   }
 
@@ -294,7 +286,7 @@ export class States {
       el("p", { class: "verdict" }, el("span", { class: "sign", "aria-hidden": "true" }, SIGNS[kind]),
         el("span", {}, el("strong", {}, word), " ", el("span", { class: "in-words", title: words.bounds }, renderTintedSentence(sentence, tints)))),
       el("p", { class: "asked" }, renderTestName(text), el("code", { title: SIGNS_IN_WORDS }, renderCode(report.condition, tints, null)),
-        el("span", { class: "count-words" }, ` ${describeCount(this.shortReport, this.hidden.size ? ENDED : "")}`), " ",
+        el("span", { class: "count-words" }, ` ${describeCount(this.counted, this.hasWaiting ? ENDED : "")}`), " ",
         el("span", { class: "by", title: way }, el("span", { class: "long-by" }, "The list is "), `${by}.`),
         report.is_proved ? "" : [" ", el("span", { class: "by" }, "Its ticks are ", makePlainMark(), ".")], " ", note === "" ? counted : ""),
       noted && el("div", { class: "noted" }, noted, makeMoreButton(noted)),
@@ -309,9 +301,9 @@ export class States {
     const all = report.left_out ? null : (answer.interleaved ?? null);
     const others = all && report.states.filter(({ line }) => !all.includes(line)).map(({ line }) => line);
     this.strip.markBuffered(others ?? []);
-    const listed = this.shortReport;
-    const interleaved = all && this.hidden.size ? all.filter((line) => listed.states.some((it) => it.line === line)) : all;
-    const words = describe(listed, interleaved);
+    const { counted } = this;
+    const interleaved = all && this.hasWaiting ? all.filter((line) => counted.states.some((it) => it.line === line)) : all;
+    const words = describe(counted, interleaved);
     place.replaceChildren(el("span", { class: "state-words", title: words.replaceAll("`", "") }, renderSentence(words)), " ", makePlainMark("this note"));
     markCut(place.closest(".note"));
     this.run.onDraw();
@@ -330,7 +322,7 @@ export class States {
 
   /** Returns the state whose run shows what the verdict says, or else that which comes closest, or the first; undefined if there is none. */
   get telling() {
-    const states = this.listed;
+    const { states } = this.counted;
     return states.find((it) => it.index === this.words.telling) ?? findClosest(states, this.missing) ?? states[0];
   }
 
@@ -342,7 +334,7 @@ export class States {
     const { report, missing } = this;
     const byTurns = isByTurns ? "This run is an interleaving: each store goes to memory at once." : null;
     if (report?.positive !== 0 || report.asked === "Required") return { words: byTurns, explain: null };
-    const isClosest = missing !== null && countDifferences(line, missing) === countDifferences(findClosest(this.listed, missing).line, missing);
+    const isClosest = missing !== null && countDifferences(line, missing) === countDifferences(findClosest(this.counted.states, missing).line, missing);
     const shown = isClosest ? "comes closest" : isOwn ? "is the test's example" : "ends in the first state";
     return { words: `No run ends as asked: this one ${shown}.`, explain: missing !== null && this.why ? () => this.why(missing) : null };
   }
@@ -395,7 +387,7 @@ export class States {
   beginByHand(link = {}) {
     this.isByHand = true;
     if (!this.report) return null;
-    if (this.found.size < this.report.number && this.isKeptBack(true)) this.veil();
+    if (this.countFound() < this.counted.number && this.isKeptBack(true)) this.veil();
     this.showList();
     this.strip.select(null);
     this.showFound();
@@ -427,10 +419,10 @@ export class States {
     if (!state) return this.showOther(line, program);
     const isNew = !this.found.has(key);
     this.found.add(key);
-    this.uncover(state.line);
+    if (!this.isByHand) this.uncover(state.line);
     this.strip.select(state.line);
     if (!this.isByHand) return;
-    this.showFound(isNew, isNew && this.decides(state));
+    this.showFound(isNew, isNew && this.decides(state), !this.counted.states.includes(state));
     this.showList();
   }
 
@@ -469,15 +461,25 @@ export class States {
     this.list.replaceChildren(el("p", { class: "found" }, el("b", {}, "Not in the list: "), el("code", {}, line), why));
   }
 
-  /** Shows the number of states that are found by hand; and the verdict after all of them, or after a run that `decides` it. */
-  showFound(isNew = false, decides = false) {
-    const { number } = this.report;
-    const isAll = this.found.size === number;
+  /** Returns how many of the states that are counted are found by hand. */
+  countFound() {
+    return this.counted.states.filter(({ line }) => this.found.has(makeStateKey(line))).length;
+  }
+
+  /**
+   * Shows the number of states that are found by hand; and the verdict after all of them, or after a run that `decides` it. If the last one `isWaiting`, a wait
+   * has not ended in it.
+   */
+  showFound(isNew = false, decides = false, isWaiting = false) {
+    const { number } = this.counted;
+    const count = this.countFound();
+    const isAll = count === number;
     if (isAll || decides) this.unveil();
     const decided = decides ? " This run decides the question." : "";
     const more = isAll ? " These are all: no run ends otherwise." : isNew ? " Start again with |◀ and look for another." : "";
-    const counted = this.isVeiled ? `States found so far: ${this.found.size}.` : `Found ${this.found.size} of ${number} state${number === 1 ? "" : "s"}.`;
-    const words = el("b", {}, counted);
+    const which = this.hasWaiting ? ENDED : "";
+    const counted = this.isVeiled ? `States${which} found so far: ${count}.` : `Found ${count} of ${number} state${number === 1 ? "" : "s"}${which}.`;
+    const words = [el("b", {}, counted), isWaiting ? " This run's is none of them." : ""];
     this.list.replaceChildren(el("p", { class: `found${isNew ? " new" : ""}`, role: "status" }, words, decided, more));
   }
 }

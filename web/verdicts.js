@@ -58,6 +58,9 @@ export function describeVerdict(language, { asked, verdict, positive }, conditio
   return isOk ? ["can", "Allowed.", some] : ["cannot", "Forbidden.", none];
 }
 
+// Which states a number counts if those in which a wait has not ended are left out.
+export const ENDED = " in which every wait ends";
+
 /**
  * Returns a sentence that says in how many states the condition holds. `which` says which final states the report has, if it has not all.
  * @param {Report} report

@@ -269,7 +269,8 @@ class Verdicts(PageCase):
         self.assertSays("Interleaving gives the only state, too", "#outcome .note")
         self.assertEqual(["2 states more, in which a wait has not ended, are hidden. Show them"], user.texts("#outcome .hidden-states"))
         user.click("#outcome .hidden-states button")
-        self.assertSays("The condition holds in none of 3 final states.", "#outcome .asked")
+        self.assertSoon(["2 states more, in which a wait has not ended, are shown, too, and not counted. Hide them"], lambda: user.texts("#outcome .hidden-states"))
+        self.assertSays("The condition does not hold in the only final state in which every wait ends.", "#outcome .asked")
 
     def test_as_printed(self) -> None:
         """The list as lw prints it is unfolded, and saved as a file."""

@@ -13,6 +13,28 @@ LOCK = (
 )
 # Two threads that wait for each other before they set what the other waits for.
 STUCK = LOCK.replace("int> l;", "int> l, m;").replace("void work() { while (l.exchange(1)) {} n++; l.store(0); }", "void work() { while (!l) {} m = 1; }")
+# A lock of two threads: who comes later waits while the other wants it, too.
+PETERSON = """
+#include <atomic>
+std::atomic<int> flag[2], turn;
+int counter;
+void first() {
+  flag[0].store(1, std::memory_order_relaxed);
+  turn.store(1, std::memory_order_relaxed);
+  while (flag[1].load(std::memory_order_relaxed) && turn.load(std::memory_order_relaxed) == 1);
+  counter++;
+  flag[0].store(0, std::memory_order_relaxed);
+}
+void second() {
+  flag[1].store(1, std::memory_order_relaxed);
+  turn.store(0, std::memory_order_relaxed);
+  while (flag[0].load(std::memory_order_relaxed) && turn.load(std::memory_order_relaxed) == 0);
+  counter++;
+  flag[1].store(0, std::memory_order_relaxed);
+}
+"""
+# A run of the lock's test in which the second wait has not ended.
+WAITING = "P0 P0 P0 P0 P0 D0 P1 P1 P1 P1 P1 D1 P0 P0 P1 P1"
 HIDDEN = "#outcome .hidden-states"
 CODE = "#made-from"
 
@@ -33,10 +55,13 @@ class Waits(PageCase):
         self.assertEqual("1", user.text("table.strip .chosen .watch"))
         user.click(f"{HIDDEN} .link")
         self.assertSoon(["1", "2", "3", "4", "5", "never"], heads)
-        self.assertEqual([], user.all(HIDDEN))
+        self.assertSoon("4 states more, in which a wait has not ended, are shown, too, and not counted. Hide them", lambda: user.text(HIDDEN))
+        self.assertSays("The condition does not hold in the only final state in which every wait ends.", "#outcome .count-words")
+        user.click(f"{HIDDEN} .link")
+        self.assertSoon(["1", "never"], heads)
 
     def test_reached(self) -> None:
-        """A link to a hidden state shows all; a reader who looks for the states by hand may find each of them."""
+        """A link to a hidden state shows all; a reader who looks for the states by hand may find it, and it is not counted."""
         user = self.user
         user.open_listed()
         user.run_text(LOCK)
@@ -46,12 +71,16 @@ class Waits(PageCase):
         state = "0:EAX=0; 1:EAX=1; l=0; n=2;"
         user.open_listed(f"{link}&state={quote(state)}")
         self.assertSoon("3", lambda: user.text("table.strip .chosen .watch"))
-        self.assertEqual([], user.all(HIDDEN))
+        self.assertSays("are shown, too, and not counted. Hide them", HIDDEN)
         user.open_listed(link)
         user.find(HIDDEN)
         user.click("#tab-hand")
-        self.assertSoon("5", lambda: str(len(user.all("table.strip thead .watch"))))
+        self.assertSoon(["1"], lambda: user.texts("table.strip thead .watch"))
+        self.assertSays("Found 0 of 1 state in which every wait ends.", "#outcome .found")
         self.assertEqual([], user.all(HIDDEN))
+        user.open_listed(f"{link}&view=hand&schedule={quote(WAITING)}")
+        self.assertSays("Found 0 of 1 state in which every wait ends. This run's is none of them.", "#outcome .found")
+        self.assertSoon(["1", "3"], lambda: user.texts("table.strip thead .watch"))
         user.click("#tab-states")
         self.assertSoon(["1", "never"], lambda: user.texts("table.strip thead .watch"))
 
@@ -66,6 +95,21 @@ class Waits(PageCase):
         self.assertSays("States in which a wait has not ended are left out here.", "#fences")
         self.assertSays("The fewest locks that are enough for the same state:", "#fences .together")
         self.assertSoon(["P0, XCHG [l],EAX; P1, XCHG [l],EAX. Try it"], lambda: user.texts("#fences .fence-sets li"))
+
+    def test_count(self) -> None:
+        """The same states are counted beside each tab, whatever tab was open before; in *Fences*, and in *Compile*."""
+        user = self.user
+        user.open_listed()
+        user.run_text(PETERSON)
+        user.click(f"{OFFER} .apply")
+        user.find(HIDDEN)
+        for tab in ("states", "hand", "fences", "compile", "hand", "why", "states", "fences"):
+            user.click(f"#tab-{tab}")
+            self.assertSoon(["8 states"], lambda: user.texts("#outcome .rows-tools > .small"))
+            self.assertSays("The condition holds in 4 of 8 final states in which every wait ends.", "#outcome .count-words")
+        self.assertSays("the condition holds in 4 of 8 states.", "#fences .verdict")
+        user.click("#tab-compile")
+        self.assertSays("As it is: 8 states in which every wait ends", "#compile h3")
 
     def test_stuck(self) -> None:
         """If no state has every wait ended, all are listed, and the page says what that means."""
