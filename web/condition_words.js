@@ -16,8 +16,8 @@ const READS = ["load", "xchg", "xadd", "swap", "fetchadd"];
 const SETS = ["set", "add", "sum"];
 
 /**
- * Reads a text as a test, with the `variables` that its registers have in the program from which it was made. Returns null if the page's own reader does not
- * read it.
+ * Reads a text as a test, with the `variables` that its registers have in the program from which it was made. Returns null if the page's own reader
+ * does not read it.
  * @param {string} text
  * @returns {(Test & {variables: Map<string, string>}) | null}
  */
@@ -58,15 +58,17 @@ function findRead(test, { thread, register }) {
   return writes.length === 1 && READS.includes(writes[0].kind) ? writes[0] : null;
 }
 
-/** Returns the name that a register has in the program from which a test was made, unless a location has it, too; and otherwise the register's own. */
+/**
+ * Returns the name that a register has in the program from which a test was made, unless a location has it, too; and otherwise the register's own.
+ */
 function findName(test, site) {
   const [name, variable] = [formatSite(test, site), test.variables.get(formatSite(test, site))];
   return variable === undefined || test.locations.includes(variable) ? name.slice(2) : variable;
 }
 
 /**
- * Returns what one thread does, in words: its reads in the order of its code, and the words that it ends with. A register that several of its atoms name is no
- * read, since it has one word only.
+ * Returns what one thread does, in words: its reads in the order of its code, and the words that it ends with. A register that several of its atoms
+ * name is no read, since it has one word only.
  * @param {Test} test
  * @param {Atom[]} atoms
  * @returns {string}
@@ -134,9 +136,9 @@ function joinWords(words) {
 }
 
 /**
- * Returns the condition in `words`, in which code is between backquotes, with the words of the test's phrases in place of their propositions; and of a
- * condition that all runs are to have, in which every wait ends, this phrase as the `premise`, or else "", and what is so `otherwise`, or "". Null if it is not
- * put into words.
+ * Returns the condition in `words`, in which code is between backquotes, with the words of the test's phrases in place of their propositions; and of
+ * a condition that all runs are to have, in which every wait ends, this phrase as the `premise`, or else "", and what is so `otherwise`, or "". Null
+ * if it is not put into words.
  * @param {string} text
  * @returns {{words: string, premise: string, otherwise: string} | null}
  */
@@ -167,8 +169,9 @@ export function makeEndTest(text) {
 }
 
 /**
- * Returns a function that returns those of some states in which every wait has ended, as the phrase of an x86 test says, given a function that returns a state's
- * line; all of them if there is no phrase, or a wait has not ended in any of them. What is counted of a test's states is counted in these.
+ * Returns a function that returns those of some states in which every wait has ended, as the phrase of an x86 test says, given a function that
+ * returns a state's line; all of them if there is no phrase, or a wait has not ended in any of them. What is counted of a test's states is counted in
+ * these.
  * @template State
  * @param {string} text
  * @returns {function(State[], function(State): string): State[]}
@@ -182,8 +185,8 @@ export function makeEndedFilter(text) {
 }
 
 /**
- * Returns a report of a test, or of a program with its code, with only the states in which every wait of the test has ended; all that is counted is counted in
- * it.
+ * Returns a report of a test, or of a program with its code, with only the states in which every wait of the test has ended; all that is counted is
+ * counted in it.
  * @param {string} text
  * @param {Report} report
  * @returns {Report}
@@ -194,8 +197,9 @@ export function leaveOutWaiting(text, report) {
 }
 
 /**
- * Returns what a test's question is about: `isAsked` says of a state's line whether the condition asks about it, and `words` has, by the names of
- * sites, the words that it names there. The condition `isRequired` of all states, or not. In a text that is not read, the question is about all states.
+ * Returns what a test's question is about: `isAsked` says of a state's line whether the condition asks about it, and every wait has ended in it; and
+ * `words` has, by the names of sites, the words that it names there. The condition `isRequired` of all states, or not. In a text that is not read,
+ * the question is about all states.
  * @param {string} text
  * @returns {{isAsked: function(string): boolean, words: Map<string, number[]>, isRequired: boolean}}
  */
@@ -203,13 +207,14 @@ export function parseQuestion(text) {
   const test = readTestOrNull(text);
   if (!test) return { isAsked: () => true, words: new Map(), isRequired: false };
   const isRequired = test.quantifier === "forall";
-  const words = new Map();
+  const [words, hasEnded] = [new Map(), makeEndTest(text)];
   const collect = ({ kind, parts, site, word }) => {
     if (kind === "Eq") words.set(formatSite(test, site), [...(words.get(formatSite(test, site)) ?? []), word]);
     parts.forEach(collect);
   };
   collect(test.proposition);
-  return { isAsked: (line) => isTrueIn(test.proposition, parseOutcome(test, line)) !== isRequired, words, isRequired };
+  const isAsked = (line) => isTrueIn(test.proposition, parseOutcome(test, line)) !== isRequired && (!hasEnded || hasEnded(line));
+  return { isAsked, words, isRequired };
 }
 
 /**

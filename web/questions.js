@@ -3,11 +3,11 @@
 // in which state a run by hand has ended, the rows of statements, texts without fences, and the schedule of a source run.
 //
 // An answer has `fault` if lw refuses the text, the schedule or the list, and `error` if there is no answer at all; `isBeyond` says that
-// the program itself may have one, and `refused` is the event of a schedule that is refused. Within this module the first is thrown as Refused, and the
-// second as NoAnswer, or as NoTest if the page's own reader does not read the test; `answerQuestion` catches them.
+// the program itself may have one, and `refused` is the event of a schedule that is refused. Within this module the first is thrown as Refused, and
+// the second as NoAnswer, or as NoTest if the page's own reader does not read the test; `answerQuestion` catches them.
 
 import { formatCanonicalText, listSourceCells, listX86Cells } from "./canonical.js";
-import { makeEndedFilter, parseQuestion } from "./condition_words.js";
+import { makeEndTest, makeEndedFilter, parseQuestion } from "./condition_words.js";
 import { describeEvent, describeRefusal } from "./effects.js";
 import { findEnoughTogether, makeExchangeTable } from "./exchanges.js";
 import { makeExecution } from "./executions.js";
@@ -65,8 +65,8 @@ function makeOwnFilmOrNull(program, text, schedule, how) {
 }
 
 /**
- * Returns the film of a schedule that a test has of its own, of a source test also that of the compiled program, which follows it; null if the schedule is
- * no run to the end.
+ * Returns the film of a schedule that a test has of its own, of a source test also that of the compiled program, which follows it; null if the
+ * schedule is no run to the end.
  */
 function makeOwnFilm(program, text, own, { protocol }) {
   const isSource = parseLanguage(text) === "SRC";
@@ -81,8 +81,8 @@ function makeOwnFilm(program, text, own, { protocol }) {
 }
 
 /**
- * Returns the film to a state; of a source test that of its compiled program, and that of the source run. With `isByTurns` it is a run of an x86 test by
- * interleaving, if one ends in the state. Throws NoAnswer if no run does, or the film does not.
+ * Returns the film to a state; of a source test that of its compiled program, and that of the source run. With `isByTurns` it is a run of an x86 test
+ * by interleaving, if one ends in the state. Throws NoAnswer if no run does, or the film does not.
  */
 function makeListedFilm(program, text, { state, protocol, search = false, isByTurns = false }, onProgress) {
   const turns = isByTurns ? makeFilmByTurnsOrNull(program, text, { state, protocol, search, onProgress }) : null;
@@ -210,7 +210,8 @@ function answerFences(program, text, { everything, search = false }, onProgress)
 }
 
 /**
- * Returns a function that leaves out of a list of states, or null, those in which a wait has not ended, as a phrase of the text says; unless that would be all.
+ * Returns a function that leaves out of a list of states, or null, those in which a wait has not ended, as a phrase of the text says; unless that
+ * would be all.
  * @param {Uint8Array} text
  * @returns {function(({lines: string[], positive: number} | null)): ({lines: string[], positive: number} | null)}
  */
@@ -224,8 +225,8 @@ function makeEndedList(text) {
 }
 
 /**
- * Returns a function that lists the states of a text, as listOrNull does, in which every wait has ended. It throws NoAnswer if more lists are made than a limit
- * has, or later than that.
+ * Returns a function that lists the states of a text, as listOrNull does, in which every wait has ended. It throws NoAnswer if more lists are made
+ * than a limit has, or later than that.
  */
 function makeLister(program, of, { search = false, limit = { lists: Infinity, milliseconds: Infinity } }, onProgress) {
   const leaveOut = makeEndedList(of);
@@ -251,8 +252,8 @@ function answerEnoughTogether(program, text, fields, onProgress) {
 }
 
 /**
- * Returns where further fences would leave no unwanted state of an x86 test; for a source test, whose compiler adds them, nothing. Throws NoAnswer if the
- * answer needs more lists or milliseconds than the `limit`.
+ * Returns where further fences would leave no unwanted state of an x86 test; for a source test, whose compiler adds them, nothing. Throws NoAnswer if
+ * the answer needs more lists or milliseconds than the `limit`.
  */
 function answerMoreFences(program, text, fields, onProgress) {
   if (parseLanguage(text) === "SRC") return { fenced: null };
@@ -276,8 +277,8 @@ function answerPicture(program, text, { schedule, protocol, strip }) {
 }
 
 /**
- * Returns the execution of a run to its end, of a source test one of its compiled program, as a picture and in words. Throws NoAnswer if the schedule is no
- * run to the end.
+ * Returns the execution of a run to its end, of a source test one of its compiled program, as a picture and in words. Throws NoAnswer if the schedule
+ * is no run to the end.
  */
 function answerGraph(program, text, { schedule }) {
   const canonical = program.ask(["compile"], text);
@@ -305,12 +306,15 @@ function answerWhyNot(program, text, { state }) {
   }
 }
 
-/** Returns a state that the condition asks about, that a list lacks, and that some candidate execution has, in the names of the test; null if none is found. */
+/**
+ * Returns a state that the condition asks about, that a list lacks, and that some candidate execution has, in the names of the test, or null if none
+ * is found; and whether a cycle of several locations forbids it.
+ */
 function answerCandidate(program, text, { listed }) {
   const isX86 = parseLanguage(text) === "X86";
   const lines = isX86 ? listed : listed.map((it) => renameRegisters(it, REGISTERS.SRC, REGISTERS.X86));
-  const state = findCandidateState(readTest(program.ask(["compile"], text)), lines);
-  return { state: isX86 || state === null ? state : renameToSource(state) };
+  const { state, isOfSeveral } = findCandidateState(readTest(program.ask(["compile"], text)), lines, isX86 ? makeEndTest(decodeText(text)) : null);
+  return { state: isX86 || state === null ? state : renameToSource(state), isOfSeveral };
 }
 
 /** Returns words on a compiled program, in which registers have the names of its source. */

@@ -58,9 +58,9 @@ export class States {
    * `why` is called with a missing state, `onWatch` with one whose run the reader wants to see, `onDraw` when another run is shown, `onStep` when
    * it is at another step, `onFence` if a fence is put into the test or taken out, and `onVeil` with whether the verdict is kept back. Runs are
    * shown in `runPanel`, and their graph in `graphPlace`. `firstStep` is the step at which the first run is shown: "telling", or a number. `ownOf`
-   * returns the schedule that a text has of its own, or null, and `noteOf` a note on a text, given whether its outcome is allowed, or "", or null if it
-   * is to be found out which states interleaving gives. `onUnlisted` is called with the state of a link that the list does not have. `next` is shown below
-   * the run.
+   * returns the schedule that a text has of its own, or null, and `noteOf` a note on a text, given whether its outcome is allowed, or "", or null if
+   * it is to be found out which states interleaving gives. `onUnlisted` is called with the state of a link that the list does not have. `next` is
+   * shown below the run.
    */
   constructor(panel, editor, onReveal = () => null, more = {}) {
     const { why = null, runPanel = panel, graphPlace = null, firstStep = "telling", next = null, ...others } = more;
@@ -183,7 +183,9 @@ export class States {
     return this.counted !== this.report;
   }
 
-  /** Returns a sentence on the states in which a wait has not ended, with a button that shows or hides them; "" if there are none, or none are others. */
+  /**
+   * Returns a sentence on the states in which a wait has not ended, with a button that shows or hides them; "" if there are none, or none are others.
+   */
   makeHiddenNote() {
     const { report, counted, isWhole } = this;
     if (this.isByHand) return "";
@@ -209,7 +211,10 @@ export class States {
     if (!this.listed.some((it) => it.line === line)) this.showWaiting(true);
   }
 
-  /** Returns the states that are listed: those that are counted; also all others if the reader wants to see them, or those of them that are found by hand. */
+  /**
+   * Returns the states that are listed: those that are counted; also all others if the reader wants to see them, or those of them that are found by
+   * hand.
+   */
   get listed() {
     const { report, counted, found } = this;
     if (this.isByHand) return report.states.filter((it) => counted.states.includes(it) || found.has(makeStateKey(it.line)));
@@ -253,7 +258,10 @@ export class States {
     if (this.isByHand) this.showFound();
   }
 
-  /** Shows the list; by hand only the words of the states that are found, and while the verdict is kept back no others: their number says a part of it. */
+  /**
+   * Shows the list; by hand only the words of the states that are found, and while the verdict is kept back no others: their number says a part of
+   * it.
+   */
   showList() {
     const { report, found, isByHand, isVeiled } = this;
     const known = report.states.filter(({ line }) => isVeiled && found.has(makeStateKey(line))).map((it, index) => ({ ...it, index }));
@@ -293,7 +301,10 @@ export class States {
     );
   }
 
-  /** Says in a place which states of a report of an x86 test interleaving gives, too, in words that `describe` returns; and marks the others in the list. */
+  /**
+   * Says in a place which states of a report of an x86 test interleaving gives, too, in words that `describe` returns; and marks the others in the
+   * list.
+   */
   async noteInterleaved(place, report, describe) {
     const fields = { text: this.editor.text, search: this.isSearched };
     const answer = place.isConnected && (await ask(this.editor, "interleaved", fields, { timeout: MAX_MILLISECONDS }));
@@ -327,8 +338,8 @@ export class States {
   }
 
   /**
-   * Returns what is said of the run that an answer has, which is shown first: as `words` that no run ends as the test asks, or that it is an interleaving, or
-   * null; and as `explain` what shows why no run ends so, or null.
+   * Returns what is said of the run that an answer has, which is shown first: as `words` that no run ends as the test asks, or that it is an
+   * interleaving, or null; and as `explain` what shows why no run ends so, or null.
    */
   describeOpening({ state: line, isOwn, isByTurns }) {
     const { report, missing } = this;
@@ -447,8 +458,8 @@ export class States {
   }
 
   /**
-   * Returns the line of the list that says the same as a line, whatever the order of its names; null if there is none, and the line itself if not all are
-   * known.
+   * Returns the line of the list that says the same as a line, whatever the order of its names; null if there is none, and the line itself if not all
+   * are known.
    */
   findListedLine(line) {
     return this.report.left_out ? line : (this.findState(makeStateKey(line))?.line ?? null);
@@ -467,8 +478,8 @@ export class States {
   }
 
   /**
-   * Shows the number of states that are found by hand; and the verdict after all of them, or after a run that `decides` it. If the last one `isWaiting`, a wait
-   * has not ended in it.
+   * Shows the number of states that are found by hand; and the verdict after all of them, or after a run that `decides` it. If the last one
+   * `isWaiting`, a wait has not ended in it.
    */
   showFound(isNew = false, decides = false, isWaiting = false) {
     const { number } = this.counted;

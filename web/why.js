@@ -15,7 +15,8 @@ import { parseHeading } from "./tokens.js";
 
 const ARROWS = "Each bold arrow means “comes before”. ";
 const CIRCLE = "They form a cycle, so no run can end this way.";
-// How the first line of an answer on a forbidden state begins. Words that no candidate has are `?` there, so the page names the state that was asked about.
+// How the first line of an answer on a forbidden state begins. Words that no candidate has are `?` there, so the page names the state that was asked
+// about.
 const FORBIDS = "x86-TSO forbids ";
 // How the answer begins if no execution has a state.
 const NO_CANDIDATE = "No candidate execution ends in ";
@@ -52,7 +53,7 @@ export class Why {
 
   /** Removes what is shown. */
   clear() {
-    Object.assign(this, { report: null, askedOf: null, missing: null, isOfAll: false, chosen: null, fields: [] });
+    Object.assign(this, { report: null, askedOf: null, missing: null, telling: null, isOfAll: false, chosen: null, fields: [] });
     this.answers.replaceChildren();
     this.form.replaceChildren();
     this.form.hidden = false;
@@ -68,6 +69,7 @@ export class Why {
     this.report = report;
     this.tints = findTints(this.editor.text);
     this.missing = findMissingState(report, parseQuestion(this.editor.text));
+    this.telling = telling;
     this.isOfAll = this.missing === null && telling === null;
     const state = this.missing ?? telling ?? findMissingState(report) ?? report.states[0].line;
     const words = new Map(parseReportLine(state));
@@ -97,8 +99,22 @@ export class Why {
     this.chosen = chosen;
     if (isFirstOfAll) return this.answer("all");
     if (isOther) return this.set(chosen);
-    if (this.askedOf === null) return this.ask();
+    if (this.askedOf === null) return this.open();
     return this.markExplained();
+  }
+
+  /**
+   * Answers on the state that the condition asks about. Of several that are missing it is one that a cycle of several locations forbids; or if there
+   * is none, one in which a run ends, if there is one.
+   */
+  async open() {
+    const { report, missing, editor, telling } = this;
+    const { isAsked, ...question } = parseQuestion(editor.text);
+    const hasOther = missing !== null && findMissingState(report, { ...question, isAsked: (line) => line !== missing && isAsked(line) }) !== null;
+    const { state = null, isOfSeveral = true } = hasOther ? await this.findTelling(editor.text) : {};
+    if (this.report !== report || this.askedOf !== null) return null;
+    const shown = isOfSeveral || telling === null ? state : telling;
+    return shown === null ? this.ask() : this.set(shown);
   }
 
   /** Asks about a state. */
@@ -129,17 +145,20 @@ export class Why {
     if (!answer) return null;
     this.answers.replaceChildren();
     if (!answer.lines) return showError(answer, this.answers, this.editor);
-    const other = state === this.missing && answer.lines[0].startsWith(NO_CANDIDATE) ? await this.findTelling(text) : null;
-    if (other !== null) return this.set(other);
+    const other = state === this.missing && answer.lines[0].startsWith(NO_CANDIDATE) ? (await this.findTelling(text)).state : undefined;
+    if (other) return this.set(other);
     this.answers.append(...this.makeParts(answer, parseHeading(text).language === "SRC"));
     return this.bringIntoSight();
   }
 
-  /** Returns a state that the condition asks about and that some candidate execution has, in place of the proposed one, which none has; null if there is none. */
+  /**
+   * Returns a state that the condition asks about and that some candidate execution has, in place of the proposed one, and whether a cycle of several
+   * locations forbids it; or no `state`, if there is none.
+   */
   async findTelling(text) {
     const listed = this.report.states.map((it) => it.line);
     const answer = await ask(this.editor, "candidate", { text, listed }, { place: this.answers });
-    return answer?.state ?? null;
+    return answer ?? {};
   }
 
   /** Draws the first cycle, or a run, as large as the column of the answers has room for, in a window in which the column is scrolled by itself. */
@@ -154,8 +173,8 @@ export class Why {
   }
 
   /**
-   * Scrolls the column of the answers as far as the cycles need to be in sight, in a window in which the column is scrolled by itself. If that cuts the
-   * verdict, it scrolls to the tabs below it, or not at all.
+   * Scrolls the column of the answers as far as the cycles need to be in sight, in a window in which the column is scrolled by itself. If that cuts
+   * the verdict, it scrolls to the tabs below it, or not at all.
    */
   bringIntoSight() {
     this.fitGraph();

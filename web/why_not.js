@@ -1,8 +1,8 @@
 // Says of a state that a test does not end in which axiom each candidate execution with it breaks, and draws the cycles that teach the most: as
 // tools/graph.py does. Not proved.
 //
-// A `Way` in which the axioms forbid a state has the `axiom`, its `cycle` in letters, the `events` of the cycle in words, how many `times` an execution
-// violates the axiom so, the clearest such `execution` with its `violation`, and its `kinds`, the sentences on why it teaches little.
+// A `Way` in which the axioms forbid a state has the `axiom`, its `cycle` in letters, the `events` of the cycle in words, how many `times` an
+// execution violates the axiom so, the clearest such `execution` with its `violation`, and its `kinds`, the sentences on why it teaches little.
 
 import { TooMany, findThread, listCandidates } from "./executions.js";
 import { Names, drawExecution, formatWord } from "./graphs.js";
@@ -13,8 +13,8 @@ import { WORD } from "./token_reader.js";
 const MAX_EXECUTIONS = 400000;
 const MAX_CYCLES = 6;
 const MAX_DRAWN = 3;
-// The milliseconds in which states are looked for, of which one is explained, and the largest numbers of these, and of executions of one, that are looked at.
-const [MAX_MILLISECONDS, MAX_STATES, MAX_LOOKED_AT] = [4000, 40, 40];
+// The milliseconds in which states are looked for, of which one is explained, and the largest number of executions of one that are looked at.
+const [MAX_MILLISECONDS, MAX_LOOKED_AT] = [4000, 2000];
 // What the axioms forbid if a word of it is `?`: no state.
 const UNKNOWN_WORDS = "executions whose words are not known";
 const NONE_FORBIDDEN = "x86-TSO allows every state that some candidate execution has.";
@@ -87,8 +87,8 @@ function evaluate({ kind, parts, site, word }, findWord) {
 }
 
 /**
- * Yields the candidate executions whose outcomes are wanted, each with its words of the sites that the test shows. `isWanted` is given a function that returns
- * the word of a site, or null if it is not known. Throws TooMany if there are too many candidates.
+ * Yields the candidate executions whose outcomes are wanted, each with its words of the sites that the test shows. `isWanted` is given a function
+ * that returns the word of a site, or null if it is not known. Throws TooMany if there are too many candidates.
  * @param {Test} test
  * @param {function(function(Site): (number | null)): boolean} isWanted
  * @returns {Generator<{execution: Execution, words: (number | null)[]}>}
@@ -104,30 +104,38 @@ function* listWanted(test, isWanted) {
 }
 
 /**
- * Returns the line of a state that some candidate execution has, that the condition asks about, and that is none of the `listed` ones; null if there is none, or
- * if there are too many candidates. It is the one of the least words of those with a coherent execution, among those that are found in some
- * time, since its cycle teaches more; or otherwise of all.
+ * Returns the line of a state that some candidate execution has, that the condition asks about, and that is none of the `listed` ones, or null if
+ * there is none, or there are too many candidates; and whether its cycle is one of several locations. Of those that are found in some time, and in
+ * which every wait has ended, it is the first whose cycle says the most about buffers and fences.
  * @param {Test} test
  * @param {string[]} listed
- * @returns {string | null}
+ * @param {(function(string): boolean) | null} [hasEnded]
+ * @returns {{state: string | null, isOfSeveral: boolean}}
  */
-export function findCandidateState(test, listed) {
+export function findCandidateState(test, listed, hasEnded = null) {
   const isAsked = (findWord) => evaluate(test.proposition, findWord) !== (test.quantifier === "forall");
-  const [known, found, end] = [new Set(listed), new Map(), performance.now() + MAX_MILLISECONDS];
+  const [known, looked, constants, end] = [new Set(listed), new Map(), listConstants(test), performance.now() + MAX_MILLISECONDS];
+  let best = { state: null, weight: Infinity };
   try {
     for (const { execution, words } of listWanted(test, isAsked)) {
       const line = words.includes(null) ? null : formatState(test, words);
-      if (line === null || known.has(line)) continue;
-      const { executions } = found.get(line) ?? found.set(line, { line, words, executions: [] }).get(line);
-      if (executions.length < MAX_LOOKED_AT) executions.push(execution);
-      if (performance.now() > end) break;
+      const count = looked.get(line) ?? 0;
+      if (line === null || known.has(line) || count > MAX_LOOKED_AT || (hasEnded && !hasEnded(line))) continue;
+      looked.set(line, count + 1);
+      const weight = computeWeightOf(execution, constants);
+      if (weight < best.weight) best = { state: line, weight };
+      if (weight === 0 || performance.now() > end) break;
     }
   } catch (error) {
     if (!(error instanceof TooMany)) throw error;
   }
-  const states = [...found.values()].sort((one, other) => compareRows(one.words, other.words));
-  const isTelling = ({ executions }) => executions.some((it) => it.findBrokenAxiom()?.axiom !== "coherence");
-  return (states.slice(0, MAX_STATES).find(isTelling) ?? states[0])?.line ?? null;
+  return { state: best.state, isOfSeveral: best.weight < WEIGHTS.get(ONE_LOCATION) };
+}
+
+/** Returns how little the cycle of an execution that the axioms forbid teaches. */
+function computeWeightOf(execution, constants) {
+  const violation = execution.findBrokenAxiom();
+  return violation ? computeWeight({ kinds: listDrawbacks(execution, violation.cycle, constants) }) : Infinity;
 }
 
 /**
@@ -182,8 +190,8 @@ function explainState(test, { words, ways }) {
 }
 
 /**
- * Returns what orders the ways of a state: the clearest are first, then those of several threads, those through a fence or a locked instruction, the shortest,
- * and the most frequent.
+ * Returns what orders the ways of a state: the clearest are first, then those of several threads, those through a fence or a locked instruction, the
+ * shortest, and the most frequent.
  */
 function makeRank(way) {
   const { execution, violation, events, times } = way;

@@ -25,6 +25,8 @@ TWO_STATES = (
     "X86 Two\n{}\n P0 | P1 ;\n MOV [x],$1 | MOV EAX,[y] ;\n MOV [y],$1 | CMP EAX,$1 ;\n | JNE L ;\n | MOV EBX,[x] ;\n | L: ;\n"
     "exists (1:EAX=0 /\\ 1:EBX=1 \\/ 1:EAX=1 /\\ 1:EBX=0)\n"
 )
+# A test that asks about several states that are missing: coherence of x forbids the first of them.
+BOTH = "X86 Both\n{}\n P0 | P1 ;\n MOV [x],$1 | MOV EAX,[y] ;\n MOV [x],$2 | MOV EBX,[x] ;\n MOV [y],$1 | ;\nlocations [x]\n"
 
 
 def threads_of_run(user: User, panel: str) -> tuple[int, list[str]]:
@@ -125,6 +127,15 @@ class WhyNot(PageCase):
         self.assertSays("x86-TSO forbids 1:EAX=1; 1:EBX=0;", "#why .why-head")
         self.assertSoon(["1", "0"], lambda: [it.get_attribute("value") for it in user.all("#why input")])
         user.find("#why figure svg.graph")
+
+    def test_several(self) -> None:
+        """Of several states a cycle of several locations is explained first; or if there is none, a state in which a run ends."""
+        user = self.user
+        user.open_listed(f"#text={quote(BOTH)}exists (x=1 \\/ 1:EAX=1 /\\ 1:EBX=0)&view=why")
+        self.assertSays("x86-TSO forbids 1:EAX=1; 1:EBX=0; x=2;", "#why .why-head")
+        self.assertSays("global happens-before", "#why .cycle-words")
+        user.open_listed(f"#text={quote(BOTH)}exists (x=1 \\/ 1:EAX=0)&view=why")
+        self.assertSays("A run ends in this state: 1:EAX=0;", "#why .why-head")
 
     def test_source(self) -> None:
         """The question about a source test is in its own names, and the proposed state is answered."""

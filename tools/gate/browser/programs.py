@@ -13,26 +13,6 @@ LOCK = (
 )
 # Two threads that wait for each other before they set what the other waits for.
 STUCK = LOCK.replace("int> l;", "int> l, m;").replace("void work() { while (l.exchange(1)) {} n++; l.store(0); }", "void work() { while (!l) {} m = 1; }")
-# A lock of two threads: who comes later waits while the other wants it, too.
-PETERSON = """
-#include <atomic>
-std::atomic<int> flag[2], turn;
-int counter;
-void first() {
-  flag[0].store(1, std::memory_order_relaxed);
-  turn.store(1, std::memory_order_relaxed);
-  while (flag[1].load(std::memory_order_relaxed) && turn.load(std::memory_order_relaxed) == 1);
-  counter++;
-  flag[0].store(0, std::memory_order_relaxed);
-}
-void second() {
-  flag[1].store(1, std::memory_order_relaxed);
-  turn.store(0, std::memory_order_relaxed);
-  while (flag[0].load(std::memory_order_relaxed) && turn.load(std::memory_order_relaxed) == 0);
-  counter++;
-  flag[1].store(0, std::memory_order_relaxed);
-}
-"""
 # A run of the lock's test in which the second wait has not ended.
 WAITING = "P0 P0 P0 P0 P0 D0 P1 P1 P1 P1 P1 D1 P0 P0 P1 P1"
 HIDDEN = "#outcome .hidden-states"
@@ -97,19 +77,19 @@ class Waits(PageCase):
         self.assertSoon(["P0, XCHG [l],EAX; P1, XCHG [l],EAX. Try it"], lambda: user.texts("#fences .fence-sets li"))
 
     def test_count(self) -> None:
-        """The same states are counted beside each tab, whatever tab was open before; in *Fences*, and in *Compile*."""
+        """The same states are counted beside each tab, whatever tab was open before; and in *Compile*."""
         user = self.user
         user.open_listed()
-        user.run_text(PETERSON)
+        user.run_text(LOCK)
         user.click(f"{OFFER} .apply")
         user.find(HIDDEN)
-        for tab in ("states", "hand", "fences", "compile", "hand", "why", "states", "fences"):
+        for tab in ("hand", "compile", "hand", "why", "hand", "states"):
             user.click(f"#tab-{tab}")
-            self.assertSoon(["8 states"], lambda: user.texts("#outcome .rows-tools > .small"))
-            self.assertSays("The condition holds in 4 of 8 final states in which every wait ends.", "#outcome .count-words")
-        self.assertSays("the condition holds in 4 of 8 states.", "#fences .verdict")
-        user.click("#tab-compile")
-        self.assertSays("As it is: 8 states in which every wait ends", "#compile h3")
+            self.assertSoon("1", lambda: user.texts("table.strip thead .watch")[0])
+            self.assertSoon([], lambda: user.texts("table.strip thead .watch")[2:])
+            self.assertSays("The condition does not hold in the only final state in which every wait ends.", "#outcome .count-words")
+            if tab == "compile":
+                self.assertSays("As it is: 1 state in which every wait ends", "#compile h3")
 
     def test_stuck(self) -> None:
         """If no state has every wait ended, all are listed, and the page says what that means."""
