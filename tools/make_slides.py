@@ -4,8 +4,8 @@
     python3 tools/make_slides.py OUT.html [--page LINK]
 
 PageDown, Space, Enter, the arrows to the right and down, a click and a tap lead on; PageUp and the other arrows lead back; Home and End to
-the ends. Two small buttons lead back and on, with the number of the slide between them. N shows notes for the teacher. The number after `#` in
-the address is that of the slide. Printed, each slide is a page. With LINK, the address of lw's page as the slides have it (`site/index.html`), each slide
+the ends. Two small buttons lead back and on, with the number of the slide between them. N, or a third button, shows the teacher's notes in a window of
+their own, which follows the slides; the slides themselves never show them. The number after `#` in the address is that of the slide. Printed, each slide is a page. With LINK, the address of lw's page as the slides have it (`site/index.html`), each slide
 that shows a test has a link that opens the test there, at the same run, in one tab for all slides.
 
 What the slides show of tests comes from the program (`./lw states` and `./lw replay`), which has to be built: so it needs Linux. The machine is drawn as
@@ -38,8 +38,7 @@ html, body { margin: 0; background: var(--ground); color: var(--ink) }
 .slide figure { margin: 0; flex: 1; min-height: 0; display: flex }
 .slide svg { width: 100%; height: 100% }
 .slide svg .ground { fill: none } .slide svg .relation { stroke: var(--ground) } .slide svg :is(.box, .entry) { fill: var(--paper); stroke: var(--strong-edge) }
-.slide aside { display: none; border-top: 1px solid var(--strong-edge); padding-top: 1vh; font-size: .75em; color: var(--faint) }
-.noted .slide aside { display: block }
+.slide aside { display: none }
 .slide .open { position: absolute; left: 4vw; bottom: 1.5vh; font-size: .6em; color: var(--main) }
 .slide footer { position: absolute; right: 2vw; bottom: 1vh; font-size: .6em; color: var(--faint) }
 /* The title is calm: nothing but words. */
@@ -85,8 +84,27 @@ html, body { margin: 0; background: var(--ground); color: var(--ink) }
 """
 SCRIPT = """
 const slides = [...document.querySelectorAll(".slide")];
-const [back, on] = document.querySelectorAll(".controls button");
+const [back, on, noted] = document.querySelectorAll(".controls button");
 let at = 0;
+// The window with the teacher's notes, which is moved to the teacher's own screen.
+let notes = null;
+
+function showNote() {
+  if (!notes || notes.closed) return;
+  const title = slides[at].querySelector("h2").textContent;
+  const words = slides[at].querySelector("aside")?.textContent ?? "There is no note on this slide.";
+  const parts = [`Slide ${at + 1} of ${slides.length}: ${title}`, words, "This window is for the teacher: move it off the projected screen. N in the slides closes it."];
+  notes.document.title = "Notes for the teacher";
+  notes.document.body.replaceChildren(...parts.map((it) => Object.assign(notes.document.createElement("p"), { textContent: it })));
+  notes.document.body.style.font = "18px/1.45 system-ui, sans-serif";
+}
+
+function toggleNotes() {
+  if (notes && !notes.closed) return notes.close();
+  notes = open("", "lw-notes", "width=560,height=380");
+  if (!notes) return alert("The browser opens no window for the notes: allow it for this page.");
+  showNote();
+}
 
 function show(number) {
   at = Math.min(Math.max(number, 0), slides.length - 1);
@@ -95,6 +113,7 @@ function show(number) {
   back.setAttribute("aria-disabled", String(at === 0));
   on.setAttribute("aria-disabled", String(at === slides.length - 1));
   scrollTo(0, 0);
+  showNote();
   history.replaceState(null, "", `#${at + 1}`);
 }
 
@@ -106,13 +125,15 @@ const KEYS = {
 
 addEventListener("keydown", (event) => {
   if (event.ctrlKey || event.altKey || event.metaKey) return;
-  if (event.key === "n" || event.key === "N") document.body.classList.toggle("noted");
+  if (event.key === "n" || event.key === "N") toggleNotes();
   if (!KEYS[event.key] || event.target.closest("button, a") && [" ", "Enter"].includes(event.key)) return;
   event.preventDefault();
   show(event.key === " " && event.shiftKey ? at - 1 : KEYS[event.key]());
 });
 back.addEventListener("click", () => show(at - 1));
 on.addEventListener("click", () => show(at + 1));
+noted.addEventListener("click", toggleNotes);
+addEventListener("pagehide", () => notes?.close());
 addEventListener("click", ({ target }) => target.closest(".controls, a") || String(getSelection()) || show(at + 1));
 addEventListener("hashchange", () => show((parseInt(location.hash.slice(1), 10) || 1) - 1));
 document.body.classList.add("running");
@@ -121,7 +142,8 @@ show((parseInt(location.hash.slice(1), 10) || 1) - 1);
 
 CONTROLS = (
     '<nav class="controls" aria-label="Slides"><button type="button" aria-label="Previous slide" title="Previous slide (←)">‹</button> '
-    '<output></output> <button type="button" aria-label="Next slide" title="Next slide (→)">›</button></nav>\n'
+    '<output></output> <button type="button" aria-label="Next slide" title="Next slide (→)">›</button> '
+    '<button type="button" aria-label="Notes for the teacher" title="Notes for the teacher, in a window of their own (N)">N</button></nav>\n'
 )
 
 

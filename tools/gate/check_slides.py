@@ -10,7 +10,7 @@
 - The slides are in the order of the timetable. Before the tasks none shows a test of tasks 2 to 4, except the text of A1 and A2 and the
   list of A1 by interleaving, and no picture shows cache lines. Slide and sheet ask the same.
 - In Chromium, if it is there with its driver and python3-selenium: keys, clicks and two buttons lead from slide to slide, the buttons cover
-  nothing, a key shows notes, they are dark if the system is, and each is a white page of paper.
+  nothing, a key shows notes in a window of their own and never on the slides, they are dark if the system is, and each is a white page of paper.
 
 tools/check_documents.py calls all this; the program has to be built.
 """
@@ -24,8 +24,9 @@ import shutil
 import subprocess
 import sys
 import tempfile
-from collections.abc import Iterator
+from collections.abc import Callable, Iterator
 from html import unescape
+from typing import Any
 from urllib.parse import parse_qsl
 
 import given
@@ -258,6 +259,26 @@ def check_command() -> Iterator[Comparison]:
     yield "--help", 0, run(["make_slides.py", "--help"])[2]
 
 
+def check_notes(driver: Any, count_on_slides: Callable[[], int]) -> Iterator[Comparison]:
+    """Checks that the teacher's notes are in a window of their own, which follows the slides, and on no slide."""
+    from selenium.webdriver.common.keys import Keys
+
+    slide, before = driver.current_window_handle, set(driver.window_handles)
+    driver.find_element("tag name", "body").send_keys("n")
+    opened = [it for it in driver.window_handles if it not in before]
+    yield "a key opens a window for notes, and no slide shows one", (1, 0), (len(opened), count_on_slides())
+    for key, number in ((None, 1), ("ARROW_RIGHT", 2)):
+        if key:
+            driver.find_element("tag name", "body").send_keys(getattr(Keys, key))
+        note = driver.execute_script("return slides[at].querySelector('aside')?.textContent ?? 'There is no note on this slide.'")
+        driver.switch_to.window(opened[0])
+        words = driver.find_element("tag name", "body").text
+        driver.switch_to.window(slide)
+        yield f"the window has the note of slide {number}", (True, True), (words.startswith(f"Slide {number} of {COUNT}: "), note.strip() in words)
+    driver.find_element("tag name", "body").send_keys("n")
+    yield "the key closes the window", before, set(driver.window_handles)
+
+
 def check_browser(folder: str) -> Iterator[Comparison]:
     """Checks the keys, clicks, and the pages of paper."""
     if not users.is_installed():
@@ -277,8 +298,8 @@ def check_browser(folder: str) -> Iterator[Comparison]:
         driver.find_element("tag name", "body").click()
         yield "a click leads on", "#2", driver.current_url[-2:]
         # The two buttons, by clicks and by keys.
-        back, on = driver.find_elements("css selector", ".controls button")
-        yield "the buttons have names", ["Previous slide", "Next slide"], [it.accessible_name for it in (back, on)]
+        back, on, noted = driver.find_elements("css selector", ".controls button")
+        yield "the buttons have names", ["Previous slide", "Next slide", "Notes for the teacher"], [it.accessible_name for it in (back, on, noted)]
         for button, number in ((on, 3), (back, 2), (back, 1), (back, 1), (on, 2)):
             button.click()
             yield f"a button leads to slide {number}", f"#{number}", driver.current_url[-2:]
@@ -292,10 +313,7 @@ def check_browser(folder: str) -> Iterator[Comparison]:
         driver.find_element("tag name", "body").send_keys(Keys.HOME)
         yield "on the first slide no button leads back", ["true", "false"], [it.get_attribute("aria-disabled") for it in (back, on)]
         notes = lambda: driver.execute_script("return [...document.querySelectorAll('aside')].filter((it) => it.offsetHeight).length")
-        before = notes()
-        driver.find_element("tag name", "body").send_keys("n")
-        yield "a key shows the note of a slide", (0, 1), (before, notes())
-        driver.find_element("tag name", "body").send_keys("n")
+        yield from check_notes(driver, notes)
         # A phone, light and dark, and paper.
         driver.execute_cdp_cmd("Emulation.setDeviceMetricsOverride", {"width": 360, "height": 740, "deviceScaleFactor": 2, "mobile": True})
         yield "the slides fit a phone", 360, driver.execute_script("return document.documentElement.scrollWidth")
