@@ -4,6 +4,7 @@
 import { explainAssembly, formatNames } from "./assembly.js";
 import { makeChange } from "./change.js";
 import { explainName, explainThreadNames } from "./headers.js";
+import { explainFramed } from "./framed_texts.js";
 import { rewriteEntries } from "./initial_values.js";
 import { explainLacked, explainSpareFence, NO_CAS } from "./instead.js";
 import { explainMissingQuestion } from "./missing_question.js";
@@ -11,8 +12,9 @@ import { findNearest } from "./nearest.js";
 import { CONSTANT, findRewriting, NEGATIVE, rewriteWhole } from "./notation.js";
 import { convertRegister, explainCode, explainOtherFirstWord, isAllIn, parseCells } from "./other_language.js";
 import { explainComment, explainMissingFront, findOtherLanguage, isRead } from "./other_tools.js";
+import { explainPaperTable } from "./paper_tables.js";
 import { explainPseudoCode } from "./pseudo_code.js";
-import { explainPseudoProgram } from "./pseudo_program.js";
+import { explainDoubt, explainPseudoProgram } from "./pseudo_program.js";
 import { explainRaggedRows } from "./ragged.js";
 import { TEMPLATE } from "./template.js";
 import { explainOutput } from "./tool_outputs.js";
@@ -428,6 +430,7 @@ const SENTENCES = {
     "The text ends too early. The last row may lack its `;`, a comment its `*)`, or the test its question, as `exists (x=1)`.",
   "text Unexpected": (place) =>
     explainAssembly(place) ||
+    explainDoubt(place.text) ||
     explainComment(place) ||
     explainOpenBlock(place) ||
     explainName(place) ||
@@ -487,12 +490,26 @@ const SENTENCES = {
  *   change: {begin: number, end: number, text: string, title?: string} | null}}
  */
 export function explainFault(fault, text) {
+  const plain = explainPlain(fault, text);
+  const isWhole = plain.isOffer || fault.kind !== "text" || fault.name !== "Unexpected";
+  return (isWhole ? null : explainFramed(text, explainBegin)) ?? plain;
+}
+
+/** Returns the explanation of a text that begins as no test. */
+function explainBegin(text) {
+  return explainPlain({ kind: "text", number: 4, name: "Unexpected", row: 1, column: 1, index: text.search(/\S/) }, text);
+}
+
+/** Returns the explanation of a text's fault, as explainFault does, if the text has nothing around it. */
+function explainPlain(fault, text) {
   const { kind, name, index } = fault;
   const place = new FaultPlace(text, index);
   const typography = ODD.test(place.token) || ODD.test(text[0]) ? explainTypography(place) : "";
   if (typography) return { words: typography, change: place.change };
   const output = kind === "text" ? explainOutput(text) : null;
   if (output) return (output.isPromela && explainPseudoProgram(text)) || output;
+  const table = kind === "text" ? explainPaperTable(text) : null;
+  if (table) return table;
   const rewriting = name === "TooManyRows" ? null : findRewriting(text, index);
   const other = kind === "text" && findOtherLanguage(place);
   const choice = rewriting?.also ? " The other button makes x86 code of the rows, which may have more states." : "";

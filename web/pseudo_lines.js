@@ -1,8 +1,10 @@
 // Finds the threads of pseudo code, as books and blogs write it: below their names, in columns, or with bars between them; and what is before and after
-// them. Not proved.
+// them. A `Doubt` is thrown for a part that is not sure. Not proved.
 //
 // A `PseudoText` has the lines `before` the threads and `after` them, and the `threads`, each with its lines, as `Line`s: the `code` of one, without its
 // comment, and its `indent`, in letters. `first` is the number of the first thread.
+
+import { Doubt, makeDoubt } from "./pseudo_doubts.js";
 
 const MAX_LETTERS = 4000;
 const MAX_THREADS = 4;
@@ -49,6 +51,11 @@ const ROLES = new RegExp(
     "(?=[ \\t]*(?:\\([ \\t]*\\)[ \\t]*)?(?::(?!=)|\\{|\\||$)|[ \\t]{2}|\\t)",
   "gim",
 );
+// Why parts of a text are not sure.
+const OF_COLUMN = "it is not sure in which column it is, so write each thread below its name, as `P0:`";
+const OF_ASSERTION = "it may be of the thread above it or of all, so indent it as that thread, or leave a blank line above it";
+/** Why an assignment of a number is not sure. */
+export const OF_OUTCOME = "it may be an outcome or a statement, so ask for an outcome by `Can`";
 // Pieces of a line with gaps between them.
 const PIECE = /\S+(?: \S+)*/g;
 // How a line begins that stores, and a line that is or begins with a whole assignment.
@@ -72,8 +79,8 @@ const LABEL = new RegExp(
   "i",
 );
 // How a line begins or ends that asks, or says what is allowed.
-const ASKING = "can|could|is|may|might|what|question|outcomes?|result|finally|final|forbidden|allowed|exists|forall|assert|on|does|post-?condition|at the end";
-const ASSERTS = /^\s*assert\b/i;
+const ASKING = "can|could|is|may|might|what|question|outcomes?|result|finally|final|forbidden|allowed|exists|forall|assert|(?:bug|warn)_on|on|does|should|must|post-?condition|at the end";
+const ASSERTS = /^\s*(?:assert|BUG_ON|WARN_ON)\b/i;
 const ASKS = new RegExp(
   `^\\(?\\s*(?:~\\s*)?(?:${ASKING})\\b(?!\\s*(?::?=(?!=)|<-|\u2190|[+[.-]))|\\?\\s*\\)?$|` +
     "^(?:both|all|neither|either|here|note)\\b.*\\b(?:may|can|must|will|are|is)\\b|\\b(?:allowed|possible|forbidden|impossible|cannot|can't)\\b", "i",
@@ -90,9 +97,10 @@ function expandTabs(line) {
   return line.split("\t").reduce((all, part) => all + "\t".padStart(TAB - (all.length % TAB)) + part);
 }
 
-/** Returns the lines of a text; those of a table of Markdown without its frame. */
+/** Returns the lines of a text; those of a table of Markdown without its frame. Bold words are plain, and a sentence after initial words has its own line. */
 function splitLines(text) {
-  const lines = text.split("\n").filter((it) => it.trim() && !/^\s*```/.test(it));
+  const plain = text.replace(/^([ \t]*)\*\*([^*\n]+)\*\*/gm, "$1$2").replace(/^([ \t]*initially\b[^.?\n]*\.)[ \t]+(?=[A-Z])/gim, "$1\n");
+  const lines = plain.split("\n").filter((it) => it.trim() && !/^\s*```/.test(it));
   const isFramed = lines.every((it) => !it.includes("|") || /^\s*\|(?!\|)/.test(it));
   return lines.map((it) => expandTabs(isFramed ? it.replace(/^\s*\||\|\s*$|`/g, "") : it));
 }
@@ -170,34 +178,38 @@ function listCells(line) {
 
 /** Returns whether tabs below names may mean other columns than the stops of a terminal, as in a copied table. */
 function hasOtherTabs(names, lines, columns) {
-  const rows = lines.map((it) => splitCells(it, "\t"));
-  if (splitCells(names.trimEnd(), "\t").length !== columns.length || rows.some((it) => it.length > columns.length)) return false;
+  // All lines may be indented by tabs.
+  const [margin] = /^(?:[ \t]*\t)?/.exec(names);
+  const cut = (it) => (it.slice(0, margin.length).trim() ? it : it.slice(margin.length));
+  const rows = lines.map((it) => splitCells(cut(it), "\t"));
+  if (splitCells(cut(names).trimEnd(), "\t").length !== columns.length || rows.some((it) => it.length > columns.length)) return false;
   const find = (index) => columns.findLastIndex((it) => index >= it - 2);
   return rows.some((row, at) => row.length > 1 && listPieces(lines[at]).some(({ code, index }) => row[find(index)]?.code !== code));
 }
 
-/** Returns the lines of threads in columns, given the columns' first letters and whether they have bars; null if a cell is in no column for sure. */
+/** Returns the lines of threads in columns, given the columns' first letters and whether they have bars. Throws a doubt if a cell is in no column for sure. */
 function readColumns(lines, columns, hasBars) {
   const threads = columns.map(() => []);
   for (const [row, line] of lines.entries()) {
     const cells = hasBars ? listCells(line) : listPieces(line);
     // A line without a bar may be that of all columns.
-    if (hasBars && !line.includes("|") && columns.length > 1) return null;
+    if (hasBars && !line.includes("|") && columns.length > 1) throw makeDoubt(line, "a line without a bar may be one of each thread");
     let commented = -1;
     for (const [at, { code, index }] of cells.entries()) {
       const thread = hasBars ? at : columns.findLastIndex((it) => index >= it - 2);
-      if (thread < 0 || thread >= columns.length) return null;
+      if (thread < 0 || thread >= columns.length) throw makeDoubt(code, OF_COLUMN);
       // A comment ends at the next column. One that crosses it may have code after it.
       if (thread === commented) continue;
       const bare = dropComment(code);
       const isComment = bare !== code && !CRITICAL.test(bare);
       if (isComment) commented = thread;
-      if (isComment && !hasBars && (cells.length > 1 || bare.trim()) && index + code.length > columns[thread + 1]) return null;
+      const isCrossing = isComment && !hasBars && (cells.length > 1 || bare.trim()) && index + code.length > columns[thread + 1];
+      if (isCrossing) throw makeDoubt(code, "the comment may end in the next column");
       const made = makeLine(bare.trim(), Math.max(index - (hasBars ? 0 : columns[thread]), 0));
       const above = threads[thread].at(-1);
       // A cell without one beside it may be that of all columns.
       const isCentred = !hasBars && cells.length < columns.length && made.indent > above?.indent + 1 && !OPENS.test(above.code);
-      if (made.code && (above?.row === row || isCentred)) return null;
+      if (made.code && (above?.row === row || isCentred)) throw makeDoubt(code, OF_COLUMN);
       if (made.code) threads[thread].push({ ...made, row });
     }
   }
@@ -217,7 +229,7 @@ function findEnd(lines, isCode) {
 
 /** Returns whether an assertion at the margin may be one of the thread above it, and not of the whole: no line is blank above it, and it names more than registers. */
 function isUnsureAssertion(line, apart) {
-  const names = line.replace(/\b(?:assert|and|or|not|true|false)\b/gi, " ").match(/[A-Za-z_]\w*/g) ?? [];
+  const names = line.replace(/\b(?:assert|BUG_ON|WARN_ON|and|or|not|true|false)\b/gi, " ").match(/[A-Za-z_]\w*/g) ?? [];
   return !apart.has(line) && !names.every((it) => /^r\w?\d$|^r\d+$/i.test(it));
 }
 
@@ -231,8 +243,8 @@ function readBraced(text) {
 }
 
 /**
- * Returns a text of threads in columns, below a row of their names at an index, or without names from the row at an index on; null if it is not sure. Lines
- * `apart` have a blank one above them.
+ * Returns a text of threads in columns, below a row of their names at an index, or without names from the row at an index on. Lines `apart` have a blank one
+ * above them.
  */
 function readBeside(lines, at, isNamed, apart) {
   const names = listCells(lines[at]).filter((it) => !COMMENTS.test(it.code));
@@ -245,13 +257,14 @@ function readBeside(lines, at, isNamed, apart) {
   const isAssertion = (it) => !hasBars && columns.length > 1 && ASSERTS.test(it);
   const end = findEnd(rows, (it) => isAssertion(it) && it.search(/\S/) >= columns[1] - 2);
   const asked = rows[end] ?? "";
-  if (isAssertion(asked) && asked.trimEnd().length < columns[1] && isUnsureAssertion(asked, apart)) return null;
+  if (isAssertion(asked) && asked.trimEnd().length < columns[1] && isUnsureAssertion(asked, apart)) throw makeDoubt(asked, OF_ASSERTION);
   const code = rows.slice(0, end);
   // Initial values may be below the names.
   while (/^\s*\{[^{}]*\}\s*$/.test(code[0] ?? "")) before.push(code.shift().replace(/[{}]/g, ""));
-  const threads = !hasBars && hasOtherTabs(lines[at], code, columns) ? null : readColumns(code, columns, hasBars);
+  if (!hasBars && hasOtherTabs(lines[at], code, columns)) throw makeDoubt(lines[at], "below it tabs and columns differ, so put blanks in place of tabs");
+  const threads = readColumns(code, columns, hasBars);
   const first = isNamed ? findFirst(names.map((it) => findNumber(it.code))) : 0;
-  return threads && { before, threads, after: rows.slice(end), first };
+  return { before, threads, after: rows.slice(end), first };
 }
 
 /** Returns the name of a thread at the beginning of a line: its letters (`label`), and whether the line has nothing else; null if there is none. */
@@ -294,11 +307,11 @@ function splitLast(parts) {
   return end < 0 ? [last.rows, []] : [last.rows.slice(0, end), last.rows.slice(end)];
 }
 
-/** Returns a text of threads below their names; null if it has none, or is not sure. Lines `apart` have a blank one above them. */
+/** Returns a text of threads below their names; null if it has none. Lines `apart` have a blank one above them. */
 function readBelow(given, apart) {
   const lines = given.filter((it) => !UNDERLINE.test(it));
   const heads = findHeads(lines);
-  if (!heads) return null;
+  if (!heads) throw makeDoubt(lines.find((it) => BEGIN.test(it) || LETTER_HEAD.test(it)) ?? "", "it is not sure which labels are names of threads, so name these as `P0:`");
   const [before, after, parts, numbers] = [[], [], [], []];
   let last = null;
   for (const [at, line] of lines.entries()) {
@@ -313,7 +326,7 @@ function readBelow(given, apart) {
     const code = dropComment(head ? " ".repeat(head.label.length) + line.slice(head.label.length) : line);
     const raw = code.search(/\S/);
     // Below code that is not indented an assertion may be one of the last thread.
-    if (raw === 0 && parts.at(-1)?.rows.at(-1)?.raw === 0 && ASSERTS.test(code) && isUnsureAssertion(line, apart)) return null;
+    if (raw === 0 && parts.at(-1)?.rows.at(-1)?.raw === 0 && ASSERTS.test(code) && isUnsureAssertion(line, apart)) throw makeDoubt(line, OF_ASSERTION);
     if (!parts.length || INITIAL.test(line)) before.push(line);
     else if (after.length || (ASKS.test(code.trim()) && raw === 0)) after.push(line);
     else if (code.trim()) {
@@ -325,17 +338,30 @@ function readBelow(given, apart) {
   const [rows, ended] = splitLast(parts);
   const asking = ended.findIndex(({ line }) => ASKS.test(line.trim()));
   const isCode = ({ line }) => !OUTCOME.test(line.trim()) && !PAIR.test(line.trim()) && !(PROSE.test(line.trim()) && !IS_CODE.test(line));
-  if (ended.slice(0, asking < 0 ? ended.length : asking).some(isCode)) return null;
+  const unsure = ended.slice(0, asking < 0 ? ended.length : asking).find(isCode);
+  if (unsure) throw makeDoubt(unsure.line, "it is less indented than the last thread, so it may be code of that or not");
   const threads = [...parts.slice(0, -1).map((it) => it.rows), rows].map((it) => it.map(({ made }) => made));
   // Instructions of x86 below names are read by assembly.js.
   if (threads.flat().some((it) => /^mov/i.test(it.code) && !PSEUDO_MOVE.test(it.code))) return null;
   return { before, threads, after: [...ended.map((it) => it.line), ...after], first: findFirst(numbers) };
 }
 
-/** Returns whether the end of a thread may be an outcome: it sets names to numbers, with commas, as no other line does. */
-function hasOutcomeLine(threads) {
+/** Returns the end of a thread that may be an outcome: it sets names to numbers, with commas, as no other line does; undefined if there is none. */
+function findOutcomeLine(threads) {
   const found = threads.flat().filter((it) => SET_BY_COMMAS.test(it.code));
-  return found.length === 1 && threads.some((it) => it.length > 1 && it.at(-1) === found[0]);
+  return found.length === 1 && threads.some((it) => it.length > 1 && it.at(-1) === found[0]) ? found[0].code : undefined;
+}
+
+/** Throws a doubt if what is read of a text is not sure as a whole. */
+function refuseUnsure({ threads, after, first }) {
+  const empty = threads.findIndex((it) => !it.length);
+  if (threads.length > 1 && empty >= 0) throw new Doubt(`the thread ${empty + first || empty}: it has no code of its own, so write the lines of each thread below its name`);
+  if (threads.length > MAX_THREADS) throw new Doubt("its number of threads: a test has four at most");
+  if (!(first <= 1)) throw new Doubt("the names of the threads: their numbers are not in order from 0 or 1 on");
+  const outcome = findOutcomeLine(threads);
+  if (outcome) throw makeDoubt(outcome, OF_OUTCOME);
+  const statement = after.find((it) => STATEMENT.test(it));
+  if (statement) throw makeDoubt(statement, "below the threads it may be an outcome, initial words or code of a thread, so begin it with `Can` or `Initially`");
 }
 
 /**
@@ -357,11 +383,11 @@ export function hasOutcome(codes, own) {
 }
 
 /**
- * Returns the threads of pseudo code, and what is around them; null if a text has none.
+ * Returns the threads of pseudo code, and what is around them; null if a text has none. Throws a doubt if they are not sure.
  * @param {string} text
  * @returns {PseudoText | null}
  */
-export function readPseudoText(text) {
+export function findPseudoThreads(text) {
   if (text.length > MAX_LETTERS || TEST.test(text) || EVENTS.test(text)) return null;
   const blanked = blankSpans(numberRoles(text).replace(/\r/g, "").replaceAll("\u00a0", " ").replace(PARALLEL, "||"));
   const lines = splitLines(blanked.replace(IN_BRACES, "$<indent>$<name>:\n$<indent> $<line>$<lines>\n"));
@@ -378,6 +404,21 @@ export function readPseudoText(text) {
   const read = readBraced(blanked) ?? readLines();
   const commented = [...text.matchAll(INITIAL_COMMENT)].map(([, words]) => words);
   read?.before.push(...commented);
-  const isWhole = read && read.threads.length > 1 && read.threads.length <= MAX_THREADS && read.threads.every((it) => it.length) && read.first <= 1;
-  return isWhole && !hasOutcomeLine(read.threads) && !read.after.some((it) => STATEMENT.test(it)) ? read : null;
+  if (!read || read.threads.length < 2) return null;
+  refuseUnsure(read);
+  return read;
+}
+
+/**
+ * Returns what `findPseudoThreads` does; null also if that is not sure.
+ * @param {string} text
+ * @returns {PseudoText | null}
+ */
+export function readPseudoText(text) {
+  try {
+    return findPseudoThreads(text);
+  } catch (error) {
+    if (error instanceof Doubt) return null;
+    throw error;
+  }
 }

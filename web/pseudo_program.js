@@ -7,7 +7,8 @@ import { numberThreads } from "./assembly.js";
 import { rewriteProgram } from "./c_program.js";
 import { IN_SECTION, OF_LOST, OF_SECTION } from "./c_sections.js";
 import { explainMade } from "./other_tools.js";
-import { hasOutcome, readPseudoText } from "./pseudo_lines.js";
+import { Doubt, makeDoubt } from "./pseudo_doubts.js";
+import { findPseudoThreads, hasOutcome, OF_OUTCOME } from "./pseudo_lines.js";
 import { enterAtOnce } from "./pseudo_loops.js";
 import { writeProcesses } from "./pseudo_processes.js";
 import { StatementWriter, toC, toCondition, Unread } from "./pseudo_statements.js";
@@ -46,7 +47,7 @@ const ASKING_WORDS = new Set(
     "also happen happens occur occurs ever still what about how outcome outcomes result results state states final finally end ends end-state " +
     "allow allows permit permits lead to execution run program code test this that the a an of in under on at there so for they we you here say " +
     "show time hold holds true same see sees seen read reads observe observes observed print prints printed find finds load loads return returns " +
-    "get gets have has question q expected bug output condition violation postcondition post-condition x86 tso x86-tso sc intel amd arm machine " +
+    "get gets have has produce produces question q expected bug output condition violation postcondition post-condition x86 tso x86-tso sc intel amd arm machine " +
     "processor processors thread threads cpu core model register registers"
   ).split(" "),
 );
@@ -54,7 +55,7 @@ const SIGNS = /^(?:[\s,.;:?()"'`“”]|\/\\|∧|&&?|\{|\}|\[|\])*$/;
 const CONDITIONAL = /\b(?:if|when|while)\b/i;
 const POSSIBLE = /\b(?:can|could|may|might|possible|allowed|happens?|occurs?|ever)\b/i;
 const ASKS_BELOW = new RegExp(
-  "\\?|\\b(?:can|could|may|might|must|will|what|question|outcomes?|results?|final|finally|forbidden|allowed|possible|impossible|cannot|exists|forall|assert)\\b",
+  "\\?|\\b(?:can|could|may|might|must|will|what|question|outcomes?|results?|final|finally|forbidden|allowed|possible|impossible|cannot|should|exists|forall|assert|bug_on|warn_on)\\b",
   "i",
 );
 const SAYS_WORD = /\b(?:is|are|holds?|has|have)\b|=/i;
@@ -65,8 +66,14 @@ const READING = /\b(?:read|reads|see|sees|seen|observe|observes|observed|print|p
 const THREAD = /(?<!\w)(?:[PT](\d)|(?:thread|process|processor|cpu|core|proc)\s*(\d))(?!\w)(?!\s*:)/gi;
 // Pairs of sites and words, and one or two sites with a word.
 const PAIRS = /\(\s*(\w+)\s*,\s*(\w+)\s*\)\s*==?\s*\(\s*(\d+)\s*,\s*(\d+)\s*\)/g;
-const NOT_ALLOWED = /\b(?:(?:is|are)\s+)?not\s+(?:allowed|possible|permitted)\b/gi;
+const NOT_ALLOWED = /\b(?:(?:is|are)\s+)?not\s+(?:allowed|possible|permitted)\b|\b(?:should|must|can|may|does)\s*not\s+produce\b/gi;
+// What explains an answer, after it; and a question in parentheses, which explains the one before it.
+const EXPLANATION = /,?\s*\b(?:because|since|although|even\s+though|due\s+to)\b.*$/i;
+const ASIDE = /^\s*\(.*\?\s*\)\s*$/;
 const BOTH = /(?<!\w)([A-Za-z_]\w*)(?:\s+and\s+([A-Za-z_]\w*))?\s+(?:both\s+)?(?:be|equal)\s+(?=\d+\b)/gi;
+// Why lines are not read.
+const OF_INITIAL = "it is not sure what initial words it has, so write them as `Initially x = 0`";
+const OF_WORDS = "it may be an initial word or an outcome, so begin it with `Initially` or `Can`";
 // Names of registers and of what a thread has for itself.
 const OWN = /^(?:r\d*|reg\d*|t\d|te?mp\d*|e[abcd]x|local\w*)$/i;
 const REGISTER = /^(?:r|reg)\d*$|^e[abcd]x$/i;
@@ -107,32 +114,40 @@ function readInitial(lines, names) {
     const bare = typed.replace(INITIALLY, "").replace(/[.;]\s*$/, "");
     // A line without values is a title, or declares names that begin with 0.
     if (!/=|:=|<-|←/.test(bare)) {
-      if (OTHER_VALUE.test(typed.replace(/\[\d+\]/g, "")) && (SAYS_INITIAL.test(line) || hasName(line, names))) throw new Unread();
+      if (OTHER_VALUE.test(typed.replace(/\[\d+\]/g, "")) && (SAYS_INITIAL.test(line) || hasName(line, names))) throw makeDoubt(line, OF_INITIAL);
       continue;
     }
     // The word may be that of the last name only.
     if (!TYPED.test(line) && SET_LAST.test(bare)) throw new Unread(`\`${bare.trim()}\`: write the word of each name`);
     const code = toC(bare).replace(/==/g, "=").replace(TYPE, "").replace(/&&?|;|(?<=\w)\s+(?=\w)/g, ",");
     const entries = code.split(/,(?![^{[(]*[}\])])/).map((it) => it.trim()).filter(Boolean);
-    for (const entry of entries) readEntry(entry, words, TYPED.test(line) && !/\b0$/.test(entry));
+    for (const entry of entries) readEntry(entry, words, TYPED.test(line) && !/\b0$/.test(entry), line);
   }
   return words;
 }
 
 /** Adds the words of an entry, as `x = y = 0` or `flag[2] = {0, 0}`, to those of names. */
-function readEntry(entry, words, isTyped) {
+function readEntry(entry, words, isTyped, line) {
   const parts = entry.split("=").map((it) => it.trim());
   const last = parts.length > 1 ? parts.pop() : "0";
   const list = /^[{[(]([\d\s,]*)[}\])]$/.exec(last)?.[1].split(",").map((it) => it.trim()).filter(Boolean);
-  if (!list && !/^\d+$/.test(last)) throw new Unread();
+  if (!list && !/^\d+$/.test(last)) throw makeDoubt(line, OF_INITIAL);
   for (const part of parts) {
     const [, name, index] = /^\[?\s*_?([A-Za-z_]\w*)\s*\]?(?:\[(\d*)\])?$/.exec(part) ?? [];
-    if (!name) throw new Unread();
+    if (!name) throw makeDoubt(line, OF_INITIAL);
     const isElement = index && !list && entry.includes("=");
     // The word of an array that has a size may be that of each element.
     if (isElement && isTyped) throw new Unread(`\`${entry}\`: write the word of each element, as \`{1, 1}\``);
     words.set(isElement ? `${name}[${index}]` : name, list ?? last);
   }
+}
+
+/** Returns a test that asks for words that loads of it read, with a list of its other registers. */
+function listOthers(made) {
+  const [named] = /\(\*[^]*?\*\)/.exec(made) ?? [""];
+  const question = made.slice(made.search(/^exists/m));
+  const others = [...named.matchAll(/\b(\d:E[A-Z]{2}) is\b/g)].map(([, site]) => site).filter((it) => !question.includes(it));
+  return others.length ? made.replace(/^(?=exists)/m, `locations [${others.join("; ")}]\n`) : made;
 }
 
 /** Throws Unread if an initial word other than 0 is that of a name or an element which code does not have. */
@@ -155,7 +170,8 @@ function refuseOthers(after, asking, codes, own) {
   const locations = listNames(codes.join(" ")).filter((it) => !own.some((names) => names.includes(it)));
   const isStart = (it) => /\binit/i.test(it) || (OF_START.test(it) && OTHER_VALUE.test(it) && hasName(it, locations));
   const isWord = (it) => !ASKS_BELOW.test(it) && hasName(it, locations) && (it.search(ATOM) >= 0 || (SAYS_WORD.test(it) && OTHER_VALUE.test(it)));
-  if ([...asking, ...after].some(isStart) || after.some(isWord)) throw new Unread();
+  const unsure = [...asking, ...after].find(isStart) ?? after.find(isWord);
+  if (unsure) throw makeDoubt(unsure, OF_WORDS);
 }
 
 /**
@@ -167,7 +183,8 @@ function refuseConstants(codes, initial, before) {
   const declared = before.filter((it) => TYPED.test(it) || INITIALLY.test(it)).join("\n").replace(/[{(][^{}()]*[})]/g, "");
   const isSet = (it) => new RegExp(`(?<!\\w)${it}\\b\\s*(?:[+-]?=(?!=)|\\+\\+|\\.|->|\\[)|&${it}\\b`).test(code);
   const isGiven = (it) => initial.has(it) || /^(?:(?![TF]$)[A-Za-z]\d?|true|false)$/.test(it) || (!/^[A-Z]{2,}$/.test(it) && hasName(declared, [it]));
-  if (listNames(code).some((it) => !isGiven(it) && !isSet(it))) throw new Unread();
+  const constant = listNames(code).find((it) => !isGiven(it) && !isSet(it));
+  if (constant) throw makeDoubt(constant, "it may be a constant, so write its number, or its initial word, as `Initially x = 0`");
 }
 
 /**
@@ -191,7 +208,8 @@ function findOwnNames(codes, declared, initial) {
     return first < 0 || new RegExp(`^${name} = (?!${name}\\b|r\\d)[A-Za-z_]`).test(code.slice(first));
   };
   const names = [...new Set(codes.flatMap((code, thread) => listNames(code).filter((it) => !own[thread].includes(it))))];
-  if (names.some((it) => !initial.has(it) && codes.every((code) => isLoaded(it, code)))) throw new Unread();
+  const loaded = names.find((it) => !initial.has(it) && codes.every((code) => isLoaded(it, code)));
+  if (loaded) throw makeDoubt(loaded, "each thread sets it first, so it may be shared or each thread's own: write two names, or its initial word");
   return own;
 }
 
@@ -229,6 +247,8 @@ function readQuestion(lines, codes, own, first) {
   if (raw >= 0) return nameThreads(numberThreads(lines.slice(raw).join(" "), first), own);
   const asserted = lines.map((it) => /^\s*assert\b\s*([^;]*?)\s*;?\s*$/.exec(it)?.[1]).find(Boolean);
   if (asserted) return nameThreads(`forall (${negateSites(toCondition(asserted))})`, own);
+  const failing = lines.map((it) => /^\s*(?:BUG|WARN)_ON\s*(\(.*\))\s*;?\s*$/.exec(it)?.[1]).find(Boolean);
+  if (failing) return nameThreads(`~exists (${negateSites(toCondition(failing))})`, own);
   const sentence = findAsking(lines);
   if (!sentence || !isConjunction(sentence, names)) return "";
   const atoms = [...sentence.matchAll(ATOM)].flatMap(({ 1: sites, 2: word, index }) => sites.split(/\s*==?\s*/).map((it) => {
@@ -245,7 +265,7 @@ function readQuestion(lines, codes, own, first) {
 /** Returns the sentence of lines that asks of sites; undefined if there is none, or another one may ask, too. */
 function findAsking(lines) {
   const joined = lines.join("\n").replace(/\n\s*(?=(?:and|or|with|while|when|but|then|if)\b)|(?<=[,:]|\b(?:and|or|if|can|with))\s*\n/gi, " ");
-  const sentences = joined.split(/(?<=[?.])\s+|\n/).map(writeEquations).filter((it) => it.search(ATOM) >= 0);
+  const sentences = joined.split(/(?<=[?.])\s+|\n/).map((it) => writeEquations(it.replace(EXPLANATION, ""))).filter((it) => it.search(ATOM) >= 0);
   const asking = sentences.filter((it) => it.includes("?"));
   const chosen = (asking.length ? asking : sentences).filter((it) => !FOLLOWS.test(it));
   return chosen.length === 1 ? chosen[0] : undefined;
@@ -334,12 +354,14 @@ function writeProgram({ before, threads, after, first }, isEntry) {
   for (const [at, writer] of writers.entries()) writer.isBranched ||= codes[at] !== whole[at];
   const section = askOfSections(writers);
   const written = codes.map((it) => dropUnasked(it, section));
-  const asking = before.filter((it) => ASKS.test(it));
-  const initial = readInitial(before.filter((it) => !asking.includes(it)), listNames(codes.join(" ")));
+  const questions = before.filter((it) => ASKS.test(it));
+  const isAside = (it) => ASIDE.test(it) && questions.some((other) => !ASIDE.test(other) && other.search(ATOM) >= 0);
+  const asking = questions.filter((it) => !isAside(it));
+  const initial = readInitial(before.filter((it) => !questions.includes(it)), listNames(codes.join(" ")));
   refuseUnused(initial, codes.join(" "));
   refuseConstants(written, initial, before);
   const own = findOwnNames(written, writers.map((it) => it.declared), initial);
-  if (hasOutcome(written, own)) throw new Unread();
+  if (hasOutcome(written, own)) throw new Doubt(`a number that a register gets: ${OF_OUTCOME}`);
   refuseOthers(after, asking, written, own);
   const started = written.map((code, thread) => `${setOwnNames(own, thread, initial)}${code}`);
   const asked = readQuestion([...after, ...asking], written, own, first);
@@ -347,11 +369,13 @@ function writeProgram({ before, threads, after, first }, isEntry) {
   const isLocal = (name) => own.filter((names) => names.includes(name)).length > 1;
   const declare = (names) => names.map((it) => `int ${it}; `).join("");
   const bodies = started.map((code, thread) => `void P${thread}(void) { ${declare(own[thread].filter(isLocal))}${code} }\n`);
-  const question = asked || nameThreads(section, own);
+  const reads = writers.flatMap((it) => it.reads);
+  const read = reads.length ? nameThreads(`exists (${reads.join(" /\\ ")})`, own) : "";
+  const question = asked || nameThreads(section, own) || read;
   const outside = `${declareShared(written, own, initial)} ${declare(own.flat().filter((it) => !isLocal(it)))}\n`;
   const isEndless = writers.some((it) => it.isEndless);
   const hasEntry = !isEntry && whole.some((it) => enterAtOnce(it) !== it);
-  return { program: `${outside}${bodies.join("")}${question && `// lw: ${question}\n`}`, section, asked, isEndless, hasEntry };
+  return { program: `${outside}${bodies.join("")}${question && `// lw: ${question}\n`}`, section, asked, isReading: question !== "" && question === read, isEndless, hasEntry };
 }
 
 /** Returns what sets the names of one thread's own to initial words other than 0. Throws Unread if another thread has such a name, too. */
@@ -369,7 +393,7 @@ function setOwnNames(own, thread, initial) {
  */
 export function explainPseudoProgram(text) {
   const test = rewritePseudoProgram(text);
-  if (!test) return null;
+  if (!test || test.isDoubt) return null;
   const why = test.why?.replace(/\. `tools.*/, "");
   if (why) return { words: `This is pseudo code, and the page can't make a test of it because of ${why}.`, change: null, isCall: test.isCall };
   const passes = `${test.isEndless ? OF_ENDLESS : ""}${test.isEntry ? OF_ENTRY : ""}`;
@@ -383,9 +407,19 @@ export function explainPseudoProgram(text) {
 }
 
 /**
+ * Returns a sentence that says which part of a text that looks like pseudo code is not sure, and why; or "".
+ * @param {string} text
+ * @returns {string}
+ */
+export function explainDoubt(text) {
+  const test = rewritePseudoProgram(text);
+  return test?.isDoubt ? `This looks like pseudo code, and the page can't make a test of it because of ${test.why}.` : "";
+}
+
+/**
  * Returns the x86 test of pseudo code, as `rewriteProgram` does, with the question of its critical sections (`section`) and its own (`asked`), each "" if
  * there is none, whether one pass is in place of an endless loop (`isEndless`), whether it has only the entries of critical sections (`isEntry`), and a
- * sentence on the threads (`said`). If a part is not read for a reason (`isUnread`), it has only that, `why`. Returns null if a text is something else.
+ * sentence on the threads (`said`). If a part is not read for a reason (`isUnread`), it has only that, `why`, and whether it is a doubt (`isDoubt`). Returns null if a text is something else.
  * @param {string} text
  * @returns {object | null}
  */
@@ -397,18 +431,20 @@ export function rewritePseudoProgram(text) {
 /** Rewrites a text, as `rewritePseudoProgram` does for a text that is not the last one. */
 function rewriteText(text) {
   const processes = writeProcesses(text);
-  const read = readPseudoText(processes?.text ?? text);
-  if (!read) return null;
-  const rewrite = (isEntry) => {
+  const rewrite = (read, isEntry) => {
     const { program, ...asks } = writeProgram(read, isEntry);
     const test = rewriteProgram(program, asks.section && !asks.asked ? `${IN_SECTION}${isEntry ? AT_FIRST : ""}` : "");
-    return { ...test, ...asks, program, isEntry, isUnread: false, said: processes?.words ?? "" };
+    const made = test.made && asks.isReading ? listOthers(test.made) : test.made;
+    return { ...test, made, ...asks, program, isEntry, isUnread: false, said: processes?.words ?? "" };
   };
   try {
-    const test = rewrite(false);
-    const entry = test.made || !test.hasEntry ? test : rewrite(true);
+    const read = findPseudoThreads(processes?.text ?? text);
+    if (!read) return null;
+    const test = rewrite(read, false);
+    const entry = test.made || !test.hasEntry ? test : rewrite(read, true);
     return entry.made ? entry : test;
   } catch (error) {
+    if (error instanceof Doubt) return { why: error.message, isUnread: true, isDoubt: true };
     if (error instanceof Unread) return error.message ? { why: error.message, isUnread: true, isCall: error.isCall } : null;
     throw error;
   }

@@ -2,6 +2,7 @@
 //
 // A `Line` is that of pseudo_lines.js.
 
+import { doubtStatement, makeDoubt } from "./pseudo_doubts.js";
 import { alignSections, CRITICAL, unwrapEndless } from "./pseudo_loops.js";
 
 // Operators and constants of pseudo code, and those of C. A negation in words is that of a whole comparison.
@@ -58,6 +59,8 @@ const COMPARED_CAS = new RegExp(
   `${CALL_OF_CAS}\\s*(?:[=!]?=|<>|≠)\\s*(?!true|false)\\w+|\\w+\\s*(?::=|<-|\u2190|[=!]?=|<>|≠)\\s*${CALL_OF_CAS}`, "i",
 );
 const BUILTIN = /^(?:\w+ ?=(?!=) ?)?__sync_\w+\(&\w+(?:, \w+)*\)$/;
+const FAILS_IF = /^(?:BUG|WARN)_ON(?:_ONCE)?\s*(\(.+\))$/;
+const REMARK = /(?<=\w)\s*\((?:reads|sees|observes|yields)\s+(\d+)\)$/i;
 const UNKNOWN_CALL = /^[A-Za-z_]\w*\s*\(\s*\)$/;
 const LOCK = /^(un)?lock\s*\(\s*&?(\w+)\s*\)$|^(?:acquire|(release))\s*\(\s*&?(\w+)\s*\)$/i;
 // Names of the C code that pseudo code can't have.
@@ -112,6 +115,15 @@ function convertBlocks(lines) {
   return inner.map((it) => ({ ...it, code: it.code.replace(/^end\b\s*;?(?=\s*(?:else\b|$))/i, "}").replace(BEGIN, "$1{") }));
 }
 
+/** Returns what a function writes of code. Where that is not read and the function gives no reason, it throws a doubt that names the code. */
+function naming(code, write) {
+  try {
+    return write();
+  } catch (error) {
+    throw error instanceof Unread && !error.message ? doubtStatement(code) : error;
+  }
+}
+
 /** Writes the statements of a thread in C. What is not read throws Unread. */
 export class StatementWriter {
   /** `written` are the lines of the thread with this `number`. */
@@ -122,15 +134,15 @@ export class StatementWriter {
     // whether a critical section is in one. `declared` has the names that the thread declares.
     // `branch` is the indentation of the `if` before the present statement. `isEndless` is set if one pass is in place of an endless loop.
     Object.assign(this, { isEndless: unwrapped !== null, loaded: 0 });
-    Object.assign(this, { lines, number, at: 0, printed: 0, depth: 0, branch: -1, isHead: false, declared: new Set() });
+    Object.assign(this, { lines, number, at: 0, printed: 0, depth: 0, branch: -1, isHead: false, declared: new Set(), reads: [] });
     Object.assign(this, { hasSection: false, isBranched: false, isAfterSection: false });
     this.hasBraces = lines.some((it) => /[{}]/.test(it.code.replace(/\{\s*\}/g, "")));
   }
 
   /** Returns the statements of the thread. */
   writeThread() {
-    const written = this.hasBraces ? this.lines.map((it) => this.writeBraced(it.code)) : this.writeBlock(0);
-    if (this.at < this.lines.length && !this.hasBraces) throw new Unread();
+    const written = this.hasBraces ? this.lines.map((it) => naming(it.code, () => this.writeBraced(it.code))) : this.writeBlock(0);
+    if (this.at < this.lines.length && !this.hasBraces) throw doubtStatement(this.lines[this.at].code);
     return written.join(" ");
   }
 
@@ -171,7 +183,9 @@ export class StatementWriter {
   /** Returns the statements of the lines from the present one on that are indented at least as far as it. */
   writeBlock(indent) {
     const written = [];
-    while (this.at < this.lines.length && this.lines[this.at].indent >= indent) written.push(this.writeStatement());
+    while (this.at < this.lines.length && this.lines[this.at].indent >= indent) {
+      written.push(naming(this.lines[this.at].code, () => this.writeStatement()));
+    }
     return written;
   }
 
@@ -254,6 +268,8 @@ export class StatementWriter {
 
   /** Returns a statement. Throws Unread if it is something else. */
   writeSimple(code) {
+    const [remark, found] = REMARK.exec(code) ?? [];
+    if (remark) return this.writeReading(code.slice(0, -remark.length), found);
     if (NOTHING.test(code)) return "";
     if (CRITICAL.test(code)) return this.writeSection();
     const fence = FENCES.find(([pattern]) => pattern.test(code));
@@ -267,6 +283,8 @@ export class StatementWriter {
     if (read) return `loaded${this.number}${(this.loaded += 1) > 1 ? `_${this.loaded}` : ""} = ${read};`;
     const [, asserted] = /^assert\b\s*(.+)$/i.exec(code) ?? [];
     if (asserted) return `assert(${toCondition(asserted)});`;
+    const [, failing] = FAILS_IF.exec(code) ?? [];
+    if (failing) return `assert(!(${toCondition(failing)}));`;
     const [locked, isUnlocked, mutex, isReleased, other = mutex] = LOCK.exec(code) ?? [];
     if (locked) return `pthread_mutex_${isUnlocked || isReleased ? "unlock" : "lock"}(&${other});`;
     const [, counted] = /^([A-Za-z_]\w*)\s*\+\+$/.exec(code) ?? [];
@@ -280,9 +298,18 @@ export class StatementWriter {
     return writeAssignment(bare.replace(/^(?:store|write)\s+(?=\w+\s*(?::=|<-|←|=))/i, ""));
   }
 
+  /** Returns a load of a word, which is one that the text asks for. Throws Unread if it is something else, or the register is set twice. */
+  writeReading(code, word) {
+    const written = this.writeSimple(code);
+    const [, register] = /^(\w+) = [A-Za-z_][\w[\]]*;$/.exec(written) ?? [];
+    if (!register || this.reads.some((it) => it.startsWith(`${register}=`))) throw new Unread();
+    this.reads.push(`${register}=${word}`);
+    return written;
+  }
+
   /** Returns a critical section: it sets a variable, and adds to a location, which is lost if another thread is there. Throws Unread for a second. */
   writeSection() {
-    if (this.hasSection) throw new Unread();
+    if (this.hasSection) throw makeDoubt("critical section", "a thread has one here");
     this.hasSection = true;
     this.isBranched ||= this.depth > 0 || this.isHead;
     return `inside${this.number} = 1; critical++;`;

@@ -21,7 +21,7 @@ const ENTRY =
   " A loop that stores before its critical section is no single pass, so a thread that would begin one ends there: what this test finds can happen, but " +
   "runs with such passes are left out.";
 const GUESS = " The question is a guess: change it to yours.";
-const UNREAD = /is not expected here\. A test is `SRC` or `X86` and a name,|A test begins with `SRC` or `X86`\./;
+const UNREAD = /^This looks like pseudo code, and the page can't make a test of it because of .+\.$|is not expected here\. A test is `SRC` or `X86` and a name,|A test begins with `SRC` or `X86`\./;
 
 // A text, the words on it, and the test that is made of it, or null.
 const TEXTS = [
