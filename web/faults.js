@@ -12,7 +12,7 @@ import { findNearest } from "./nearest.js";
 import { CONSTANT, findRewriting, NEGATIVE, rewriteWhole } from "./notation.js";
 import { convertRegister, explainCode, explainOtherFirstWord, isAllIn, parseCells } from "./other_language.js";
 import { explainComment, explainMissingFront, findOtherLanguage, isRead } from "./other_tools.js";
-import { explainPaperTable } from "./paper_tables.js";
+import { explainPaperTable, explainTableDoubt } from "./paper_tables.js";
 import { explainPseudoCode } from "./pseudo_code.js";
 import { explainDoubt, explainPseudoProgram } from "./pseudo_program.js";
 import { explainRaggedRows } from "./ragged.js";
@@ -430,6 +430,7 @@ const SENTENCES = {
     "The text ends too early. The last row may lack its `;`, a comment its `*)`, or the test its question, as `exists (x=1)`.",
   "text Unexpected": (place) =>
     explainAssembly(place) ||
+    explainTableDoubt(place.text) ||
     explainDoubt(place.text) ||
     explainComment(place) ||
     explainOpenBlock(place) ||

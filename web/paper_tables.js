@@ -4,6 +4,7 @@
 import { alignCells } from "./aligned.js";
 import { numberThreads } from "./assembly.js";
 import { guessQuestion } from "./assembly_question.js";
+import { describeUnset } from "./assembly_test.js";
 import { makeBlock } from "./initial_values.js";
 import { isRead } from "./other_tools.js";
 import { readTest } from "./tests.js";
@@ -17,6 +18,7 @@ const TEST = /^\s*(?:X86|SRC)\b|^[ \t]*P0[ \t]*\|(?!\|)[^;\n]*;/m;
 const VERDICTS = /allow|forbid|possible|observ|permit/gi;
 const KIND = "(?:proc(?:ess(?:or)?)?|thread|cpu|core|P|T)";
 const NAME = new RegExp(`^${KIND}[ _:#]*(\\d)\\s*:?$`, "i");
+const THREAD = new RegExp(`^\\s*${KIND}[ _#]*(\\d)\\s*:(?!=)\\s*(\\S.*)$`, "i");
 const RULE = /^[\s=+|:-]*$/;
 const BARS = /\|{1,2}|[\u2502\u2016\u2225]/;
 // A number before an instruction, and the event that one is.
@@ -52,6 +54,12 @@ const ASKING = new RegExp(
 );
 const QUESTION = /^(?:~\s*)?(?:exists|forall)\b/;
 const OF_TABLE = "This is a table of instructions, as papers print it: `MOV [x] \u2190 1` is `MOV [x],$1` here.";
+const LONGEST_LINE = 48;
+// What a row of instructions has, and why lines are not read.
+const INSTRUCTION = /\b(?:mov|add|sub|inc|dec|cmp|xchg|xadd|lock|[mls]fence|j[a-z]{1,2})[lq]?\b/i;
+const OF_INSTRUCTIONS = "in such a row only `MOV`, `XCHG` and `MFENCE` on names and on registers of 32 bits are read";
+const OF_STATES = "it is no final state for sure, as `0:EAX=0 \u2227 1:EBX=0` is";
+const OF_FRONT = "the lines before it: write initial words as `Initially x = 1`";
 const OF_GUESS = " The question is a guess: change it to yours.";
 
 /** Returns an instruction of lw for a cell; "" for an empty one, and null if it is something else. */
@@ -141,29 +149,70 @@ function readFront(lines) {
   return { name: titles.length === 1 && /^[A-Za-z]\w*$/.test(titles[0]) ? titles[0] : "Mine", block };
 }
 
-/** Returns the test of a table, and whether its question is a guess; null if a text is something else. */
-function makeTable(text) {
-  const lines = text.replace(/\r|\u00a0/g, (it) => (it === "\r" ? "" : " ")).split("\n").filter((it) => it.trim() && !RULE.test(it));
+/** Returns the code of each thread of a table, the number of the first one, and the indices of the lines at which it begins and ends; null if it has none. */
+function readTable(lines) {
   const at = lines.findIndex(readNames);
   const names = at < 0 ? null : readNames(lines[at]);
   if (!names) return null;
   const rows = lines.slice(at + 1).map((it) => readRow(it, names)?.map(writeInstruction) ?? [null]);
   const found = rows.findIndex((it) => it.includes(null));
-  const end = found < 0 ? rows.length : found;
-  const codes = Array.from({ length: names.count }, (_, thread) => rows.slice(0, end).map((it) => it[thread]).filter(Boolean));
-  if (codes.some((it) => !it.length)) return null;
-  const after = lines.slice(at + 1 + end).map((it) => it.trim());
+  const length = found < 0 ? rows.length : found;
+  const codes = Array.from({ length: names.count }, (_, thread) => rows.slice(0, length).map((it) => it[thread]).filter(Boolean));
+  return { codes, first: names.first, begin: at, end: at + 1 + length };
+}
+
+/** Returns the same of lines that each have the name of a thread and its code. */
+function readThreads(lines) {
+  const threads = lines.map((it) => THREAD.exec(it));
+  const begin = threads.findIndex(Boolean);
+  const found = begin < 0 ? 0 : threads.findIndex((it, at) => at > begin && !it);
+  const own = begin < 0 ? [] : threads.slice(begin, found < 0 ? undefined : found);
+  const codes = own.map(([, , code]) => code.split(";").map(writeInstruction).filter((it) => it !== ""));
+  const first = Number(own[0]?.[1] ?? 2);
+  const isSure = own.length > 1 && own.length <= MAX_THREADS && first <= 1 && own.every(([, number], at) => Number(number) === first + at);
+  return isSure && !codes.flat().includes(null) ? { codes, first, begin, end: begin + own.length } : null;
+}
+
+/**
+ * Returns the test of a table (`made`), whether its question is a guess, and what is said of its registers; or `why` it is none, if its first rows are
+ * instructions; or null if a text is something else.
+ */
+function makeTable(text) {
+  const lines = text.replace(/\r|\u00a0/g, (it) => (it === "\r" ? "" : " ")).split("\n").filter((it) => it.trim() && !RULE.test(it));
+  const { codes, first, begin, end } = readTable(lines) ?? readThreads(lines) ?? { codes: [[]] };
+  if (codes.some((it) => !it.length)) return codes.flat().length ? { why: doubtRest(lines[end]) } : null;
+  const after = lines.slice(end).map((it) => it.trim());
   const isInitial = (it) => /^initial/i.test(it);
-  const front = readFront([...lines.slice(0, at).map((it) => it.trim()), ...after.filter(isInitial)]);
+  const front = readFront([...lines.slice(0, begin).map((it) => it.trim()), ...after.filter(isInitial)]);
   const asked = after.filter((it) => !isInitial(it));
-  const question = asked.length === 1 ? writeQuestion(asked[0], codes, names.first) : "";
-  if (!front || asked.length > 1 || question === null) return null;
+  const question = asked.length === 1 ? writeQuestion(asked[0], codes, first) : "";
+  if (asked.length > 1 || question === null) return { why: doubtRest(asked[0]) };
+  // Names from 1 on may be those of initial registers, too.
+  if (!front || (first && /\d\s*:/.test(front.block))) return { why: OF_FRONT };
   const heads = codes.map((_, thread) => `P${thread}`);
   const table = Array.from({ length: Math.max(...codes.map((it) => it.length)) }, (_, row) => codes.map((it) => it[row] ?? ""));
   const bare = `X86 ${front.name}\n${front.block}\n${[heads, ...table].map((it) => ` ${it.join(" | ")} ;\n`).join("")}`;
   if (!isRead(`${bare}exists (true)\n`)) return null;
   const made = `${bare}${question || (guessQuestion(readTest(`${bare}exists (true)\n`))?.trim() ?? "exists (true)")}\n`;
-  return isRead(made) ? { made: alignCells(made), isGuess: !question } : null;
+  const unset = /\d:/.test(front.block) ? "" : describeUnset(codes);
+  return isRead(made) ? { made: alignCells(made), isGuess: !question, unset: unset ? ` ${unset}` : "" } : { why: OF_FRONT };
+}
+
+/** Returns why a line after the rows of a table is not read. */
+function doubtRest(line = "") {
+  const code = line.trim().replace(/\s+/g, " ").replaceAll("`", "'");
+  const why = INSTRUCTION.test(code) ? OF_INSTRUCTIONS : OF_STATES;
+  return code ? `\`${code.length > LONGEST_LINE ? `${code.slice(0, LONGEST_LINE - 2)}..` : code}\`: ${why}` : "a thread without instructions";
+}
+
+/**
+ * Returns a sentence that says what of a table of instructions is not read; or "".
+ * @param {string} text
+ * @returns {string}
+ */
+export function explainTableDoubt(text) {
+  const table = text.length > LONGEST || TEST.test(text) ? null : makeTable(text);
+  return table?.why ? `This looks like a table of instructions, and the page can't make a test of it because of ${table.why}.` : "";
 }
 
 /**
@@ -173,7 +222,7 @@ function makeTable(text) {
  */
 export function explainPaperTable(text) {
   const table = text.length > LONGEST || TEST.test(text) ? null : makeTable(text);
-  if (!table) return null;
+  if (!table?.made) return null;
   const change = { begin: 0, end: text.length, text: table.made, title: "Make x86 code of it", done: "Rewritten." };
-  return { words: `${OF_TABLE}${table.isGuess ? OF_GUESS : ""}`, change, isOffer: true };
+  return { words: `${OF_TABLE}${table.unset}${table.isGuess ? OF_GUESS : ""}`, change, isOffer: true };
 }

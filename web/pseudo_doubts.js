@@ -13,7 +13,8 @@ const REASONS = [
   [/^(?:\/\/|#|--)/, "it may be a fence or a comment, so write `mfence` for a fence"],
   [/^\{.*\}$|^[A-Z]\w*:/, "it may be initial words or an outcome, so begin it with `Initially` or `Can`"],
   [/^[A-Za-z_][\w.]*\s*\(.*\)\s*;?$/, "write what it does to the names that threads share"],
-  [/\[\s*[A-Za-z_]\w*\s*\]/, "the index of an array is a number here"],
+  [/^(?:lock\s+)?(?:mov|add|sub|inc|dec|cmp|xchg|xadd)[lq]?\s/i, "it is no instruction that is read here, as `mov [x], 1`, `mov r1, [x]` and `mfence` are"],
+  [/\w\[\s*[A-Za-z_]\w*\s*\]/, "the index of an array is a number here"],
 ];
 const OF_STATEMENTS = "it is no statement that is read here, as `x = 1`, `r1 = x`, `if (r1 == 1)`, `while (x == 0)` and `mfence` are";
 

@@ -79,8 +79,8 @@ const LABEL = new RegExp(
   "i",
 );
 // How a line begins or ends that asks, or says what is allowed.
-const ASKING = "can|could|is|may|might|what|question|outcomes?|result|finally|final|forbidden|allowed|exists|forall|assert|(?:bug|warn)_on|on|does|should|must|post-?condition|at the end";
-const ASSERTS = /^\s*(?:assert|BUG_ON|WARN_ON)\b/i;
+const ASKING = "can|could|is|may|might|what|question|outcomes?|result|finally|final|forbidden|allowed|exists|forall|assert|(?:bug|warn)_on(?:_once)?|on|does|should|must|post-?condition|at the end";
+const ASSERTS = /^\s*(?:assert|(?:BUG|WARN)_ON(?:_ONCE)?)\b/i;
 const ASKS = new RegExp(
   `^\\(?\\s*(?:~\\s*)?(?:${ASKING})\\b(?!\\s*(?::?=(?!=)|<-|\u2190|[+[.-]))|\\?\\s*\\)?$|` +
     "^(?:both|all|neither|either|here|note)\\b.*\\b(?:may|can|must|will|are|is)\\b|\\b(?:allowed|possible|forbidden|impossible|cannot|can't)\\b", "i",
@@ -99,7 +99,7 @@ function expandTabs(line) {
 
 /** Returns the lines of a text; those of a table of Markdown without its frame. Bold words are plain, and a sentence after initial words has its own line. */
 function splitLines(text) {
-  const plain = text.replace(/^([ \t]*)\*\*([^*\n]+)\*\*/gm, "$1$2").replace(/^([ \t]*initially\b[^.?\n]*\.)[ \t]+(?=[A-Z])/gim, "$1\n");
+  const plain = text.replace(/^([ \t]*)\*\*([^*\n]+)\*\*/gm, "$1$2").replace(/^([ \t]*initially\b[^.?\n]*\.)[ \t]+(?=(?:is|are|can|could|may|might|does|what)\b[^\n]*\?)/gim, "$1\n");
   const lines = plain.split("\n").filter((it) => it.trim() && !/^\s*```/.test(it));
   const isFramed = lines.every((it) => !it.includes("|") || /^\s*\|(?!\|)/.test(it));
   return lines.map((it) => expandTabs(isFramed ? it.replace(/^\s*\||\|\s*$|`/g, "") : it));
@@ -229,7 +229,7 @@ function findEnd(lines, isCode) {
 
 /** Returns whether an assertion at the margin may be one of the thread above it, and not of the whole: no line is blank above it, and it names more than registers. */
 function isUnsureAssertion(line, apart) {
-  const names = line.replace(/\b(?:assert|BUG_ON|WARN_ON|and|or|not|true|false)\b/gi, " ").match(/[A-Za-z_]\w*/g) ?? [];
+  const names = line.replace(/\b(?:assert|(?:BUG|WARN)_ON(?:_ONCE)?|and|or|not|true|false)\b/gi, " ").match(/[A-Za-z_]\w*/g) ?? [];
   return !apart.has(line) && !names.every((it) => /^r\w?\d$|^r\d+$/i.test(it));
 }
 
@@ -404,7 +404,9 @@ export function findPseudoThreads(text) {
   const read = readBraced(blanked) ?? readLines();
   const commented = [...text.matchAll(INITIAL_COMMENT)].map(([, words]) => words);
   read?.before.push(...commented);
-  if (!read || read.threads.length < 2) return null;
+  // One thread has a name by a whole word with a number, in its own line, and no blank line that may begin another thread.
+  const isAlone = read?.threads.length === 1 && !/\n\s*\n/.test(text.trim()) && lines.some((it) => LONG_NAME.test(it) && ONLY_NAME.exec(it.trim())?.[1]);
+  if (!read || (read.threads.length < 2 && !isAlone)) return null;
   refuseUnsure(read);
   return read;
 }

@@ -55,7 +55,7 @@ const SIGNS = /^(?:[\s,.;:?()"'`“”]|\/\\|∧|&&?|\{|\}|\[|\])*$/;
 const CONDITIONAL = /\b(?:if|when|while)\b/i;
 const POSSIBLE = /\b(?:can|could|may|might|possible|allowed|happens?|occurs?|ever)\b/i;
 const ASKS_BELOW = new RegExp(
-  "\\?|\\b(?:can|could|may|might|must|will|what|question|outcomes?|results?|final|finally|forbidden|allowed|possible|impossible|cannot|should|exists|forall|assert|bug_on|warn_on)\\b",
+  "\\?|\\b(?:can|could|may|might|must|will|what|question|outcomes?|results?|final|finally|forbidden|allowed|possible|impossible|cannot|should|exists|forall|assert|(?:bug|warn)_on(?:_once)?)\\b",
   "i",
 );
 const SAYS_WORD = /\b(?:is|are|holds?|has|have)\b|=/i;
@@ -71,6 +71,9 @@ const NOT_ALLOWED = /\b(?:(?:is|are)\s+)?not\s+(?:allowed|possible|permitted)\b|
 const EXPLANATION = /,?\s*\b(?:because|since|although|even\s+though|due\s+to)\b.*$/i;
 const ASIDE = /^\s*\(.*\?\s*\)\s*$/;
 const BOTH = /(?<!\w)([A-Za-z_]\w*)(?:\s+and\s+([A-Za-z_]\w*))?\s+(?:both\s+)?(?:be|equal)\s+(?=\d+\b)/gi;
+// Code of any number of threads has a loop, and elements of arrays that are those of a thread and of another one.
+const OF_ANY_NUMBER = [/\bfor\b/, /\[\s*i\s*\]/, /\[\s*(?:j|k)\s*\]/, /(?::?=|<-|\u2190)/];
+const IS_ANY_NUMBER = "This looks like code of any number of threads: write out that of two, each below its name, as `P0:`.";
 // Why lines are not read.
 const OF_INITIAL = "it is not sure what initial words it has, so write them as `Initially x = 0`";
 const OF_WORDS = "it may be an initial word or an outcome, so begin it with `Initially` or `Can`";
@@ -202,6 +205,9 @@ function findOwnNames(codes, declared, initial) {
     if (OWN.test(name)) return codes.every((it) => !has(it, name) || isSet(name, it));
     return isSet(name, code, "[A-Za-z_]") && !isElsewhere(name, thread) && !initial.has(name);
   };
+  const isOther = (name, code) => REGISTER.test(name) && !initial.has(name) && !isSet(name, code) && codes.some((it) => isSet(name, it, "[A-Za-z_]"));
+  const other = codes.flatMap((code) => listNames(code).filter((it) => isOther(it, code)))[0];
+  if (other) throw makeDoubt(other, "a thread has it, and another one sets it, so ask for it below the threads, or write a name that is shared");
   const own = codes.map((code, thread) => [...new Set(listNames(code))].filter((name) => isOwn(name, code, thread)));
   const isLoaded = (name, code) => {
     const first = code.search(new RegExp(`(?<!\\w)${name}\\b`));
@@ -247,7 +253,7 @@ function readQuestion(lines, codes, own, first) {
   if (raw >= 0) return nameThreads(numberThreads(lines.slice(raw).join(" "), first), own);
   const asserted = lines.map((it) => /^\s*assert\b\s*([^;]*?)\s*;?\s*$/.exec(it)?.[1]).find(Boolean);
   if (asserted) return nameThreads(`forall (${negateSites(toCondition(asserted))})`, own);
-  const failing = lines.map((it) => /^\s*(?:BUG|WARN)_ON\s*(\(.*\))\s*;?\s*$/.exec(it)?.[1]).find(Boolean);
+  const failing = lines.map((it) => /^\s*(?:BUG|WARN)_ON(?:_ONCE)?\s*(\(.*\))\s*;?\s*$/.exec(it)?.[1]).find(Boolean);
   if (failing) return nameThreads(`~exists (${negateSites(toCondition(failing))})`, own);
   const sentence = findAsking(lines);
   if (!sentence || !isConjunction(sentence, names)) return "";
@@ -413,6 +419,7 @@ export function explainPseudoProgram(text) {
  */
 export function explainDoubt(text) {
   const test = rewritePseudoProgram(text);
+  if (!test && OF_ANY_NUMBER.every((it) => it.test(text))) return IS_ANY_NUMBER;
   return test?.isDoubt ? `This looks like pseudo code, and the page can't make a test of it because of ${test.why}.` : "";
 }
 

@@ -21,6 +21,7 @@ import { compareCPrograms } from "./c_programs.mjs";
 import { compareChangedPrograms } from "./changed_programs.mjs";
 import { compareConvertedPrograms } from "./converted_programs.mjs";
 import { comparePhrases } from "./phrases.mjs";
+import { comparePaperTexts } from "./paper_texts.mjs";
 import { comparePseudoTexts } from "./pseudo_texts.mjs";
 import { compareProgramsInTerms } from "./programs_in_terms.mjs";
 import { compareRustPrograms } from "./rust_programs.mjs";
@@ -1179,6 +1180,7 @@ async function main() {
   compareSourceHints(page, program, tally);
   await compareCPrograms((...compared) => tally.compare(...compared));
   await compareAssemblyTexts((...compared) => tally.compare(...compared));
+  await comparePaperTexts((...compared) => tally.compare(...compared));
   await comparePseudoTexts((...compared) => tally.compare(...compared));
   await compareRustPrograms((...compared) => tally.compare(...compared));
   await comparePhrases((...compared) => tally.compare(...compared));
