@@ -7,6 +7,7 @@
 
 import { alignCells } from "./aligned.js";
 import { nameAddresses } from "./assembly_addresses.js";
+import { blankPrompts, describeNegative, dropHash } from "./assembly_origins.js";
 import { findLocations, formatList, guessQuestion, REGISTER } from "./assembly_question.js";
 import { readBlocks, rewriteReturns } from "./assembly_reader.js";
 import { describeUnset, limitTest, lowerText } from "./assembly_test.js";
@@ -21,6 +22,9 @@ import { isReserved, WORD } from "./token_reader.js";
 import { leaveAllLoops } from "./waiting.js";
 
 const MAX_THREADS = 4;
+// The end of a function, and a line with a label.
+const RETURN = /^(?:rep\s+|bnd\s+)?retq?$/i;
+const LABELLED = /^[.\w$@]+:/;
 // The letters of the longest name of lw.
 const MAX_NAME = 32;
 // More functions than these are not named one by one.
@@ -94,12 +98,19 @@ export function formatNames(words) {
   return words.length === 1 ? words[0] : `${words.slice(0, -1).join(", ")} and ${words.at(-1)}`;
 }
 
-/** Returns the lines of threads that a blank line separates; one, if there are too many, or if a jump would leave its thread. */
+/** Returns whether a line is the end of a function, and the next one has code that no jump reaches. */
+function endsFunction(lines, at) {
+  return RETURN.test(lines[at].code) && Boolean(lines[at + 1]?.code) && !LABELLED.test(lines[at + 1].code);
+}
+
+/**
+ * Returns the lines of threads that a blank line or the end of a function separates; one, if there are too many, or if a jump would leave its thread.
+ */
 function splitAtBlankLines(lines) {
   const threads = [[]];
-  for (const line of lines) {
+  for (const [at, line] of lines.entries()) {
     if (line.code) threads.at(-1).push(line);
-    else if (threads.at(-1).length) threads.push([]);
+    if ((!line.code && threads.at(-1).length) || endsFunction(lines, at)) threads.push([]);
   }
   const filled = threads.filter((it) => it.length);
   const isLeft = (thread) => {
@@ -130,7 +141,8 @@ function readThreads(text) {
   const variables = others.filter((it) => it.words.length);
   if (!blocks.length || hasCode(front)) {
     const threads = all.length ? [front, ...all].filter(hasCode).map((it) => it.lines) : splitAtBlankLines(front.lines);
-    return { threads, names: all.map((it) => it.name), first: 0, leftOut: [], variables };
+    const isByReturn = front.lines.some((_, at) => endsFunction(front.lines, at));
+    return { threads, isByReturn, names: all.map((it) => it.name), first: 0, leftOut: [], variables };
   }
   const first = areNumbered(blocks, 1) ? 1 : 0;
   const sorted = first || areNumbered(blocks, 0) ? [...blocks].sort((one, other) => one.number - other.number) : blocks;
@@ -139,7 +151,7 @@ function readThreads(text) {
 
 /** Returns the name of the location of a variable, or of the part of it that begins so many bytes after its begin. */
 function formatLocation(variable, offset) {
-  const name = variable.replace(/\W/g, "_") + (Number(offset) ? `_${Number(offset)}` : "");
+  const name = dropHash(variable).replace(/\W/g, "_") + (Number(offset) ? `_${Number(offset)}` : "");
   // The end of a long name says more than its begin.
   return isReserved(name) ? `${name}_` : name.length > MAX_NAME ? `_${name.slice(1 - MAX_NAME)}` : name;
 }
@@ -268,11 +280,11 @@ export function numberThreads(question, first) {
 }
 
 /** Returns what is said of the threads of a text of instructions. */
-function describeThreads({ threads, names, first, leftOut, front, isDisassembly }, locations) {
+function describeThreads({ threads, names, first, leftOut, front, isDisassembly, isByReturn }, locations) {
   const renamed = [...locations].filter(([from, to]) => from !== to);
   const others = leftOut.length > MAX_NAMED ? [`\`${leftOut[0]}\``, `${leftOut.length - 1} other functions`] : leftOut.map((it) => `\`${it}\``);
   return [
-    threads.length > 1 && !names.length && "A blank line begins the next thread.",
+    threads.length > 1 && !names.length && (isByReturn ? "What follows a `ret` is the next thread." : "A blank line begins the next thread."),
     first && `\`${names[0]}\` is P0 here, since the first thread has the number 0.`,
     others.length && `${formatNames(others)} ${others.length === 1 ? "is" : "are"} left out.`,
     isDisassembly && !front && "A disassembly has no initial values: they are 0 here.",
@@ -385,7 +397,7 @@ function makeTest(source) {
  * @returns {string}
  */
 export function explainAssembly(place) {
-  const { text } = place;
+  const text = blankPrompts(place.text);
   if (NAMES_ROW.test(text) || isTooLong(text)) return "";
   const processor = explainProcessor(text);
   if (processor) return processor;
@@ -400,5 +412,6 @@ export function explainAssembly(place) {
   place.change.title = threads.length > 1 ? `Make ${formatNames(threads.map((_, thread) => `P${thread}`))} of them` : "Make it P0 of a test";
   place.change.done = "Rewritten.";
   place.isOffer = true;
-  return [`${BEGIN}.`, ...describeThreads(source, locations), !tail && (isAsked ? OF_GUESS : OF_TRUE), ...said].filter(Boolean).join(" ").trim();
+  const asked = !tail && (isAsked ? OF_GUESS : OF_TRUE);
+  return [`${BEGIN}.`, ...describeThreads(source, locations), asked, ...said, describeNegative(text, made)].filter(Boolean).join(" ").trim();
 }
