@@ -5,17 +5,18 @@
 import { replaceMatch } from "./c_edits.js";
 
 // An enumeration: the groups are `typedef`, its name, its constants, and the name after it.
-const ENUMERATION = /(?<=^|[;{}:])(\s*)(typedef\s+)?enum\b(?:\s+(?:class|struct)\b)?(?:\s+(\w+))?\s*(?::\s*[\w:]+\s*)?\{([\w\s=,]*)\}\s*(\w+)?\s*;/gm;
-const WORD = /^(\w+)(?:\s*=\s*(\d+))?$/;
+const ENUMERATION = /(?<=^|[;{}:])(\s*)(typedef\s+)?enum\b(?:\s+(?:class|struct)\b)?(?:\s+(\w+))?\s*(?::\s*[\w:]+\s*)?\{([\w\s=,+*-]*)\}\s*(\w+)?\s*;/gm;
+// A constant: the groups are its name, and its word, which may be a sum of names and numbers.
+const WORD = /^(\w+)(?:\s*=\s*(\w+(?:\s*[-+*]\s*\w+)?))?$/;
 
 /** Returns the constants of an enumeration with their words, from a list; null if a word is not known. */
 function readConstants(list) {
-  let last = -1;
+  let last = "-1";
   const found = list.split(",").map((it) => it.trim()).filter(Boolean).map((it) => WORD.exec(it)).map((it) => {
-    last = it?.[2] === undefined ? last + 1 : Number(it[2]);
-    return it && [it[1], String(last)];
+    last = it?.[2] ?? (/^-?\d+$/.test(last) ? String(Number(last) + 1) : "");
+    return it && [it[1], /^\w+$/.test(last) ? last : `(${last})`];
   });
-  return found.includes(null) ? null : found;
+  return found.some((it) => it === null || it[1] === "()") ? null : found;
 }
 
 /**
@@ -32,10 +33,10 @@ export function listEnumerations(code) {
     const [, , typedef, first, list, last] = declared;
     const name = typedef ? last : first;
     const constants = readConstants(list);
-    if (!name || (!typedef && last) || !constants || constants.some(([it]) => words.has(it) || isDeclared(code, it))) return none;
+    if ((typedef && !name) || (!typedef && last) || !constants || constants.some(([it]) => words.has(it) || isDeclared(code, it))) return none;
     for (const [constant, word] of constants) words.set(constant, word);
     edits.push(replaceMatch(declared, ""));
-    edits.push(...[...code.matchAll(new RegExp(`(?<!\\w|\\.|->)(?:enum\\s+)?${name}\\b(\\s*::\\s*(?=\\w))?`, "g"))].map((it) => replaceMatch(it, it[1] ? "" : "int")));
+    if (name) edits.push(...[...code.matchAll(new RegExp(`(?<!\\w|\\.|->)(?:enum\\s+)?${name}\\b(\\s*::\\s*(?=\\w))?`, "g"))].map((it) => replaceMatch(it, it[1] ? "" : "int")));
   }
   for (const [constant, word] of words) edits.push(...[...code.matchAll(new RegExp(`(?<!\\w|\\.|->)${constant}\\b`, "g"))].map((it) => replaceMatch(it, word)));
   const declarations = edits.filter((it) => it.end - it.begin > 1 && it.text === "" && /\}\s*\w*\s*;$/.test(code.slice(it.begin, it.end)));

@@ -11,6 +11,7 @@ import { areEntering, findEntry, formatList, guessQuestion } from "./c_guess.js"
 import { hasNamedIndex, KnownWriter, writeKnown } from "./c_known.js";
 import { linkThreads } from "./c_links.js";
 import { addUsers, refuseUsers } from "./c_lone_lock.js";
+import { addQueueUsers } from "./c_lone_queue.js";
 import { blankDelays } from "./c_delays.js";
 import { OF_STORING } from "./c_loop_reader.js";
 import { startThreads } from "./c_main.js";
@@ -332,13 +333,22 @@ export function rewriteProgram(text, meaning = "") {
 
 /** Returns what `rewriteProgram` does of a program without marks between digits. */
 function rewriteJoined(text, meaning) {
-  const test = rewriteUnblocked(text, meaning);
+  const test = rewriteLone(text, meaning);
   const edited = test.made ? null : rewriteTerms(text);
-  const { index, ...other } = edited ? rewriteUnblocked(edited.text, meaning) : {};
+  const { index, ...other } = edited ? rewriteLone(edited.text, meaning) : {};
   if (other.made) return { ...other, terms: edited.words };
   // What is quoted is in the program.
   const isQuoted = edited && index !== undefined && text.startsWith(edited.text.slice(index, index + 9), edited.findIndex(index));
   return isQuoted && edited.findIndex(index) > test.index ? { ...other, index: edited.findIndex(index) } : test;
+}
+
+/** Returns what `rewriteProgram` does of a program in the terms that the page reads, to which threads are added if it is a queue that none uses. */
+function rewriteLone(text, meaning) {
+  const test = rewriteUnblocked(text, meaning);
+  const used = test.made ? null : addQueueUsers(text);
+  const other = used && rewriteUnblocked(used.text, meaning);
+  if (other?.made) return { ...other, users: used.users };
+  return other?.index < text.trimEnd().length ? other : test;
 }
 
 /** Returns what `rewriteProgram` does of a program whose threads look at what they wait for. */

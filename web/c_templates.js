@@ -17,10 +17,18 @@ const PARAMETER = new RegExp(
 );
 const TYPE = /^(?:unsigned|signed|int|long|short|char|bool|(?:std::)?\w+_t)\b/;
 const ARGUMENT = /^(?:std::)?\w+(?: \w+)?$/;
+// A sum of numbers in parentheses, which are not those of a call.
+const SUM = /(?<=[[%=<>+*/(,-]\s*)\((\d+)\s*([-+*])\s*(\d+)\)/g;
 const OF_FUNCTIONS = ": a template of a function is not rewritten, so write the function for its types";
 const OF_PARTS = ": a template is rewritten if it is one class, with methods outside of it, so write this for its types";
 const OF_NAMES = ": a use of the template names it, too, so give it another name here";
 const OF_SEVERAL = ": a template is rewritten if all its uses have the same arguments, which are types and constants, as `Queue<int, 2>`";
+
+/** Returns a number in place of a sum, a difference or a product in parentheses, as long as these. */
+function addNumbers(whole, one, sign, other) {
+  const [first, second] = [Number(one), Number(other)];
+  return String(sign === "+" ? first + second : sign === "*" ? first * second : first - second).padEnd(whole.length);
+}
 
 /** Returns the templates of a code. Throws NoTest at one that is no class and no method of one. */
 function listTemplates(text, code) {
@@ -91,5 +99,7 @@ export function rewriteTemplates(text) {
   const templates = listTemplates(text, code);
   const names = [...new Set(templates.map((it) => it.name))];
   const edits = names.flatMap((name) => listEdits(text, code, name, templates.filter((it) => it.name === name)));
-  return edits.length ? applyEdits(text, edits) : null;
+  if (!edits.length) return null;
+  const { text: made, findIndex } = applyEdits(text, edits);
+  return { text: made.replace(SUM, addNumbers), findIndex };
 }

@@ -1,5 +1,5 @@
 // Compares what the page makes of programs in C and C++ that have other terms than atomic variables and mutexes - semaphores, latches, barriers, conditions,
-// enumerations, and locks of the kernel - with what is typed in here: the rows of the test and its question, or why there is none.
+// enumerations, locks of the kernel, and queues that no thread uses - with what is typed in here: the rows of the test and its question, or why there is none.
 //
 //     node tools/gate/programs_in_terms.mjs      compares; the last line is 'N passed, M failed'
 //
@@ -133,6 +133,57 @@ int x, y, r1, r2;
 void cpu0(void) { spin_lock(&lock); WRITE_ONCE(x, 1); spin_unlock(&lock); r1 = READ_ONCE(y); }
 void cpu1(void) { WRITE_ONCE(y, 1); smp_mb(); r2 = READ_ONCE(x); }
 `;
+const RING = `template<typename T, size_t Size>
+class ringbuffer {
+public:
+  ringbuffer() : head_(0), tail_(0) {}
+  bool push(const T & value)
+  {
+    size_t head = head_.load(boost::memory_order_relaxed);
+    size_t next_head = next(head);
+    if (next_head == tail_.load(boost::memory_order_acquire))
+      return false;
+    ring_[head] = value;
+    head_.store(next_head, boost::memory_order_release);
+    return true;
+  }
+  bool pop(T & value)
+  {
+    size_t tail = tail_.load(boost::memory_order_relaxed);
+    if (tail == head_.load(boost::memory_order_acquire))
+      return false;
+    value = ring_[tail];
+    tail_.store(next(tail), boost::memory_order_release);
+    return true;
+  }
+private:
+  size_t next(size_t current) { return (current + 1) % Size; }
+  T ring_[Size];
+  boost::atomic<size_t> head_, tail_;
+};
+`;
+const LONGER = RING.replace("public:", "public:\n  enum { Capacity = Size + 1 };").replace("% Size", "% Capacity").replace("ring_[Size]", "ring_[Capacity]");
+const FUNCTIONS = `#define SIZE 1024
+int buffer[SIZE];
+std::atomic<int> head{0}, tail{0};
+bool enqueue(int v) {
+  int t = tail.load(std::memory_order_relaxed);
+  int next = (t + 1) & (SIZE - 1);
+  if (next == head.load(std::memory_order_acquire)) return false;
+  buffer[t] = v;
+  tail.store(next, std::memory_order_release);
+  return true;
+}
+bool dequeue(int *v) {
+  int h = head.load(std::memory_order_relaxed);
+  if (h == tail.load(std::memory_order_acquire)) return false;
+  *v = buffer[h];
+  head.store((h + 1) & (SIZE - 1), std::memory_order_release);
+  return true;
+}
+`;
+const PUTTING = "MOV EAX,[queue_head_]; MOV EAX,[queue_tail_]; CMP EAX,$1; JNE L2; JMP L1; L2: MOV [queue_ring__0],$1; MOV [queue_head_],$1; L1:";
+const TAKING = "MOV EAX,$0; MOV EDX,[queue_tail_]; MOV EBX,[queue_head_]; CMP EBX,$0; JNE L2; MOV ECX,$0; JMP L1; L2: MOV EAX,[queue_ring__0]; MOV [queue_tail_],$1; MOV ECX,$1; L1:";
 const GUARDED = "MOV EAX,$1; XCHG [m],EAX; MOV [data],$42; MOV [ready],$1; MOV EBX,$0; XCHG [m],EBX";
 const LOOKING = "MOV EAX,$1; XCHG [m],EAX; MOV EBX,[ready]; MOV ECX,[data]; MOV EDX,$0; XCHG [m],EDX";
 const OF_CONDITION = "forall (~0:EAX=0 \\/ ~1:EAX=0 \\/ ~1:EBX=1 \\/ 1:ECX=42)";
@@ -168,9 +219,17 @@ const MADE = [
     "exists (0:EAX=0 /\\ 0:EBX=0 /\\ 1:EAX=0)"],
   ["a mutex of the kernel", KERNEL.replace("DEFINE_SPINLOCK", "DEFINE_MUTEX").replace("spin_lock", "mutex_lock").replace("spin_unlock", "mutex_unlock"),
     ["MOV EAX,$1; XCHG [lock],EAX; MOV [x],$1; MOV ECX,$0; XCHG [lock],ECX; MOV EBX,[y]", "MOV [y],$1; MFENCE; MOV EAX,[x]"], "exists (0:EAX=0 /\\ 0:EBX=0 /\\ 1:EAX=0)"],
+  ["a queue that no thread uses, with Boost's names", RING, [PUTTING, TAKING], "exists (~1:EBX=0 /\\ 1:EAX=0)"],
+  ["a queue of two functions", FUNCTIONS,
+    [PUTTING, TAKING].map((it) => it.replaceAll("queue_ring__0", "buffer_0").replaceAll("queue_head_", "HEAD").replaceAll("queue_tail_", "head").replaceAll("HEAD", "tail")),
+    "exists (~1:EBX=0 /\\ 1:EAX=0)"],
+  ["a queue with a constant of one word more", LONGER, [PUTTING, TAKING], "exists (~1:EBX=0 /\\ 1:EAX=0)"],
 ];
 // A program of which no test is made, and a part of its sentence.
 const REFUSED = [
+  ["a queue that takes otherwise", RING.replace("bool pop(T & value)", "std::optional<T> pop()"), ""],
+  ["a queue beside another class", `struct Node { int value; };\n${RING}`, ""],
+  ["a queue with two ways to put", RING.replace("private:", "  bool enqueue(const T & value) { return push(value); }\nprivate:"), ""],
   ["an enumeration with a name that a variable has", STATE.replace("int data", "std::atomic<int> Busy; int data"), ""],
   ["an enumeration with a sum", STATE.replace("= 5", "= 2 + 3"), ""],
   ["a wait for a sum", WAIT.replace("wait(false, std::memory_order_acquire)", "wait(1 - 1)"), "the page follows `wait` of an atomic variable for one word"],
