@@ -6,9 +6,10 @@
 import { alignCells } from "./aligned.js";
 import { CallWriter } from "./c_calls.js";
 import { parseConstant, refusePart } from "./c_code.js";
+import { ConditionWriter } from "./c_conditions.js";
 import { applyEdits } from "./c_edits.js";
 import { areEntering, findEntry, formatList, guessQuestion } from "./c_guess.js";
-import { hasNamedIndex, KnownWriter, writeKnown } from "./c_known.js";
+import { needsWords, writeKnown } from "./c_known_threads.js";
 import { linkThreads } from "./c_links.js";
 import { addUsers, refuseUsers } from "./c_lone_lock.js";
 import { addQueueUsers } from "./c_lone_queue.js";
@@ -22,7 +23,7 @@ import { rewritePointers } from "./c_pointers.js";
 import { checkThreads, readProgram } from "./c_reader.js";
 import { expandRelations, mapSites } from "./c_relations.js";
 import { rewriteRounds } from "./c_rounds.js";
-import { BITS, OF_BITS, OF_CONDITIONS, OF_LOOPS } from "./c_statements.js";
+import { BITS, OF_BITS } from "./c_statements.js";
 import { listStaticEdits } from "./c_statics.js";
 import { rewriteTemplates } from "./c_templates.js";
 import { rewriteTerms } from "./c_terms.js";
@@ -193,7 +194,7 @@ function formatRows(writers) {
 
 /** Returns a writer of a thread, in which words are known if the program says of which variables they are not. */
 function makeWriter(program, number, kept) {
-  return program.unknowable ? new KnownWriter(program, number, kept) : new CallWriter(program, number, kept);
+  return program.unknowable ? new ConditionWriter(program, number, kept) : new CallWriter(program, number, kept);
 }
 
 /** Returns the writer of a thread, in which the conditions around assertions have registers, as those at some indices have. */
@@ -441,16 +442,9 @@ function rewritePointing(text, meaning) {
  */
 function tryProgram(text, meaning) {
   const test = tryOnce(text, meaning, false);
-  const isOfKnown = !test.made && text.length < MOST_KNOWN && (hasNamedIndex(text) || needsResults(test, text));
+  const isOfKnown = !test.made && text.length < MOST_KNOWN && needsWords(test, text);
   const known = isOfKnown ? tryOnce(text, meaning, true) : test;
   return known.made || known.index >= test.index ? known : test;
-}
-
-/** Returns whether a program is refused for a variable that has a value after some results of a function, a loop that calls one, or a relation. */
-function needsResults({ why, index }, text) {
-  const isCalling = why.endsWith(OF_LOOPS) && /^while\s*\(\s*!?\s*[\w.]+\s*\(/.test(text.slice(index, index + 80));
-  const isRelation = why.endsWith(OF_CONDITIONS) && /^[^{};]*[<>]/.test(text.slice(index, index + 200));
-  return isCalling || isRelation || why.endsWith(" has no value on some path to here");
 }
 
 /** Returns the same of a program in which words are known, or not. */

@@ -1369,6 +1369,30 @@ void b() { p.lock(1); counter++; p.unlock(1); }
 int main() { std::thread x(a), y(b); x.join(); y.join(); }
 `,
     "X86 Mine\n(* 0:EAX is p_flag_1 after its loop, 0:EBX is p_turn after its loop, 1:EAX is p_flag_0 after its loop, 1:EBX is p_turn after its loop *)\n(* every wait ends: (0:EAX=0 \\/ ~0:EBX=1) /\\ (1:EAX=0 \\/ ~1:EBX=0) *)\n(* an addition to counter is lost: ~counter=2 *)\n{ p_flag_0=0; p_flag_1=0; p_turn=0; counter=0; }\n P0 | P1 ;\n MOV ECX,$1 | MOV ECX,$1 ;\n XCHG [p_flag_0],ECX | XCHG [p_flag_1],ECX ;\n MOV ECX,$1 | MOV ECX,$0 ;\n XCHG [p_turn],ECX | XCHG [p_turn],ECX ;\n MOV EAX,[p_flag_1] | MOV EAX,[p_flag_0] ;\n CMP EAX,$0 | CMP EAX,$0 ;\n JE L2 | JE L2 ;\n MOV EBX,[p_turn] | MOV EBX,[p_turn] ;\n L2: MOV ECX,[counter] | L2: MOV ECX,[counter] ;\n ADD ECX,$1 | ADD ECX,$1 ;\n MOV [counter],ECX | MOV [counter],ECX ;\n MOV ECX,$0 | MOV ECX,$0 ;\n XCHG [p_flag_0],ECX | XCHG [p_flag_1],ECX ;\nlocations [p_turn]\n~exists ((0:EAX=0 \\/ ~0:EBX=1) /\\ (1:EAX=0 \\/ ~1:EBX=0) /\\ ~counter=2)\n"],
+  ["size of an array", `#include <atomic>
+#include <thread>
+#include <array>
+std::array<int, 4> buf;
+std::atomic<size_t> head{0}, tail{0};
+bool push(int v) {
+  auto h = head.load(std::memory_order_relaxed);
+  auto next = (h + 1) % buf.size();
+  if (next == tail.load(std::memory_order_acquire)) return false;
+  buf.at(h) = v;
+  head.store(next, std::memory_order_release);
+  return true;
+}
+bool pop(int& v) {
+  auto t = tail.load(std::memory_order_relaxed);
+  if (head.load(std::memory_order_acquire) == t) return false;
+  v = buf.at(t);
+  tail.store((t + 1) % buf.size(), std::memory_order_release);
+  return true;
+}
+int got;
+int main() { std::thread a([] { push(5); }), b([] { int v = 0; if (pop(v)) got = v; }); a.join(); b.join(); assert(got == 0 || got == 5); }
+`,
+    "X86 Mine\n(* 1:EAX is v, 1:EBX is pop_result, 1:ECX is got *)\n{ buf_0=0; head=0; tail=0; }\n P0 | P1 ;\n MOV EAX,[head] | MOV EAX,$0 ;\n MOV EAX,[tail] | MOV EDX,[tail] ;\n CMP EAX,$1 | MOV EDX,[head] ;\n JNE L2 | CMP EDX,$0 ;\n JMP L1 | JNE L2 ;\n L2: MOV [buf_0],$5 | MOV EBX,$0 ;\n MOV [head],$1 | JMP L1 ;\n L1: | L2: MOV EAX,[buf_0] ;\n | MOV [tail],$1 ;\n | MOV EBX,$1 ;\n | L1: CMP EBX,$0 ;\n | JE END ;\n | MOV ECX,EAX ;\n | END: ;\nforall (1:ECX=0 \\/ 1:ECX=5)\n"],
 ];
 // A program of rounds, whose loop does `sets` before the threads run.
 const makeRounds = (sets, code) => `#include <semaphore.h>
