@@ -1,6 +1,7 @@
 // Shows which fences of a test matter: a table of them, with a film to each state that a fence removes. A fence matters if states are added
 // without it. That does not show that a test with all its fences is right, so the table says in how many states the condition holds.
 
+import { read } from "./address.js";
 import { ask } from "./ask.js";
 import { makeEndTest } from "./condition_words.js";
 import { el, makeButton, makePlainMark, renderSentence } from "./dom.js";
@@ -21,6 +22,7 @@ const IN_PROGRAM =
   "In the program this fence is `std::atomic_thread_fence(std::memory_order_seq_cst)` at that place; or the last store before it becomes seq_cst, which " +
   "is an `XCHG` on x86.";
 const UNASKED = "The test asks nothing, so a fence may matter for what no list names: ask what must not happen.";
+const OWN_FIRST = "First try fences of your own: this answers once the test has an `MFENCE`.";
 const ENDED = "States in which a wait has not ended are left out here.";
 const TOGETHER = "Two that change nothing alone may matter together.";
 const BY_CLICK = "In Watch and By hand “+ fence” puts a fence between two instructions, where the pointer is, and “✕ fence” takes it out.";
@@ -63,6 +65,10 @@ export class Fences {
     this.clear();
     this.askedOf = this.editor.text;
     clearFault(this.editor);
+    if (read().fences === "own" && !/\bmfence\b/i.test(blankComments(this.editor.text))) {
+      this.place.append(el("p", { class: "notice" }, ...renderSentence(OWN_FIRST)));
+      return null;
+    }
     return guess.unlock(this.editor, this.place, () => this.show(timeout));
   }
 

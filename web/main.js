@@ -45,7 +45,7 @@ const CHANGED = "Changed: Ctrl+Enter lists its states.";
 // How many letters of an unknown field of a link are named at most.
 const MAX_LETTERS = 40;
 // The other fields of the address; and those on a test, and on the reader's place in it.
-const CHOICES = { predict: null, beside: null, beside_text: null, left: null, right: null };
+const CHOICES = { predict: null, fences: null, beside: null, beside_text: null, left: null, right: null };
 const NOWHERE = { text: null, example: null, state: null, own: null, step: null, run: null, protocol: null, schedule: null, view: null };
 
 const editor = new Editor(findById("editor"), followChange);

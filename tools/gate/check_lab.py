@@ -124,10 +124,10 @@ def check_tests(lab: str, tests: dict[str, str]) -> Iterator[Comparison]:
         yield f"{name} has a neutral name, no comment, and asks `exists`", True, bool(re.match(rf"(SRC|X86) {name}\n[^\"*~]*\nexists [^~\"*]*\n\Z", text))
 
 
-def find_tests(text: str) -> dict[str, bool]:
-    """Returns the tests that a task shows: for each whether it is played by hand."""
-    lines = re.findall(r"^Tests( by hand)?: (.*)$", text, re.M)
-    return {name: bool(by_hand) for by_hand, names in lines for name in names.split()}
+def find_tests(text: str) -> dict[str, str]:
+    """Returns the tests that a task shows: for each how it is used, `by hand`, `to repair`, or ""."""
+    lines = re.findall(r"^Tests(?: (by hand|to repair))?: (.*)$", text, re.M)
+    return {name: use for use, names in lines for name in names.split()}
 
 
 def parse_comments(lab: str) -> dict[str, str]:
@@ -160,8 +160,8 @@ def check_sentences(pages: str) -> Iterator[Comparison]:
 
 
 def check_links(tests: dict[str, str]) -> Iterator[Comparison]:
-    """Checks that a link on the sheet opens the test below it in one tab for all of them, at By hand if it is played by hand, and asks for a
-    prediction first.
+    """Checks that a link on the sheet opens the test below it in one tab for all of them, at By hand if it is played by hand, with fences of
+    one's own first if it is to be repaired, and asks for a prediction first.
     """
     lab = read_file("docs/LAB.md")
     page = sheets.make_sheet(lab, tests, "site/index.html")
@@ -169,8 +169,9 @@ def check_links(tests: dict[str, str]) -> Iterator[Comparison]:
     tests_shown = [it for *_, text in parse_tasks(find_section(lab, "The sheet")) for it in find_tests(text).items()]
     links = re.findall(r'<figcaption>(\w+) <a class="screen" target="lw" href="site/index\.html#([^"]*)">', page)
     yield "each test has a link where it is used", [name for name, _ in tests_shown], [name for name, _ in links]
-    for (name, by_hand), (_, link) in zip(tests_shown, links):
-        view = {"view": ["hand"]} if by_hand else {}
+    views = {"by hand": {"view": ["hand"]}, "to repair": {"fences": ["own"]}, "": {}}
+    for (name, use), (_, link) in zip(tests_shown, links):
+        view = views[use]
         yield f"the link of {name}", {"predict": ["1"], **view, "text": [tests[name]]}, parse_qs(unescape(link))
     yield "the card has a link", 1, page.count('<a href="card.html" target="_blank">')
 

@@ -2,7 +2,7 @@
 
     python3 tools gate.check_slides
 
-- There are thirteen slides, each with a title of its own; the page names no other site and loads nothing; the same sources give the same bytes.
+- There are fourteen slides, each with a title of its own; the page names no other site and loads nothing; the same sources give the same bytes.
   With the address of lw's page each slide that shows a test has a link that opens that test there.
 - What is shown of a test is what the program says of it: each list is that of its report, with the verdict in words, and each machine has the
   registers, the store buffers and the words of its replay. An execution's loads have the words that the replay ends with.
@@ -41,7 +41,7 @@ from replay_state import State, parse_replay_state
 from shared import command
 from shared.home import HOME, PROGRAM, close_check
 
-COUNT = 13
+COUNT = 14
 FIGURE = re.compile(r'<figure data-kind="(\w+)" data-test="([\w-]+)" data-schedule="([^"]*)">(.*?)</figure>', re.S)
 LIST = re.compile(r'<pre data-kind="(\w+)" data-test="([\w-]+)">(.*?)</pre>', re.S)
 # The parts of a machine: a thread, memory, and a name with its word, of a kind.
@@ -108,7 +108,7 @@ def replay_schedule(text: bytes, schedule: str) -> State:
 def check_page(page: str) -> Iterator[Comparison]:
     """Checks the page as a whole."""
     titles = re.findall(r'<section class="slide">\n<h2>(.*?)</h2>', page)
-    yield "there are thirteen slides, each with its own title", (COUNT, COUNT), (len(titles), len(set(titles)))
+    yield "there are fourteen slides, each with its own title", (COUNT, COUNT), (len(titles), len(set(titles)))
     yield "the slides are numbered", [f"{index} of {COUNT}" for index in range(1, COUNT + 1)], re.findall(r"<footer>(.*?)</footer>", page)
     yield "the page loads nothing and names no other site", [], OUTWARD.findall(page)
     yield "the same bytes again", True, page == make_slides.make_page()

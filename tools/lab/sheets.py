@@ -62,8 +62,9 @@ WAY_BACK = '<p class="screen"><a href="index.html" target="lw">lw</a> · <a href
 WHO = '<p class="who"><span>Name:</span> <span>Group:</span> <span>Points:</span></p>\n'
 # The column in which reasons are written has to be wide.
 WHY = "<th>why</th>"
-# A line that names tests, to be played by hand or not.
-TESTS = re.compile(r"Tests( by hand)?: (.*)")
+# A line that names tests, to be played by hand, to be repaired by fences, or neither; and what a link to such a test asks the page for.
+TESTS = re.compile(r"Tests( by hand| to repair)?: (.*)")
+VIEWS = {" by hand": {"view": "hand"}, " to repair": {"fences": "own"}}
 # What is between the tests of two lines, of which the second follows the first: they are side by side.
 BETWEEN_TESTS = '</div>\n<div class="tests">\n'
 # The documents to which a sheet has links, besides tests.
@@ -84,9 +85,8 @@ def make_page(title: str, body: str, kind: str, head: str = "") -> str:
     )
 
 
-def render_test(name: str, text: str, site: str | None, is_by_hand: bool) -> str:
-    """Returns a test on the sheet, with a link that opens it in the site, in one tab for all of them; for a test by hand, at that view."""
-    view = {"view": "hand"} if is_by_hand else {}
+def render_test(name: str, text: str, site: str | None, view: dict[str, str]) -> str:
+    """Returns a test on the sheet, with a link that opens it in the site, in one tab for all of them, as the fields of a view say."""
     opened = f"{site}#{urlencode({'predict': '1', **view, 'text': text})}"
     link = f' <a class="screen" target="lw" href="{escape(opened)}">open</a>' if site else ""
     return f"<figure><figcaption>{name}{link}</figcaption><pre>{escape(text, quote=False)}</pre></figure>\n"
@@ -107,7 +107,7 @@ class Sheet(markdown.Renderer):
             if missing := [it for it in names if it not in self.tests]:
                 raise NoLab(f"docs/LAB.md shows {missing[0]}, and does not say which test that is")
             return '<div class="tests">\n' + "".join(
-                render_test(it, self.tests[it], self.site, bool(match[1])) for it in names
+                render_test(it, self.tests[it], self.site, VIEWS.get(match[1], {})) for it in names
             ) + "</div>\n"
         html = super().render_block(kind, lines).replace(WHY, WHY.replace("<th>", '<th class="wide">'))
         if kind == "heading" and html.startswith("<h3>"):

@@ -137,6 +137,12 @@ SLIDES: list[Slide] = [
         Words("Each load reads the initial 0, so it comes before the other's store (fr). With program order (po) that is a cycle."),
         Note("Each arrow means: comes before. A run by interleaving has no cycle."),
     ]),
+    ("A fence in each thread", [
+        States("B1"),
+        Words("Never: the end that we ask about is none of the three states."),
+        Words("Each thread has an `MFENCE` between its store and its load. It waits until the own buffer is empty: then memory has the store, and the load comes after it."),
+        Note("These are the three states of slide 4. With only one of the fences the fourth state comes back: a group can say which schedule reaches it."),
+    ]),
     ("What to take with you", [
         Words("A load may be done before the others see a store in front of it."),
         Words("A buffer is a queue: the stores of one thread reach memory in their order."),
