@@ -65,7 +65,7 @@ export class Fences {
     this.clear();
     this.askedOf = this.editor.text;
     clearFault(this.editor);
-    if (read().fences === "own" && !/\bmfence\b/i.test(blankComments(this.editor.text))) {
+    if (read().fences === "own" && /^\s*X86\b(?![^]*\bmfence\b)/i.test(blankComments(this.editor.text))) {
       this.place.append(el("p", { class: "notice" }, ...renderSentence(OWN_FIRST)));
       return null;
     }
