@@ -130,7 +130,7 @@ class SiteRenderer(markdown.Renderer):
     def render_block(self, kind: str, lines: list[str]) -> str:
         """Returns a block; of a line that names tests of the lab these tests."""
         if kind == "paragraph" and (match := sheets.TESTS.fullmatch(lines[0])):
-            shown = (sheets.render_test(it, self.tests[it], "index.html", bool(match[1])) for it in match[2].split())
+            shown = (sheets.render_test(it, self.tests[it], "index.html", sheets.VIEWS.get(match[1], {})) for it in match[2].split())
             return '<div class="tests">\n' + "".join(shown) + "</div>\n"
         if kind == "item":
             number, _, rest = markdown.join_lines(lines).partition(" ")
