@@ -1,9 +1,11 @@
-// The hints on faults and slips, the words on the page, and the walk through it: the part of the page's code that is loaded after the first answer, or when a text has a fault.
+// The hints on faults and slips, the words on the page, the walk through it, and what fits it to a projector: the part of the page's code that is loaded after
+// the first answer, or when a text has a fault.
 
 import { fillAbout } from "./about.js";
 import { explainFault, explainMissingRowEnd } from "./faults.js";
 import { findFurtherFaults } from "./further_faults.js";
 import { takeWalk } from "./guided_walk.js";
+import { ProjectorFit } from "./projector_fit.js";
 import { makeSlipNotes } from "./slips.js";
 
 /** Returns the hint on a fault; one without words if the code that looks for it fails, so that lw's own sentence is shown. */
@@ -16,5 +18,8 @@ function explainSafely(fault, text) {
   }
 }
 
-/** The functions that errors.js and main.js call. */
-export const hints = { explainFault: explainSafely, explainMissingRowEnd, fillAbout, findFurtherFaults, makeSlipNotes, takeWalk };
+/** Returns what fits the view for a projector into the window. */
+const makeProjectorFit = () => new ProjectorFit();
+
+/** The functions that errors.js, main.js and present.js call. */
+export const hints = { explainFault: explainSafely, explainMissingRowEnd, fillAbout, findFurtherFaults, makeProjectorFit, makeSlipNotes, takeWalk };
