@@ -4,6 +4,7 @@
 
 import { findClosing } from "./c_code.js";
 import { rewriteProgram } from "./c_program.js";
+import { rewriteGenericLock } from "./rust_generic_lock.js";
 import { nameResult, OF_MAIN, OUTPUT, Starter } from "./rust_main.js";
 import { nameVariables } from "./rust_names.js";
 import { joinStatements, readFront, splitArguments, splitStatements, TYPES, Unread, writeBody, writeExpression } from "./rust_statements.js";
@@ -31,7 +32,9 @@ const DEEPEST = 4;
 const LONGEST = 20000;
 const OF_ITEMS = ": outside of functions are only `use`, constants and static variables of integers and atomics";
 const OF_GENERIC = ": types with parameters are not rewritten, so write it for the type that it has";
+const OF_POINTERS = ": all words of a test have names, so a list of objects by pointers, as a stack or a queue of waiting threads, is not rewritten";
 const OF_TUPLES = ": a structure has fields with names, as `struct Lock { held: AtomicBool }`";
+const OF_TYPES = [OF_GENERIC, ": a structure has one object here", OF_ITEMS];
 const OF_RESULTS = ": a thread returns its last expression only";
 
 /** Throws Unread for an attribute by which an item may not be compiled, and for a name of what is used that is another here. */
@@ -221,7 +224,7 @@ function listLoneLocks(structs, items, variables, code) {
 function translate(text) {
   const plain = shortenPaths(blankText(text)).replace(/(?<!\s)\s+(?=\.\w)/g, "");
   if (plain.replace(/\s+/g, " ").length > LONGEST) throw new Unread(plain.trim(), ": the program is long");
-  const code = desugar(plain);
+  const code = desugar(rewriteGenericLock(plain));
   const items = readItems(code.replace(QUESTION, ""));
   const [question = ""] = QUESTION.exec(code) ?? [];
   const functions = items.filter((it) => it.kind === "fn");
@@ -282,6 +285,10 @@ export function rewriteRust(text) {
     const why = nameGuards(named.replace(/,? ?\bstd::memory_order_\w*/g, "").replace(/\bauto /g, "let "));
     return { why, index: findPart(why, text), program };
   } catch (error) {
+    // Types with parameters, and structures, may be of lists.
+    const isOfType = error instanceof Unread && OF_TYPES.some((it) => error.message.endsWith(it));
+    const [pointer] = (isOfType && /\bAtomicPtr\s*<[^;{}\n]*?>+/.exec(blankText(text))) || [];
+    if (pointer) return { why: `\`${pointer}\`${OF_POINTERS}`, index: text.indexOf(pointer) };
     if (error instanceof Unread) return { why: nameGuards(error.message), index: findPart(nameGuards(error.message), text) };
     throw error;
   }

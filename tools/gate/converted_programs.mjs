@@ -1393,6 +1393,25 @@ int got;
 int main() { std::thread a([] { push(5); }), b([] { int v = 0; if (pop(v)) got = v; }); a.join(); b.join(); assert(got == 0 || got == 5); }
 `,
     "X86 Mine\n(* 1:EAX is v, 1:EBX is pop_result, 1:ECX is got *)\n{ buf_0=0; head=0; tail=0; }\n P0 | P1 ;\n MOV EAX,[head] | MOV EAX,$0 ;\n MOV EAX,[tail] | MOV EDX,[tail] ;\n CMP EAX,$1 | MOV EDX,[head] ;\n JNE L2 | CMP EDX,$0 ;\n JMP L1 | JNE L2 ;\n L2: MOV [buf_0],$5 | MOV EBX,$0 ;\n MOV [head],$1 | JMP L1 ;\n L1: | L2: MOV EAX,[buf_0] ;\n | MOV [tail],$1 ;\n | MOV EBX,$1 ;\n | L1: CMP EBX,$0 ;\n | JE END ;\n | MOV ECX,EAX ;\n | END: ;\nforall (1:ECX=0 \\/ 1:ECX=5)\n"],
+  ["an index that an addition to a variable of only one thread changes", `#include <stdatomic.h>
+int buf[4]; atomic_int head, x;
+void P0(void) { int h = atomic_load(&head); buf[h] = 1; atomic_fetch_add(&head, 1); int g = atomic_load(&head); buf[g] = 2; }
+void P1(void) { int r = buf[0]; int s = buf[1]; }
+`,
+    "X86 Mine\n(* 1:EAX is r, 1:EBX is s *)\n{ buf_0=0; buf_1=0; head=0; }\n P0 | P1 ;\n MOV EAX,[head] | MOV EAX,[buf_0] ;\n MOV [buf_0],$1 | MOV EBX,[buf_1] ;\n MOV EAX,$1 | ;\n LOCK XADD [head],EAX | ;\n MOV EAX,[head] | ;\n MOV [buf_1],$2 | ;\nexists (~1:EAX=0 /\\ 1:EBX=0)\n"],
+  ["an index that branches set to a constant", `#include <stdatomic.h>
+int buf[4]; atomic_int head, x;
+void P0(void) { int h = atomic_load(&head); while (atomic_load(&x) == 0) ; if (h == 0) { h = 2; } else { h = 1; } buf[h] = 1; }
+void P1(void) { int r = buf[2]; atomic_store(&x, 1); }
+`,
+    "X86 Mine\n(* 0:EAX is h, 0:EBX is x after its loop, 1:EAX is r *)\n(* every wait ends: ~0:EBX=0 *)\n{ buf_2=0; head=0; x=0; }\n P0 | P1 ;\n MOV EAX,[head] | MOV EAX,[buf_2] ;\n MOV EBX,[x] | MOV EBX,$1 ;\n MOV EAX,$2 | XCHG [x],EBX ;\n MOV [buf_2],$1 | ;\nlocations [0:EAX]\nexists (~0:EBX=0 /\\ 1:EAX=0)\n"],
+  ["an index that a function computes", `#include <stdatomic.h>
+int buf[4]; atomic_int head, x;
+int idx(int i) { i = i + 1; return i % 4; }
+void P0(void) { int h = atomic_load(&head); int n = idx(h); buf[n] = 1; buf[h] = 2; atomic_store(&head, n); }
+void P1(void) { if (atomic_load(&head) == 1) { int r = buf[1]; } }
+`,
+    "X86 Mine\n(* 0:EAX is i, 0:EBX is n, 1:EAX is head in its condition, 1:EBX is r *)\n{ buf_0=0; buf_1=0; head=0; }\n P0 | P1 ;\n MOV ECX,[head] | MOV EAX,[head] ;\n MOV EAX,$0 | CMP EAX,$1 ;\n MOV EAX,$1 | JNE END ;\n MOV EBX,$1 | MOV EBX,[buf_1] ;\n MOV [buf_1],$1 | END: ;\n MOV [buf_0],$2 | ;\n MOV ECX,$1 | ;\n XCHG [head],ECX | ;\nlocations [0:EAX; 0:EBX; buf_0]\nexists (1:EAX=1 /\\ 1:EBX=0)\n"],
 ];
 // A program of rounds, whose loop does `sets` before the threads run.
 const makeRounds = (sets, code) => `#include <semaphore.h>
@@ -2550,6 +2569,47 @@ void v() { int n = 2; x = n; while (n--) { x = 4; } }
 int main() { std::thread a(w), b(v); a.join(); b.join(); }
 `,
     "`while (n--)`: write out each pass of a loop. `tools/from_c.py` follows loops", "while (n--) { x = 4; } }"],
+  ["a stack by pointers", `#include <atomic>
+#include <thread>
+struct Node { int value; Node* next; };
+std::atomic<Node*> head{nullptr};
+void push(int v) {
+  Node* n = new Node;
+  n->value = v;
+  n->next = head.load(std::memory_order_relaxed);
+  while (!head.compare_exchange_weak(n->next, n, std::memory_order_release, std::memory_order_relaxed)) ;
+}
+void t1() { push(1); }
+void t2() { push(2); }
+int main() { std::thread a(t1), b(t2); a.join(); b.join(); }
+`,
+    "`new Node`: pointers are rewritten if one object of their type is made, by one thread", "new Node;"],
+  ["a lock of a queue of waiting threads", `#include <atomic>
+#include <thread>
+struct Node { std::atomic<Node*> next{nullptr}; std::atomic<bool> locked{false}; };
+std::atomic<Node*> tail{nullptr};
+int counter;
+void lock(Node* me) {
+  me->next.store(nullptr, std::memory_order_relaxed);
+  Node* prev = tail.exchange(me, std::memory_order_acq_rel);
+  if (prev) { me->locked.store(true, std::memory_order_relaxed); prev->next.store(me, std::memory_order_release); while (me->locked.load(std::memory_order_acquire)) ; }
+}
+void unlock(Node* me) {
+  Node* next = me->next.load(std::memory_order_acquire);
+  if (!next) { Node* e = me; if (tail.compare_exchange_strong(e, nullptr)) return; while (!(next = me->next.load())) ; }
+  next->locked.store(false, std::memory_order_release);
+}
+void work() { Node n; lock(&n); counter++; unlock(&n); }
+int main() { std::thread a(work), b(work); a.join(); b.join(); }
+`,
+    "`std::atomic<Node*> next{nullptr};`: a pointer is rewritten only if the program makes one object of its type, so write variables in place of pointers, and of what they point to", "std::atomic<Node*> next{"],
+  ["an index that another function's addition changes", `#include <stdatomic.h>
+int buf[4]; atomic_int head;
+void bump(atomic_int *p) { atomic_fetch_add(p, 1); }
+void P0(void) { int h = atomic_load(&head); buf[h] = 1; atomic_store(&head, h + 1); }
+void P1(void) { bump(&head); int r = buf[1]; }
+`,
+    "`buf[h] = 1`: an index is a constant, or comes from a variable that only this thread writes, and that has a known constant then", "buf[h] = 1; atomic_store"],
 ];
 
 /** Returns a test with one blank in place of several, since names have other lengths than those in a form. */

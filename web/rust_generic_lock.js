@@ -1,0 +1,143 @@
+// Rewrites a program in Rust with a lock of its own for any type, as `SpinLock<T>` with a guard that gives it back when it is dropped, as one without the
+// lock's type: each lock is its atomics and its data, and its code is in place of the calls. Not proved.
+
+import { findClosing } from "./c_code.js";
+
+const VISIBLE = "(?:pub(?:\\([^)]*\\))?\\s+)?";
+// The heads of items: a structure, whose groups are its name and its parameters, and an `impl`, whose groups are a trait and a type.
+const STRUCT = new RegExp(`${VISIBLE}struct\\s+(\\w+)\\s*<([^>]*)>\\s*(?=\\{)`, "g");
+const IMPL = /(?:unsafe\s+)?impl\s*<[^>]*>\s*(?:(\w+)\s+for\s+)?(\w+)\s*<[^>]*>\s*(?:where\b[^{]*)?(?=\{)/g;
+const FUNCTION = /(?:pub(?:\([^)]*\))?\s+)?(?:const\s+|unsafe\s+)*fn\s+(\w+)\s*\(([^()]*)\)\s*(?:->\s*[^{]*)?(?=\{)/g;
+const FIELD = /(\w+)\s*:\s*([\w:<>' &]+?)\s*(?:,|$)/g;
+const NUMBER = /^(?:[iu](?:32|64|size))$/;
+const CLONE = /\blet\s+(\w+)\s*=\s*(?:Arc::clone\(\s*&\s*(\w+)\s*\)|(\w+)\.clone\(\s*\))\s*;/g;
+const LEAVING = /\b(?:return|break|continue|await)\b|\?|\bpanic!|\.unwrap\(\)\s*\?/;
+
+/** Returns the items of code with a head, each with the groups of this, its body, and its range. */
+function listItems(code, pattern) {
+  return [...code.matchAll(pattern)].map((found) => {
+    const open = found.index + found[0].length;
+    const close = findClosing(code, open);
+    return { groups: found.slice(1), body: code.slice(open + 1, close), begin: found.index, end: close + 1, isWhole: close > 0 };
+  });
+}
+
+/** Returns the fields of a structure: the names and the types. */
+function listFields(body) {
+  return [...body.replace(new RegExp(`\\b${VISIBLE}(?=\\w+\\s*:)`, "g"), "").trim().matchAll(FIELD)].map(([, name, type]) => ({ name, type: type.replace(/\s/g, "") }));
+}
+
+/** Returns the lock of a program with its guard: their names, the field of the data, the initial words of the others, and what locks and unlocks; null if there is none. */
+function findLock(code) {
+  const structs = listItems(code, STRUCT);
+  const impls = listItems(code, IMPL);
+  const lock = structs.find((it) => /\bUnsafeCell\s*<\s*T\s*>/.test(it.body) && it.groups[1].trim() === "T");
+  const guard = lock && structs.find((it) => it !== lock && new RegExp(`^\\s*${VISIBLE}\\w+\\s*:\\s*&\\s*'\\w+\\s+${lock.groups[0]}\\s*<\\s*T\\s*>\\s*,?\\s*$`).test(it.body));
+  if (!guard || structs.length !== 2 || ![...structs, ...impls].every((it) => it.isWhole)) return null;
+  const [name, guardName] = [lock.groups[0], guard.groups[0]];
+  const [back] = /\w+(?=\s*:)/.exec(guard.body.replace(/\bpub\b(?:\([^)]*\))?/, ""));
+  const fields = listFields(lock.body);
+  const [data, ...others] = [...fields].sort((one, other) => Number(other.type === "UnsafeCell<T>") - Number(one.type === "UnsafeCell<T>"));
+  if (data?.type !== "UnsafeCell<T>" || !others.length || others.some((it) => !/^Atomic(?:Bool|[IU](?:32|size))$/.test(it.type))) return null;
+  const isOf = (trait, type) => (it) => it.groups[0] === trait && it.groups[1] === type;
+  const own = impls.find(isOf(undefined, name));
+  const dropping = impls.find(isOf("Drop", guardName));
+  const access = new RegExp(`^\\s*(?:type\\s+Target\\s*=\\s*T\\s*;\\s*)?fn\\s+deref(?:_mut)?\\s*\\(\\s*&\\s*(?:mut\\s+)?self\\s*\\)\\s*->\\s*&\\s*(?:mut\\s+)?(?:T|Self::Target)\\s*\\{\\s*unsafe\\s*\\{\\s*&\\s*(?:mut\\s+)?\\*\\s*self\\s*\\.\\s*${back}\\s*\\.\\s*${data.name}\\s*\\.\\s*get\\s*\\(\\s*\\)\\s*\\}\\s*\\}\\s*$`);
+  const derefs = impls.filter((it) => ["Deref", "DerefMut"].includes(it.groups[0]) && it.groups[1] === guardName);
+  const rest = impls.filter((it) => it !== own && it !== dropping && !derefs.includes(it));
+  const isPlain = rest.every((it) => /^(?:Sync|Send)$/.test(it.groups[0] ?? "") && !it.body.trim());
+  if (!own || !dropping || !derefs.length || !derefs.every((it) => access.test(it.body)) || !isPlain) return null;
+  const parts = readParts(own.body, dropping.body, { name, guardName, back, data, others });
+  return parts && { name, data, others, ...parts, items: [...structs, ...impls] };
+}
+
+/** Returns the initial words of atomics, and what locks and unlocks; null if the methods do more. */
+function readParts(own, dropping, { name, guardName, back, data, others }) {
+  const functions = listItems(own, FUNCTION);
+  const [maker, taker] = ["new", "lock"].map((it) => functions.find((one) => one.groups[0] === it));
+  const [drop] = listItems(dropping, FUNCTION);
+  if (functions.length !== 2 || !maker || !taker || drop?.groups[0] !== "drop") return null;
+  const [, parameter] = /^\s*(\w+)\s*:\s*T\s*$/.exec(maker.groups[1]) ?? [];
+  const [, literal] = new RegExp(`^\\s*(?:Self|${name})\\s*\\{([^]*)\\}\\s*$`).exec(maker.body) ?? [];
+  const words = new Map([...(literal ?? "").matchAll(/(\w+)\s*:\s*Atomic\w+::new\(\s*(\w+)\s*\)/g)].map(([, field, word]) => [field, word]));
+  const isMade = parameter && literal && new RegExp(`\\b${data.name}\\s*:\\s*UnsafeCell::new\\(\\s*${parameter}\\s*\\)`).test(literal);
+  const [, locking] = new RegExp(`^([^]*[;}])\\s*${guardName}\\s*\\{\\s*(?:${back}\\s*:\\s*)?self\\s*\\}\\s*$`).exec(taker.body) ?? [];
+  const unlocking = drop.body.replace(new RegExp(`\\bself\\s*\\.\\s*${back}\\b`, "g"), "self");
+  const isOwn = (it) => (it.match(/\bself\b(?:\s*\.\s*\w+)?/g) ?? []).every((one) => others.some(({ name: field }) => field === one.replace(/^self\s*\.\s*/, "")));
+  if (!isMade || !locking || others.some((it) => !words.has(it.name)) || !isOwn(locking) || !isOwn(unlocking)) return null;
+  return /\blet\b|\breturn\b/.test(locking + unlocking) ? null : { words, locking, unlocking: `${unlocking.trim().replace(/;?$/, ";")}` };
+}
+
+/** Returns where the block ends in which an index is. */
+function findBlockEnd(code, index) {
+  let [at, depth] = [index, 0];
+  for (; at < code.length && depth >= 0; at += 1) depth += Number(code[at] === "{") - Number(code[at] === "}");
+  return at - 1;
+}
+
+/** Returns code in which the code of a lock is in place of the guards that it gives; null if one does more than to change a number. */
+function replaceGuards(code, name, { locking, unlocking, data }) {
+  const [lock, unlock] = [locking, unlocking].map((it) => it.replace(/\bself\s*\.\s*(\w+)/g, `${name}_$1`));
+  const word = `${name}_${data.name}`;
+  const guard = new RegExp(`\\blet\\s+(?:mut\\s+)?(\\w+)\\s*=\\s*${name}\\s*\\.\\s*lock\\s*\\(\\s*\\)\\s*;`);
+  let text = code;
+  for (let found = guard.exec(text); found; found = guard.exec(text)) {
+    const begin = found.index + found[0].length;
+    const end = findBlockEnd(text, begin);
+    const body = text.slice(begin, end);
+    const given = new RegExp(`\\bdrop\\s*\\(\\s*${found[1]}\\s*\\)\\s*;`).exec(body);
+    const held = given ? body.slice(0, given.index) : body;
+    const after = given ? body.slice(given.index + given[0].length) : "";
+    const inner = held.replace(new RegExp(`\\*\\s*${found[1]}\\b`, "g"), word);
+    if (LEAVING.test(held) || !/[;}]\s*$/.test(held) || new RegExp(`\\b${found[1]}\\b`).test(inner + after) || findBlockEnd(held, 0) < held.length - 1) return null;
+    text = `${text.slice(0, found.index)}${lock} ${inner} ${unlock} ${after}${text.slice(end)}`;
+  }
+  const once = new RegExp(`\\*\\s*${name}\\s*\\.\\s*lock\\s*\\(\\s*\\)\\s*([-+]?=)\\s*(\\d+)\\s*;`, "g");
+  text = text.replace(once, (_, sign, value) => `${lock} ${word} ${sign} ${value}; ${unlock}`);
+  // After all threads have ended, `main` finds the lock free.
+  const last = Math.max(text.lastIndexOf(".join()"), ...[...text.matchAll(/\bthread::scope\s*\(/g)].map((it) => findClosing(text, it.index + it[0].length - 1)));
+  return text.replace(new RegExp(`\\*\\s*${name}\\s*\\.\\s*lock\\s*\\(\\s*\\)`, "g"), (whole, at) => (last >= 0 && at > last ? word : whole));
+}
+
+/** Returns code with a static lock in place of one that threads share by `Arc`, and of the names of its clones. */
+function shareLock(code, { name }) {
+  const made = new RegExp(`\\blet\\s+(\\w+)\\s*=\\s*Arc::new\\(\\s*${name}::new\\(\\s*(-?\\d+)(?:_?([iu]\\d+|[iu]size))?\\s*\\)\\s*\\)\\s*;`, "g");
+  const [first, second] = [...code.matchAll(made)];
+  if (!first || second) return code;
+  const names = new Set([first[1]]);
+  const text = code.replace(made, "").replace(CLONE, (whole, alias, one, other) => {
+    if (!names.has(one ?? other)) return whole;
+    names.add(alias);
+    return "";
+  });
+  // A name that has another meaning, too, is left.
+  const others = [...names].filter((it) => new RegExp(`\\blet\\s+(?:mut\\s+)?${it}\\b|\\b${it}\\s*:|\\|\\s*${it}\\b`).test(text));
+  if (others.length) return code;
+  const renamed = [...names].reduce((all, it) => all.replace(new RegExp(`(?<![\\w.])${it}\\b(?!\\s*[(!])`, "g"), first[1]), text);
+  return `static ${first[1]}: ${name}<${first[3] ?? "i32"}> = ${name}::new(${first[2]});\n${renamed}`;
+}
+
+/**
+ * Returns the code of a program in Rust without the type of a lock that it defines for any type; the same code if it has none, or does more with it than to
+ * lock static ones, and to change their numbers.
+ * @param {string} code without comments
+ * @returns {string}
+ */
+export function rewriteGenericLock(code) {
+  const lock = /\bUnsafeCell\s*<\s*T\s*>/.test(code) ? findLock(code) : null;
+  if (!lock) return code;
+  const items = [...lock.items].sort((one, other) => other.begin - one.begin);
+  let text = shareLock(items.reduce((all, { begin, end }) => all.slice(0, begin) + all.slice(end), code), lock);
+  const declared = new RegExp(`\\bstatic\\s+(\\w+)\\s*:\\s*${lock.name}\\s*<\\s*(\\w+)\\s*>\\s*=\\s*${lock.name}\\s*::\\s*new\\s*\\(\\s*(-?\\d+)\\s*\\)\\s*;`, "g");
+  const locks = [...text.matchAll(declared)];
+  if (!locks.length || locks.some(([, , type]) => !NUMBER.test(type))) return code;
+  text = text.replace(declared, (_, name, type, word) => {
+    const atomics = lock.others.map((it) => `static ${name}_${it.name}: ${it.type} = ${it.type}::new(${lock.words.get(it.name)});`);
+    return `${atomics.join(" ")} static mut ${name}_${lock.data.name}: ${type} = ${word};`;
+  });
+  for (const [, name] of locks) {
+    text = text && replaceGuards(text, name, lock);
+    if (text === null || new RegExp(`\\b${name}\\b`).test(text)) return code;
+  }
+  return new RegExp(`\\b${lock.name}\\b`).test(text) ? code : text;
+}
