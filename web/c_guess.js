@@ -25,6 +25,30 @@ export function findEntry({ entered, accesses }) {
 }
 
 /**
+ * Returns the branches around each copy of what a thread does if one of several conditions holds that `||` joins, if that is its only `if`, and each copy
+ * adds the same; null otherwise.
+ * @param {ThreadWriter} writer
+ * @returns {object[][] | null}
+ */
+export function findEither({ entered, accesses }) {
+  const copies = entered.map(([branches]) => branches);
+  const [{ index } = {}] = copies[0] ?? [];
+  const isOne = copies.length > 1 && entered.flat(2).every((it) => it.index === index);
+  const listAdded = (branches) => accesses.filter((it) => it.around?.at(-1) === branches.at(-1)).map((it) => `${it.name} ${it.isWrite} ${it.added}`);
+  const [first, ...others] = copies.map((it) => listAdded(it).join());
+  const isAdding = isOne && accesses.some((it) => it.added !== null && it.around?.at(-1) === copies[0].at(-1));
+  return isAdding && others.every((it) => it === first) ? copies : null;
+}
+
+/** Returns the accesses of threads, without those of further copies of what they do if one of several conditions holds. */
+function listOnce(writers) {
+  return writers.flatMap((writer) => {
+    const copies = findEither(writer)?.slice(1).map((it) => it.at(-1)) ?? [];
+    return writer.accesses.filter((it) => !copies.includes(it.around?.at(-1)));
+  });
+}
+
+/**
  * Returns whether a guessed question may ask whether all threads enter a branch: each of several has one, and waits for nothing; and if one takes back
  * what keeps others out, or has several branches, they add to a location there.
  * @param {Program} program
@@ -32,8 +56,8 @@ export function findEntry({ entered, accesses }) {
  * @returns {boolean}
  */
 export function areEntering(program, writers) {
-  if (writers.length < 2 || !writers.every((it) => findEntry(it) && !it.waits.length)) return false;
-  const accesses = writers.flatMap((it) => it.accesses);
+  if (writers.length < 2 || !writers.every((it) => (findEntry(it) ?? findEither(it)) && !it.waits.length)) return false;
+  const accesses = listOnce(writers);
   const isOfAdditions = isTakenBack(accesses) || writers.some((it) => it.entered.length > 1);
   return !isOfAdditions || listLostAdditions(program, accesses, false).length === 1;
 }
@@ -50,13 +74,14 @@ function isTakenBack(accesses) {
  * Returns the phrases that all threads enter the only branch that they have, and lose an addition in it if a thread takes back what keeps others out; none
  * if that is not all that they do, or if a condition has no register that still has its word at the end.
  */
-function sayEntered(program, writers, accesses) {
+function sayEntered(program, writers) {
   if (!areEntering(program, writers)) return [];
-  const parts = writers.flatMap((writer) => findEntry(writer).map((it) => makeEntered(writer, it)));
+  const accesses = listOnce(writers);
+  const parts = writers.flatMap((writer) => findEntry(writer)?.map((it) => makeEntered(writer, it)) ?? [makeEither(writer)]);
   if (parts.includes(null)) return [];
   const places = new Set(writers.map((it) => it.entries.length ? "loop" : "if"));
   const place = [...places].sort().join(" or ");
-  const isPast = writers.some((it) => findEntry(it).some((branch) => branch.isNegated));
+  const isPast = writers.some((it) => findEntry(it)?.some((branch) => branch.isNegated));
   const tries = places.has("loop") ? " at the first try" : "";
   const words = `${writers.length === 2 ? "both" : "all"} threads ${isPast ? "get past" : "enter"} their ${place}${tries}`;
   return [{ words, formula: { sign: "/\\", parts } }, ...sayLost(isTakenBack(accesses) ? listLostAdditions(program, accesses, false) : [])];
@@ -69,6 +94,13 @@ function makeEntered(writer, { whole, isNegated, settingCounts }) {
   const parts = whole.map(({ variable, word, isEqual }) => ({ name: writer.makeSite(variable), word, isEqual }));
   const formula = parts.length > 1 ? { sign: "/\\", parts } : parts[0];
   return isNegated ? negateFormula(formula) : formula;
+}
+
+/** Returns the formula that says of final states whether a thread has entered one of the copies of a branch; null if no words of registers say it. */
+function makeEither(writer) {
+  const copies = findEither(writer).map((branches) => branches.map((it) => makeEntered(writer, it)));
+  if (copies.flat().includes(null)) return null;
+  return { sign: "\\/", parts: copies.map((it) => (it.length > 1 ? { sign: "/\\", parts: it } : it[0])) };
 }
 
 /** Returns the phrase of formulas of lost additions, of which one holds; none if there are no formulas. */
@@ -102,7 +134,7 @@ function listLostAdditions({ words }, accesses, isSure = true) {
  */
 export function guessQuestion(program, writers, accesses) {
   const lost = sayLost(listLostAdditions(program, accesses));
-  const entered = lost.length ? lost : sayEntered(program, writers, accesses);
+  const entered = lost.length ? lost : sayEntered(program, writers);
   const phrases = entered.length ? entered : sayUnset(program, writers, accesses);
   if (!phrases.length) return { question: guessFirstWords(program, writers), phrases };
   return { question: `~exists (${formatFormula({ sign: "/\\", parts: phrases.map((it) => it.formula) })})`, phrases };

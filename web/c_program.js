@@ -8,7 +8,7 @@ import { CallWriter } from "./c_calls.js";
 import { parseConstant, refusePart } from "./c_code.js";
 import { ConditionWriter } from "./c_conditions.js";
 import { applyEdits } from "./c_edits.js";
-import { areEntering, findEntry, formatList, guessQuestion } from "./c_guess.js";
+import { areEntering, findEither, findEntry, formatList, guessQuestion } from "./c_guess.js";
 import { needsWords, writeKnown } from "./c_known_threads.js";
 import { linkThreads } from "./c_links.js";
 import { addUsers, refuseUsers } from "./c_lone_lock.js";
@@ -215,7 +215,7 @@ function writeAsserting(program, number, kept = []) {
  */
 function writeThread(program, number, isEntering = false) {
   const writer = writeAsserting(program, number);
-  const branches = (isEntering && findEntry(writer)) || writer.loadedBranches;
+  const branches = (isEntering && (findEntry(writer) ?? findEither(writer)?.flat())) || writer.loadedBranches;
   if (program.question.code || writer.assertion || !branches.length) return writer;
   try {
     return makeWriter(program, number, branches.map((it) => it.index)).writeThread();

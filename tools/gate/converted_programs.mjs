@@ -1412,6 +1412,30 @@ void P0(void) { int h = atomic_load(&head); int n = idx(h); buf[n] = 1; buf[h] =
 void P1(void) { if (atomic_load(&head) == 1) { int r = buf[1]; } }
 `,
     "X86 Mine\n(* 0:EAX is i, 0:EBX is n, 1:EAX is head in its condition, 1:EBX is r *)\n{ buf_0=0; buf_1=0; head=0; }\n P0 | P1 ;\n MOV ECX,[head] | MOV EAX,[head] ;\n MOV EAX,$0 | CMP EAX,$1 ;\n MOV EAX,$1 | JNE END ;\n MOV EBX,$1 | MOV EBX,[buf_1] ;\n MOV [buf_1],$1 | END: ;\n MOV [buf_0],$2 | ;\n MOV ECX,$1 | ;\n XCHG [head],ECX | ;\nlocations [0:EAX; 0:EBX; buf_0]\nexists (1:EAX=1 /\\ 1:EBX=0)\n"],
+  ["Peterson's algorithm by || in an if", `#include <atomic>
+#include <thread>
+std::atomic<int> flag0{0}, flag1{0}, turn{0}; int counter;
+void a() { flag0 = 1; turn = 1; if (flag1 == 0 || turn == 0) { counter++; } flag0 = 0; }
+void b() { flag1 = 1; turn = 0; if (flag0 == 0 || turn == 1) { counter++; } flag1 = 0; }
+int main() { std::thread x(a), y(b); x.join(); y.join(); }
+`,
+    "X86 Mine\n(* 0:EAX is flag1 in its condition, 0:EBX is turn in its condition, 1:EAX is flag0 in its condition, 1:EBX is turn in its condition *)\n(* both threads enter their if: (0:EAX=0 \\/ ~0:EAX=0 /\\ 0:EBX=0) /\\ (1:EAX=0 \\/ ~1:EAX=0 /\\ 1:EBX=1) *)\n(* an addition to counter is lost: ~counter=2 *)\n{ flag0=0; flag1=0; turn=0; counter=0; }\n P0 | P1 ;\n MOV ECX,$1 | MOV ECX,$1 ;\n XCHG [flag0],ECX | XCHG [flag1],ECX ;\n MOV ECX,$1 | MOV ECX,$0 ;\n XCHG [turn],ECX | XCHG [turn],ECX ;\n MOV EAX,[flag1] | MOV EAX,[flag0] ;\n CMP EAX,$0 | CMP EAX,$0 ;\n JNE L1 | JNE L1 ;\n MOV ECX,[counter] | MOV ECX,[counter] ;\n ADD ECX,$1 | ADD ECX,$1 ;\n MOV [counter],ECX | MOV [counter],ECX ;\n JMP L2 | JMP L2 ;\n L1: MOV EBX,[turn] | L1: MOV EBX,[turn] ;\n CMP EBX,$0 | CMP EBX,$1 ;\n JNE L3 | JNE L3 ;\n MOV ECX,[counter] | MOV ECX,[counter] ;\n ADD ECX,$1 | ADD ECX,$1 ;\n MOV [counter],ECX | MOV [counter],ECX ;\n L3: L2: MOV ECX,$0 | L3: L2: MOV ECX,$0 ;\n XCHG [flag0],ECX | XCHG [flag1],ECX ;\nlocations [turn]\n~exists ((0:EAX=0 \\/ ~0:EAX=0 /\\ 0:EBX=0) /\\ (1:EAX=0 \\/ ~1:EAX=0 /\\ 1:EBX=1) /\\ ~counter=2)\n"],
+  ["Peterson's algorithm by || in an if, of volatile variables", `#include <atomic>
+#include <thread>
+volatile int flag0, flag1, turn; int counter;
+void a() { flag0 = 1; turn = 1; if (flag1 == 0 || turn == 0) { counter++; } flag0 = 0; }
+void b() { flag1 = 1; turn = 0; if (flag0 == 0 || turn == 1) { counter++; } flag1 = 0; }
+int main() { std::thread x(a), y(b); x.join(); y.join(); }
+`,
+    "X86 Mine\n(* 0:EAX is flag1 in its condition, 0:EBX is turn in its condition, 1:EAX is flag0 in its condition, 1:EBX is turn in its condition *)\n(* both threads enter their if: (0:EAX=0 \\/ ~0:EAX=0 /\\ 0:EBX=0) /\\ (1:EAX=0 \\/ ~1:EAX=0 /\\ 1:EBX=1) *)\n(* an addition to counter is lost: ~counter=2 *)\n{ flag0=0; flag1=0; turn=0; counter=0; }\n P0 | P1 ;\n MOV [flag0],$1 | MOV [flag1],$1 ;\n MOV [turn],$1 | MOV [turn],$0 ;\n MOV EAX,[flag1] | MOV EAX,[flag0] ;\n CMP EAX,$0 | CMP EAX,$0 ;\n JNE L1 | JNE L1 ;\n MOV ECX,[counter] | MOV ECX,[counter] ;\n ADD ECX,$1 | ADD ECX,$1 ;\n MOV [counter],ECX | MOV [counter],ECX ;\n JMP L2 | JMP L2 ;\n L1: MOV EBX,[turn] | L1: MOV EBX,[turn] ;\n CMP EBX,$0 | CMP EBX,$1 ;\n JNE L3 | JNE L3 ;\n MOV ECX,[counter] | MOV ECX,[counter] ;\n ADD ECX,$1 | ADD ECX,$1 ;\n MOV [counter],ECX | MOV [counter],ECX ;\n L3: L2: MOV [flag0],$0 | L3: L2: MOV [flag1],$0 ;\nlocations [turn]\n~exists ((0:EAX=0 \\/ ~0:EAX=0 /\\ 0:EBX=0) /\\ (1:EAX=0 \\/ ~1:EAX=0 /\\ 1:EBX=1) /\\ ~counter=2)\n"],
+  ["branches joined by || with an else that stores", `#include <atomic>
+#include <thread>
+std::atomic<int> flag0{0}, flag1{0}, turn{0}; int counter;
+void a() { flag0 = 1; turn = 1; if (flag1 == 0 || turn == 0) { counter++; } else { counter = 0; } flag0 = 0; }
+void b() { flag1 = 1; turn = 0; if (flag0 == 0 || turn == 1) { counter++; } flag1 = 0; }
+int main() { std::thread x(a), y(b); x.join(); y.join(); }
+`,
+    "X86 Mine\n{ flag0=0; flag1=0; turn=0; counter=0; }\n P0 | P1 ;\n MOV EAX,$1 | MOV EAX,$1 ;\n XCHG [flag0],EAX | XCHG [flag1],EAX ;\n MOV EAX,$1 | MOV EAX,$0 ;\n XCHG [turn],EAX | XCHG [turn],EAX ;\n MOV EAX,[flag1] | MOV EAX,[flag0] ;\n CMP EAX,$0 | CMP EAX,$0 ;\n JNE L1 | JNE L1 ;\n MOV EAX,[counter] | MOV EAX,[counter] ;\n ADD EAX,$1 | ADD EAX,$1 ;\n MOV [counter],EAX | MOV [counter],EAX ;\n JMP L2 | JMP L2 ;\n L1: MOV EAX,[turn] | L1: MOV EAX,[turn] ;\n CMP EAX,$0 | CMP EAX,$1 ;\n JNE L3 | JNE L3 ;\n MOV EAX,[counter] | MOV EAX,[counter] ;\n ADD EAX,$1 | ADD EAX,$1 ;\n MOV [counter],EAX | MOV [counter],EAX ;\n JMP L4 | L3: L2: MOV EAX,$0 ;\n L3: MOV [counter],$0 | XCHG [flag1],EAX ;\n L4: L2: MOV EAX,$0 | ;\n XCHG [flag0],EAX | ;\nlocations [turn; counter]\nexists (true)\n"],
 ];
 // A program of rounds, whose loop does `sets` before the threads run.
 const makeRounds = (sets, code) => `#include <semaphore.h>
