@@ -1,5 +1,5 @@
-// Blanks what a program in C or C++ has that changes nothing its threads share: random delays, with the objects and the classes of these, and classes that
-// nothing uses. Not proved.
+// Blanks what a program in C or C++ has that changes nothing its threads share: random delays, with the objects and the classes of these, and classes
+// that nothing uses. Not proved.
 //
 // A `Class` has its `name`, and the `ranges` of a code that define it and its methods. A range has a `begin` and an `end`.
 
@@ -9,35 +9,64 @@ import { blank, blankComments, findClosing } from "./c_code.js";
 const CLASS = /(?:\btemplate\s*<[^<>;{}]{0,80}>\s*)?\b(?:class|struct)\s+(\w+)\s*(?:final\s*)?\{/g;
 const AFTER_CLASS = /^\}\s*;/;
 const makeMethod = (name) =>
-  new RegExp(`(?<=^|[;}])\\s*(?:inline\\s+)?(?:[\\w:]+[\\s*&]+){0,4}${name}::~?\\w+\\s*\\([^(){};]*\\)\\s*(?:const\\s*|noexcept\\s*)*(?::[^{};]{0,200})?\\{`, "g");
+  new RegExp(
+    `(?<=^|[;}])\\s*(?:inline\\s+)?(?:[\\w:]+[\\s*&]+){0,4}${name}::~?\\w+\\s*\\([^(){};]*\\)\\s*(?:const\\s*|noexcept\\s*)*` +
+      "(?::[^{};]{0,200})?\\{",
+    "g",
+  );
 // What a class may have that touches nothing but its own integers: words of the language, types of integers, and names that it defines.
 const KNOWN = new RegExp(
-  "^(?:class|struct|public|private|protected|unsigned|signed|int|long|short|char|bool|u?int(?:_fast|_least)?\\d+_t|s?size_t|std|void|const|constexpr|explicit|inline|" +
-    "noexcept|this|return|if|else|for|while|do|break|continue|true|false|static_cast|__attribute__|noinline|\\d\\w*)$",
+  "^(?:class|struct|public|private|protected|unsigned|signed|int|long|short|char|bool|u?int(?:_fast|_least)?\\d+_t|s?size_t|std|void|const|" +
+    "constexpr|explicit|inline|noexcept|this|return|if|else|for|while|do|break|continue|true|false|static_cast|__attribute__|noinline|\\d\\w*)$",
 );
 const NAME = /(?<![\w.])[A-Za-z_]\w*/g;
 // What such a class has not: pointers, references, and what is shared by more than its object.
-const SHARING = /->|\b(?:static|extern|volatile|mutable|operator|virtual|friend|template|auto|new)\b|\batomic|\basm\b|\b(?:int|long|short|char|bool|unsigned|signed|void|\w+_t|const)\s*[*&]/;
-const LOCAL = /(?:[{;(]|^)\s*(?:const\s+)?(?:(?:unsigned|signed|int|long|short|char|bool|u?int\d+_t|(?:std::)?size_t)\s+)+(\w+(?:\s*(?:\[[^\][]*\])?(?:\s*=[^,;(){}]*)?\s*,\s*\w+)*)/g;
-const CONSTANT = /^[ \t]*#[ \t]*define[ \t]+(\w+)[ \t]+\(?-?(?:0x)?[\da-f]+[ul]*\)?[ \t]*$|\bconst(?:expr)?\s+(?:unsigned\s+)?(?:int|long|auto|std::size_t|size_t|unsigned)\s+(\w+)\s*=\s*\d+\s*;/gim;
+const SHARING = new RegExp(
+  String.raw`->|\b(?:static|extern|volatile|mutable|operator|virtual|friend|template|auto|new)\b|\batomic|\basm\b|\b(?:int|long|short|` +
+    String.raw`char|bool|unsigned|signed|void|\w+_t|const)\s*[*&]`,
+);
+const LOCAL = new RegExp(
+  String.raw`(?:[{;(]|^)\s*(?:const\s+)?(?:(?:unsigned|signed|int|long|short|char|bool|u?int\d+_t|` +
+    String.raw`(?:std::)?size_t)\s+)+(\w+(?:\s*(?:\[[^\][]*\])?(?:\s*=[^,;(){}]*)?\s*,\s*\w+)*)`,
+  "g",
+);
+const CONSTANT = new RegExp(
+  String.raw`^[ \t]*#[ \t]*define[ \t]+(\w+)[ \t]+\(?-?(?:0x)?[\da-f]+[ul]*\)?[ \t]*$|\bconst(?:expr)?\s+(?:unsigned\s+)?(?:int|long|auto|` +
+    String.raw`std::size_t|size_t|unsigned)\s+(\w+)\s*=\s*\d+\s*;`,
+  "gim",
+);
+// A method of a class up to its code: the group is its name.
+const OWN_METHOD = new RegExp(
+  String.raw`\b(\w+)\s*\([^(){};]*\)\s*(?:const\s*|noexcept\s*|__attribute__\s*\(\([^()]*\)\)\s*)*(?::[^{};]*)?[{;]`,
+  "g",
+);
 // What gives random numbers, by its name in other files, and in the standard library.
 const GENERATOR = "[A-Z]\\w*(?:Twister|Random|Rng|Generator)\\w*";
 const RANDOM = "(?:std\\s*::\\s*)?(?:mt19937(?:_64)?|minstd_rand0?|default_random_engine|random_device|uniform_int_distribution\\s*(?:<[\\w\\s:]*>)?)";
 const NUMBERS = /^(?:std|s?rand|random|rand_r|\d\w*)$/;
 // Where a program defines one of these itself: a function, a macro, or an object that is called.
-const OWN_NUMBERS = /\b(?:s?rand|random|rand_r)\b\s*(?:\([^(){};]*\)\s*(?:\{|->|[A-Za-z_])|=(?!=)|\{|\))|\bdefine[ \t]+(?:s?rand|random|rand_r)\b|\busing\s+(?!std\b)[\w:]+::(?:s?rand|random|rand_r)\b/;
+const OWN_NUMBERS = new RegExp(
+  String.raw`\b(?:s?rand|random|rand_r)\b\s*(?:\([^(){};]*\)\s*(?:\{|->|[A-Za-z_])|=(?!=)|\{|\))|\bdefine[ \t]+(?:s?rand|random|rand_r)\b|` +
+    String.raw`\busing\s+(?!std\b)[\w:]+::(?:s?rand|random|rand_r)\b`,
+);
 // A number that a variable gives, which is the group.
 const OF_SEED = /\brand_r\s*\(\s*&\s*(\w+)\s*\)/g;
 // What chooses the numbers that a program gets.
-const SEEDING = /(?<=[;{}])\s*(?:std\s*::\s*)?srand\s*\(\s*(?:\(\s*unsigned(?:\s+int)?\s*\)\s*)?(?:\d+|(?:std\s*::\s*)?time\s*\(\s*(?:NULL|nullptr|0)\s*\))\s*\)\s*;/g;
-// A loop without statements: the group is its condition. And one that counts: the groups are its variable, its first value, its bound, and how it counts.
+const SEEDING = new RegExp(
+  String.raw`(?<=[;{}])\s*(?:std\s*::\s*)?srand\s*\(\s*(?:\(\s*unsigned(?:\s+int)?\s*\)\s*)?(?:\d+|(?:std\s*::\s*)?time\s*\(\s*(?:NULL|` +
+    String.raw`nullptr|0)\s*\))\s*\)\s*;`,
+  "g",
+);
+// A loop without statements: the group is its condition. And one that counts: the groups are its variable, its first value, its bound, and how it
+// counts.
 const IDLE = "(?:__)?asm(?:__)?\\s+(?:__)?volatile(?:__)?\\s*\\(\\s*\"\\s*(?:nop|pause|rep_? ?nop|)\\s*(?:\\\\n)?\"[\\s:]*(?:\"memory\"\\s*)?\\)\\s*;";
 const EMPTY = `\\s*(?:;|\\{\\s*;?\\s*\\}|${IDLE}|\\{\\s*${IDLE}\\s*\\})`;
 const VALUE = "(?:[^(){};]|\\([^(){};]*\\)){1,120}";
 const WAITING = new RegExp(`\\bwhile\\s*\\((${VALUE})\\)${EMPTY}`, "g");
 const COUNTED = new RegExp(
   `\\bfor\\s*\\(\\s*(?:(?:volatile|register|unsigned|int|long|auto|(?:std::)?size_t|u?int\\d+_t)\\s+)+(\\w+)\\s*=(${VALUE});\\s*` +
-    `(?:\\1\\s*<(?![<=])(${VALUE});\\s*(?:\\+\\+\\s*\\1|\\1\\s*(?:\\+\\+|\\+=\\s*[1-9]\\d*))|\\1\\s*>(?![>=])(${VALUE});\\s*(?:--\\s*\\1|\\1\\s*(?:--|-=\\s*[1-9]\\d*)))\\s*\\)${EMPTY}`,
+    `(?:\\1\\s*<(?![<=])(${VALUE});\\s*(?:\\+\\+\\s*\\1|\\1\\s*(?:\\+\\+|\\+=\\s*[1-9]\\d*))|` +
+    `\\1\\s*>(?![>=])(${VALUE});\\s*(?:--\\s*\\1|\\1\\s*(?:--|-=\\s*[1-9]\\d*)))\\s*\\)${EMPTY}`,
   "g",
 );
 // What an unused class may do before the threads, or be used by without its name.
@@ -89,7 +118,9 @@ function listFunctions(code) {
   return [...code.matchAll(/\b(\w+)\s*\([^(){};]*\)\s*(?:const\s*|noexcept\s*)*(?:->[^(){};]*)?\{/g)].map((it) => it[1]);
 }
 
-/** Returns whether objects of a class touch only their own integers, so that what they do changes nothing else. `global` is the code outside of functions. */
+/**
+ * Returns whether objects of a class touch only their own integers, so that what they do changes nothing else. `global` is the code outside of functions.
+ */
 function isOwn(code, { name, ranges }, constants, global) {
   const parts = ranges.map(({ begin, end }) => code.slice(begin, end).replace(new RegExp(`\\b${name}::`, "g"), " "));
   const own = parts.join("\n");
@@ -97,8 +128,9 @@ function isOwn(code, { name, ranges }, constants, global) {
   const declared = [...own.matchAll(LOCAL)].flatMap(([, list]) => list.replace(/\[[^\][]*\]|=[^,]*/g, "").match(/\w+/g) ?? []);
   const parameters = [...own.matchAll(/\(([^(){};]*)\)\s*(?:const\s*|noexcept\s*|__attribute__\s*\(\([^()]*\)\)\s*)*[:{;]/g)]
     .flatMap(([, list]) => list.split(",").map((it) => /\w[\s]+(\w+)\s*$/.exec(it)?.[1] ?? ""));
-  const methods = [...own.matchAll(/\b(\w+)\s*\([^(){};]*\)\s*(?:const\s*|noexcept\s*|__attribute__\s*\(\([^()]*\)\)\s*)*(?::[^{};]*)?[{;]/g)].map((it) => it[1]);
-  const defined = [...ranges.slice(1).map(({ begin, end }) => /::~?(\w+)\s*\(/.exec(code.slice(begin, end))?.[1]), ...methods.filter((it) => isMethod(own, it))];
+  const methods = [...own.matchAll(OWN_METHOD)].map((it) => it[1]);
+  const outside = ranges.slice(1).map(({ begin, end }) => /::~?(\w+)\s*\(/.exec(code.slice(begin, end))?.[1]);
+  const defined = [...outside, ...methods.filter((it) => isMethod(own, it))];
   const names = new Set([name, ...declared, ...parameters, ...constants, ...defined]);
   const isGlobal = (it) => new RegExp(`\\b${it}\\b`).test(global);
   if ([...declared, ...parameters].some((it) => it && isGlobal(it))) return false;
@@ -113,7 +145,8 @@ function isMethod(code, name) {
 /** Returns a text in which ranges are blank. A range that `isStatement` leaves an empty one. */
 function blankRanges(text, ranges) {
   const blankRange = (code, isStatement) => blank(isStatement ? code.slice(0, -1) : code) + (isStatement ? ";" : "");
-  return ranges.reduce((all, { begin, end, isStatement }) => all.slice(0, begin) + blankRange(all.slice(begin, end), isStatement) + all.slice(end), text);
+  const blankOne = (all, { begin, end, isStatement }) => all.slice(0, begin) + blankRange(all.slice(begin, end), isStatement) + all.slice(end);
+  return ranges.reduce(blankOne, text);
 }
 
 /** Returns the ranges of matches. */
@@ -132,17 +165,21 @@ function isRandom(value, objects, constants, seeds = []) {
 function listSeeds(code) {
   const names = [...new Set([...code.matchAll(OF_SEED)].map((it) => it[1]))];
   const left = code.replace(OF_SEED, " ");
-  const isDeclared = (name) => new RegExp(`\\b(?:unsigned(?:\\s+int)?|int)\\s+(?:\\w+\\s*=\\s*\\w+\\s*,\\s*)*${name}\\s*(?:=\\s*\\w+\\s*)?[,;]`).test(left);
+  const type = "\\b(?:unsigned(?:\\s+int)?|int)\\s+(?:\\w+\\s*=\\s*\\w+\\s*,\\s*)*";
+  const isDeclared = (name) => new RegExp(`${type}${name}\\s*(?:=\\s*\\w+\\s*)?[,;]`).test(left);
   return names.filter((name) => left.match(new RegExp(`\\b${name}\\b`, "g"))?.length === 1 && isDeclared(name));
 }
 
-/** Returns whether a condition that names only what gives random numbers may fail: none of the remainders of a division by a constant may all fulfil it. */
+/**
+ * Returns whether a condition that names only what gives random numbers may fail: none of the remainders of a division by a constant may all fulfil it.
+ */
 function canFail(condition) {
   if (/>=\s*-?0\s*$|>\s*-\s*\d+\s*$/.test(condition)) return false;
   const [, modulus, sign, other] = /%\s*(\d+)[\s)]*(?:([!=<>]=|[<>])\s*\(?\s*(\d+)[\s)]*)?$/.exec(condition) ?? [];
   if (modulus === undefined) return true;
   const [least, most, bound] = [0, Number(modulus) - 1, Number(other)];
-  return { "!=": bound <= most, "==": most > 0 || bound > 0, "<": most >= bound, "<=": most > bound, ">": least <= bound, ">=": least < bound }[sign] ?? true;
+  const ofLess = { "<": most >= bound, "<=": most > bound, ">": least <= bound, ">=": least < bound };
+  return { "!=": bound <= most, "==": most > 0 || bound > 0, ...ofLess }[sign] ?? true;
 }
 
 /** Returns whether an object of a class of the program is that of one thread, as one that a function declares, of which no lambda has a reference. */
@@ -167,7 +204,8 @@ function listObjects(code, classes, harmless, global, isDirected) {
   const functions = listFunctions(code);
   const known = [...harmless.map((it) => it.name), RANDOM].join("|");
   const type = `(${[known, GENERATOR].join("|")})`;
-  const declared = new RegExp(`(?<=[;{}])\\s*(?:(?:thread_local|static)\\s+)*${type}\\s+(\\w+)\\s*(?:\\([\\w\\s,()]*?\\)|\\{[\\w\\s,()]*?\\})?\\s*;`, "g");
+  const begin = `(?<=[;{}])\\s*(?:(?:thread_local|static)\\s+)*${type}`;
+  const declared = new RegExp(`${begin}\\s+(\\w+)\\s*(?:\\([\\w\\s,()]*?\\)|\\{[\\w\\s,()]*?\\})?\\s*;`, "g");
   return [...code.matchAll(declared)].flatMap((it) => {
     const isKnown = new RegExp(`^(?:${known})$`).test(it[1]);
     const isCalling = listCalls(it[0]).some((name) => functions.includes(name));
