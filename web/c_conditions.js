@@ -1,5 +1,5 @@
-// Writes the branches and the loops of a thread in C in which words of variables are known: relations of few words as equalities, the rest of a block once
-// for each word of an index, and loops that call a function till it succeeds. Not proved.
+// Writes the branches and the loops of a thread in C in which words of variables are known: relations of few words as equalities, the rest of a
+// block once for each word of an index, and loops that call a function till it succeeds. Not proved.
 
 import { parseConstant } from "./c_code.js";
 import { computeConstant, foldConstants } from "./c_constants.js";
@@ -8,8 +8,8 @@ import { removeOuterParentheses, splitOutside } from "./c_statements.js";
 import { joinPaths, OF_BRANCHES } from "./c_thread.js";
 import { WORD } from "./token_reader.js";
 
-// A comparison of a variable after a step in squeezed code: the groups are a parenthesis, the sign, and the variable. And a difference of a constant and a
-// load that is compared: the groups are its sides, the sign, and the word.
+// A comparison of a variable after a step in squeezed code: the groups are a parenthesis, the sign, and the variable. And a difference of a
+// constant and a load that is compared: the groups are its sides, the sign, and the word.
 const STEPPED = /^(\(?)([+-])\2(\w+)\b(?=[=!<>])/;
 const DIFFERENCE = /^\(?(\d+)-([A-Za-z_]\w*|atomic_load\w{0,20}\([^()]*\))\)?([=!]=)(\d+)$/;
 // A relation in squeezed code: the groups are its sides and its sign. And what may be loaded for it.
@@ -59,8 +59,8 @@ export class ConditionWriter extends KnownWriter {
   }
 
   /**
-   * Returns a condition of equalities in place of one with relations of variables and constants, and writes the load in the first one: each variable has
-   * one of a few words. Throws NoTest if these are not known.
+   * Returns a condition of equalities in place of one with relations of variables and constants, and writes the load in the first one: each
+   * variable has one of a few words. Throws NoTest if these are not known.
    */
   writeRelations(code) {
     if (splitOutside(removeOuterParentheses(code), "||").length > 1 || !isRelation(code)) return code;
@@ -100,7 +100,10 @@ export class ConditionWriter extends KnownWriter {
     return Object.assign(this, { loaded, loadedBranches }) && variable;
   }
 
-  /** Returns the words that a variable of the thread may have: constants to which it was set, and words of variables that it loaded; null if not known. */
+  /**
+   * Returns the words that a variable of the thread may have: constants to which it was set, and words of variables that it loaded; null if not
+   * known.
+   */
   listLocal(variable) {
     const origins = this.origins.get(variable) ?? [];
     if (origins.length !== this.countSettings(variable) || origins.includes(null)) return null;
@@ -149,7 +152,8 @@ export class ConditionWriter extends KnownWriter {
   }
 
   /**
-   * Writes the call of a function in place of a loop that calls it till it returns something else than 0, or 0. Passes before the last one change nothing.
+   * Writes the call of a function in place of a loop that calls it till it returns something else than 0, or 0. Passes before the last one change
+   * nothing.
    * Returns whether it is such a loop.
    */
   writeCalling({ assigns, inner, isLate, body }, code) {

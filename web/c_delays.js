@@ -1,5 +1,5 @@
-// Blanks what a program in C or C++ has that changes nothing its threads share: random delays, with the objects and the classes of these, and classes
-// that nothing uses. Not proved.
+// Blanks what a program in C or C++ has that changes nothing its threads share: random delays, with the objects and the classes of these, and
+// classes that nothing uses. Not proved.
 //
 // A `Class` has its `name`, and the `ranges` of a code that define it and its methods. A range has a `begin` and an `end`.
 
@@ -119,7 +119,8 @@ function listFunctions(code) {
 }
 
 /**
- * Returns whether objects of a class touch only their own integers, so that what they do changes nothing else. `global` is the code outside of functions.
+ * Returns whether objects of a class touch only their own integers, so that what they do changes nothing else. `global` is the code outside of
+ * functions.
  */
 function isOwn(code, { name, ranges }, constants, global) {
   const parts = ranges.map(({ begin, end }) => code.slice(begin, end).replace(new RegExp(`\\b${name}::`, "g"), " "));
@@ -171,7 +172,8 @@ function listSeeds(code) {
 }
 
 /**
- * Returns whether a condition that names only what gives random numbers may fail: none of the remainders of a division by a constant may all fulfil it.
+ * Returns whether a condition that names only what gives random numbers may fail: none of the remainders of a division by a constant may all fulfil
+ * it.
  */
 function canFail(condition) {
   if (/>=\s*-?0\s*$|>\s*-\s*\d+\s*$/.test(condition)) return false;
@@ -182,7 +184,9 @@ function canFail(condition) {
   return { "!=": bound <= most, "==": most > 0 || bound > 0, ...ofLess }[sign] ?? true;
 }
 
-/** Returns whether an object of a class of the program is that of one thread, as one that a function declares, of which no lambda has a reference. */
+/**
+ * Returns whether an object of a class of the program is that of one thread, as one that a function declares, of which no lambda has a reference.
+ */
 function isOfThread(code, global, { index, 0: declaration }) {
   const end = index + declaration.length;
   if (/\bthread_local\b/.test(declaration)) return true;

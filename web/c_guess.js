@@ -126,7 +126,8 @@ function listLostAdditions({ words }, accesses, isSure = true) {
 /**
  * Returns a question for a test that has none: whether an addition can be lost, if a load and a store make one; or whether all threads can enter their
  * branches at once; and otherwise whether all variables that threads loaded last can have their first words, if these loads are reached, and if what a
- * thread loaded before has another one. Or can a thread find a location not yet set that a lock is for? It is `true` if a thread loads otherwise, or none loads. The question of a defect has `phrases`, which say what it is.
+ * thread loaded before has another one. Or can a thread find a location not yet set that a lock is for? It is `true` if a thread loads otherwise, or
+ * none loads. The question of a defect has `phrases`, which say what it is.
  * @param {Program} program
  * @param {ThreadWriter[]} writers
  * @param {object[]} accesses

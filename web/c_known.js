@@ -1,8 +1,9 @@
-// Writes the instructions of a thread in C in which words of variables are known in the order of the program: those of the thread's own variables, and
-// of shared ones that no other thread writes. So an index that a thread loads is one word of an array, as in a ring buffer. Not proved.
+// Writes the instructions of a thread in C in which words of variables are known in the order of the program: those of the thread's own variables,
+// and of shared ones that no other thread writes. So an index that a thread loads is one word of an array, as in a ring buffer. Not proved.
 //
-// A thread that is the only one to write a variable loads its own last word of it, from its buffer or from memory. Whether it is the only one is assumed
-// while it is written, and checked in the accesses of all threads: till a first access breaks an assumption, all threads run as they are written.
+// A thread that is the only one to write a variable loads its own last word of it, from its buffer or from memory. Whether it is the only one is
+// assumed while it is written, and checked in the accesses of all threads: till a first access breaks an assumption, all threads run as they are
+// written.
 // What is known on all paths to a statement is in `known` beside the variables that have a value: `h=1` of one of the thread, and `&head=1` of a
 // shared one.
 

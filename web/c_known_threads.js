@@ -1,4 +1,5 @@
-// Finds which words of variables are known to the threads of a program in C: they are written till no thread breaks what another one assumes. Not proved.
+// Finds which words of variables are known to the threads of a program in C: they are written till no thread breaks what another one assumes. Not
+// proved.
 //
 // A `Program` is that of c_reader.js.
 
@@ -63,8 +64,8 @@ export function writeKnown(program, write) {
 }
 
 /**
- * Returns whether a program that is refused needs words that are known: for an index, for a variable that has a value after some results of a function, for a
- * loop that calls one, or for a relation.
+ * Returns whether a program that is refused needs words that are known: for an index, for a variable that has a value after some results of a
+ * function, for a loop that calls one, or for a relation.
  * @param {{why: string, index: number}} test
  * @param {string} text
  * @returns {boolean}

@@ -1,14 +1,16 @@
-// Finds out whether a program in C or C++ makes an object once, since a lock is around a test whether it is made: as double-checked locking does. Not proved.
+// Finds out whether a program in C or C++ makes an object once, since a lock is around a test whether it is made: as double-checked locking does.
+// Not proved.
 //
-// The first thread that has the lock makes the object, and stores its pointer before it gives the lock back. Each one that gets the lock later finds this
-// pointer. So it matters that nothing else sets the pointer, and that the lock is one.
+// The first thread that has the lock makes the object, and stores its pointer before it gives the lock back. Each one that gets the lock later
+// finds this pointer. So it matters that nothing else sets the pointer, and that the lock is one.
 
 import { findClosing } from "./c_code.js";
 
 // What takes a lock, at the end of code: the groups are the names of the lock in a guard, a method, a function of C, and a loop that spins.
 const LOCK = new RegExp(
-  "[;{}]\\s*(?:(?:std::)?(?:lock_guard|unique_lock|scoped_lock)\\s*(?:<\\s*[\\w:]+\\s*>)?\\s*\\w+\\s*[({]\\s*(\\w+)\\s*[)}]\\s*|(\\w+)\\s*\\.\\s*lock\\s*\\(\\s*\\)\\s*|" +
-    "pthread_mutex_lock\\s*\\(\\s*&\\s*(\\w+)\\s*\\)\\s*|while\\s*\\(\\s*(\\w+)\\s*\\.\\s*test_and_set\\s*\\([\\w:\\s]*\\)\\s*\\)\\s*(?:\\{\\s*\\}|(?=;)))\\s*;?\\s*$",
+  "[;{}]\\s*(?:(?:std::)?(?:lock_guard|unique_lock|scoped_lock)\\s*(?:<\\s*[\\w:]+\\s*>)?\\s*\\w+\\s*[({]\\s*(\\w+)\\s*[)}]\\s*|" +
+    "(\\w+)\\s*\\.\\s*lock\\s*\\(\\s*\\)\\s*|pthread_mutex_lock\\s*\\(\\s*&\\s*(\\w+)\\s*\\)\\s*|" +
+    "while\\s*\\(\\s*(\\w+)\\s*\\.\\s*test_and_set\\s*\\([\\w:\\s]*\\)\\s*\\)\\s*(?:\\{\\s*\\}|(?=;)))\\s*;?\\s*$",
 );
 const GUARD = /_(?:guard|lock)\s*(?:<|\s\w)/;
 // The load of a pointer into another one, at the end of code: the groups are the latter and the shared one.
@@ -20,7 +22,10 @@ const IS_NULL = new RegExp(`^\\s*(?:!\\s*(\\w+)\\s*${LOAD}|(\\w+)\\s*${LOAD}\\s*
 const HEAD = /\bif\s*\($/;
 const MUTEX = "(?:(?:std::)?mutex|pthread_mutex_t|(?:std::)?atomic_flag)\\s+";
 
-/** Returns the indices at which the head and the block of the innermost `if` around an index begin and end; null if it is in none, or in a block in it. */
+/**
+ * Returns the indices at which the head and the block of the innermost `if` around an index begin and end; null if it is in none, or in a block in
+ * it.
+ */
 function findBranch(code, index) {
   let [at, depth] = [index, 0];
   while (at > 0 && depth < 1) {
@@ -39,8 +44,8 @@ function findBranch(code, index) {
 }
 
 /**
- * Returns whether the code at an index, which makes an object, is executed once at most: it is in an `if` that finds a shared pointer null after a lock is
- * taken, and sets this pointer before the lock is given back. Nothing else sets it.
+ * Returns whether the code at an index, which makes an object, is executed once at most: it is in an `if` that finds a shared pointer null after a
+ * lock is taken, and sets this pointer before the lock is given back. Nothing else sets it.
  * @param {string} code without comments
  * @param {number} index
  * @returns {boolean}

@@ -1,4 +1,5 @@
-// Moves what a class of a program in C++ has for all its objects out of the class: static variables and methods, as a singleton has them. Not proved.
+// Moves what a class of a program in C++ has for all its objects out of the class: static variables and methods, as a singleton has them. Not
+// proved.
 //
 // An `Edit` replaces a text from its `begin` to its `end` by its `text`.
 
@@ -32,10 +33,15 @@ function listMembers(code, open, close) {
     if (method && !end) return { members: [], edits: [] };
     if (method || variable) members.push({ name: name ?? shared, begin: at, end, isVariable: !method });
     if (compiled) edits.push({ begin: at, end, text: "" });
-    if (constructor) edits.push({ begin: at, end, text: `${own}() : ${given.trim().replace(/;$/, "").replace(/(\w+)\s*=\s*([\w-]+)\s*/g, "$1($2)").replaceAll(";", ",")} {}` });
+    if (constructor) edits.push({ begin: at, end, text: `${own}() : ${listGiven(given)} {}` });
     at = end > at ? end : findMemberEnd(code, at, close);
   }
   return { members, edits };
+}
+
+/** Returns what a constructor gives its members in its code as what it gives them before. */
+function listGiven(code) {
+  return code.trim().replace(/;$/, "").replace(/(\w+)\s*=\s*([\w-]+)\s*/g, "$1($2)").replaceAll(";", ",");
 }
 
 /** Returns where another member of a class ends that begins at an index. */

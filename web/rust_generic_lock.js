@@ -1,5 +1,5 @@
-// Rewrites a program in Rust with a lock of its own for any type, as `SpinLock<T>` with a guard that gives it back when it is dropped, as one without the
-// lock's type: each lock is its atomics and its data, and its code is in place of the calls. Not proved.
+// Rewrites a program in Rust with a lock of its own for any type, as `SpinLock<T>` with a guard that gives it back when it is dropped, as one
+// without the lock's type: each lock is its atomics and its data, and its code is in place of the calls. Not proved.
 
 import { findClosing } from "./c_code.js";
 
@@ -24,15 +24,20 @@ function listItems(code, pattern) {
 
 /** Returns the fields of a structure: the names and the types. */
 function listFields(body) {
-  return [...body.replace(new RegExp(`\\b${VISIBLE}(?=\\w+\\s*:)`, "g"), "").trim().matchAll(FIELD)].map(([, name, type]) => ({ name, type: type.replace(/\s/g, "") }));
+  const plain = body.replace(new RegExp(`\\b${VISIBLE}(?=\\w+\\s*:)`, "g"), "").trim();
+  return [...plain.matchAll(FIELD)].map(([, name, type]) => ({ name, type: type.replace(/\s/g, "") }));
 }
 
-/** Returns the lock of a program with its guard: their names, the field of the data, the initial words of the others, and what locks and unlocks; null if there is none. */
+/**
+ * Returns the lock of a program with its guard: their names, the field of the data, the initial words of the others, and what locks and unlocks;
+ * null if there is none.
+ */
 function findLock(code) {
   const structs = listItems(code, STRUCT);
   const impls = listItems(code, IMPL);
   const lock = structs.find((it) => /\bUnsafeCell\s*<\s*T\s*>/.test(it.body) && it.groups[1].trim() === "T");
-  const guard = lock && structs.find((it) => it !== lock && new RegExp(`^\\s*${VISIBLE}\\w+\\s*:\\s*&\\s*'\\w+\\s+${lock.groups[0]}\\s*<\\s*T\\s*>\\s*,?\\s*$`).test(it.body));
+  const reference = lock && new RegExp(`^\\s*${VISIBLE}\\w+\\s*:\\s*&\\s*'\\w+\\s+${lock.groups[0]}\\s*<\\s*T\\s*>\\s*,?\\s*$`);
+  const guard = lock && structs.find((it) => it !== lock && reference.test(it.body));
   if (!guard || structs.length !== 2 || ![...structs, ...impls].every((it) => it.isWhole)) return null;
   const [name, guardName] = [lock.groups[0], guard.groups[0]];
   const [back] = /\w+(?=\s*:)/.exec(guard.body.replace(/\bpub\b(?:\([^)]*\))?/, ""));
@@ -42,7 +47,11 @@ function findLock(code) {
   const isOf = (trait, type) => (it) => it.groups[0] === trait && it.groups[1] === type;
   const own = impls.find(isOf(undefined, name));
   const dropping = impls.find(isOf("Drop", guardName));
-  const access = new RegExp(`^\\s*(?:type\\s+Target\\s*=\\s*T\\s*;\\s*)?fn\\s+deref(?:_mut)?\\s*\\(\\s*&\\s*(?:mut\\s+)?self\\s*\\)\\s*->\\s*&\\s*(?:mut\\s+)?(?:T|Self::Target)\\s*\\{\\s*unsafe\\s*\\{\\s*&\\s*(?:mut\\s+)?\\*\\s*self\\s*\\.\\s*${back}\\s*\\.\\s*${data.name}\\s*\\.\\s*get\\s*\\(\\s*\\)\\s*\\}\\s*\\}\\s*$`);
+  const access = new RegExp(
+    "^\\s*(?:type\\s+Target\\s*=\\s*T\\s*;\\s*)?" +
+      "fn\\s+deref(?:_mut)?\\s*\\(\\s*&\\s*(?:mut\\s+)?self\\s*\\)\\s*->\\s*&\\s*(?:mut\\s+)?(?:T|Self::Target)\\s*" +
+      `\\{\\s*unsafe\\s*\\{\\s*&\\s*(?:mut\\s+)?\\*\\s*self\\s*\\.\\s*${back}\\s*\\.\\s*${data.name}\\s*\\.\\s*get\\s*\\(\\s*\\)\\s*\\}\\s*\\}\\s*$`,
+  );
   const derefs = impls.filter((it) => ["Deref", "DerefMut"].includes(it.groups[0]) && it.groups[1] === guardName);
   const rest = impls.filter((it) => it !== own && it !== dropping && !derefs.includes(it));
   const isPlain = rest.every((it) => /^(?:Sync|Send)$/.test(it.groups[0] ?? "") && !it.body.trim());
@@ -63,7 +72,8 @@ function readParts(own, dropping, { name, guardName, back, data, others }) {
   const isMade = parameter && literal && new RegExp(`\\b${data.name}\\s*:\\s*UnsafeCell::new\\(\\s*${parameter}\\s*\\)`).test(literal);
   const [, locking] = new RegExp(`^([^]*[;}])\\s*${guardName}\\s*\\{\\s*(?:${back}\\s*:\\s*)?self\\s*\\}\\s*$`).exec(taker.body) ?? [];
   const unlocking = drop.body.replace(new RegExp(`\\bself\\s*\\.\\s*${back}\\b`, "g"), "self");
-  const isOwn = (it) => (it.match(/\bself\b(?:\s*\.\s*\w+)?/g) ?? []).every((one) => others.some(({ name: field }) => field === one.replace(/^self\s*\.\s*/, "")));
+  const isField = (one) => others.some((it) => it.name === one.replace(/^self\s*\.\s*/, ""));
+  const isOwn = (it) => (it.match(/\bself\b(?:\s*\.\s*\w+)?/g) ?? []).every(isField);
   if (!isMade || !locking || others.some((it) => !words.has(it.name)) || !isOwn(locking) || !isOwn(unlocking)) return null;
   return /\blet\b|\breturn\b/.test(locking + unlocking) ? null : { words, locking, unlocking: `${unlocking.trim().replace(/;?$/, ";")}` };
 }
@@ -89,13 +99,15 @@ function replaceGuards(code, name, { locking, unlocking, data }) {
     const held = given ? body.slice(0, given.index) : body;
     const after = given ? body.slice(given.index + given[0].length) : "";
     const inner = held.replace(new RegExp(`\\*\\s*${found[1]}\\b`, "g"), word);
-    if (LEAVING.test(held) || !/[;}]\s*$/.test(held) || new RegExp(`\\b${found[1]}\\b`).test(inner + after) || findBlockEnd(held, 0) < held.length - 1) return null;
+    const isLeft = LEAVING.test(held) || !/[;}]\s*$/.test(held) || findBlockEnd(held, 0) < held.length - 1;
+    if (isLeft || new RegExp(`\\b${found[1]}\\b`).test(inner + after)) return null;
     text = `${text.slice(0, found.index)}${lock} ${inner} ${unlock} ${after}${text.slice(end)}`;
   }
   const once = new RegExp(`\\*\\s*${name}\\s*\\.\\s*lock\\s*\\(\\s*\\)\\s*([-+]?=)\\s*(\\d+)\\s*;`, "g");
   text = text.replace(once, (_, sign, value) => `${lock} ${word} ${sign} ${value}; ${unlock}`);
   // After all threads have ended, `main` finds the lock free.
-  const last = Math.max(text.lastIndexOf(".join()"), ...[...text.matchAll(/\bthread::scope\s*\(/g)].map((it) => findClosing(text, it.index + it[0].length - 1)));
+  const scopes = [...text.matchAll(/\bthread::scope\s*\(/g)].map((it) => findClosing(text, it.index + it[0].length - 1));
+  const last = Math.max(text.lastIndexOf(".join()"), ...scopes);
   return text.replace(new RegExp(`\\*\\s*${name}\\s*\\.\\s*lock\\s*\\(\\s*\\)`, "g"), (whole, at) => (last >= 0 && at > last ? word : whole));
 }
 
@@ -118,8 +130,8 @@ function shareLock(code, { name }) {
 }
 
 /**
- * Returns the code of a program in Rust without the type of a lock that it defines for any type; the same code if it has none, or does more with it than to
- * lock static ones, and to change their numbers.
+ * Returns the code of a program in Rust without the type of a lock that it defines for any type; the same code if it has none, or does more with it
+ * than to lock static ones, and to change their numbers.
  * @param {string} code without comments
  * @returns {string}
  */
@@ -128,7 +140,10 @@ export function rewriteGenericLock(code) {
   if (!lock) return code;
   const items = [...lock.items].sort((one, other) => other.begin - one.begin);
   let text = shareLock(items.reduce((all, { begin, end }) => all.slice(0, begin) + all.slice(end), code), lock);
-  const declared = new RegExp(`\\bstatic\\s+(\\w+)\\s*:\\s*${lock.name}\\s*<\\s*(\\w+)\\s*>\\s*=\\s*${lock.name}\\s*::\\s*new\\s*\\(\\s*(-?\\d+)\\s*\\)\\s*;`, "g");
+  const declared = new RegExp(
+    `\\bstatic\\s+(\\w+)\\s*:\\s*${lock.name}\\s*<\\s*(\\w+)\\s*>\\s*=\\s*${lock.name}\\s*::\\s*new\\s*\\(\\s*(-?\\d+)\\s*\\)\\s*;`,
+    "g",
+  );
   const locks = [...text.matchAll(declared)];
   if (!locks.length || locks.some(([, , type]) => !NUMBER.test(type))) return code;
   text = text.replace(declared, (_, name, type, word) => {
