@@ -7,6 +7,11 @@ import { askBest, askServer, hasModule } from "./ways.js";
 // In milliseconds: after how long the reader can end a question, and a second.
 const PAUSE = 400;
 const SECOND = 1000;
+// What the page does meanwhile, if a question takes long.
+const DOING = {
+  film: "looking for a run to watch", graph: "finding its graph", "more fences": "trying fences", exchanges: "trying exchanges without their locks",
+  "enough together": "trying fences and locks together", candidate: "looking for a state whose cycle says most",
+};
 
 // For each editor the questions that are asked on its test, by their names.
 const askedByEditor = new WeakMap();
@@ -72,7 +77,7 @@ class Asked {
   /** Returns how far the answer is, and since how many seconds it is waited for. */
   describeWaiting() {
     const seconds = Math.floor((performance.now() - this.begun) / SECOND);
-    return `… ${this.progress ? `${this.progress}, ` : ""}${seconds} s`;
+    return ["…", [this.progress || DOING[this.question], `${seconds} s`].filter(Boolean).join(", ")].join(" ");
   }
 }
 

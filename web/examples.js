@@ -42,6 +42,23 @@ const BY_INTERLEAVING = {
 const SURPRISES = {
   "SB-x86": "No interleaving gives this: each load would have to come before the other thread's store.",
 };
+// What the examples with which a lesson may begin show, in words for those who know no store buffers; the tests' own words are folded then.
+const PLAIN = {
+  "SB-x86": "Each thread writes one variable, then reads the other's. Both can read 0: a write waits in a store buffer, unseen by the other thread, before " +
+    "it goes to memory (“drains”).",
+  "SB+mfences-x86": "The same with a fence after each write: MFENCE waits until the write is in memory. So at least one thread reads 1.",
+  "MP-x86": "One thread writes a message, x, and then a flag, y. The other reads the flag, then the message. Who sees the flag sees the message: a thread's " +
+    "writes reach memory in order.",
+  "n6-x86": "Both threads write x. The first then reads its own 1, even while that write waits in its store buffer, where the other thread cannot see it.",
+  "IRIW-x86": "Two threads write one variable each; two others read both, in different orders. These never disagree on which write came first: what is in " +
+    "memory is there for all at once.",
+  "Peterson-x86": "Each thread says that it wants the lock, lets the other go first, and looks whether the other wants it, too. The writes that say so can " +
+    "wait in store buffers while both look: then both enter.",
+  "ChaseLev-x86": "The owner of a queue takes an item from its bottom, a thief from its top. The owner's write that says so can wait in its store buffer: " +
+    "then both take the same item.",
+  SB: "Each thread writes one variable and then reads the other's. If the threads take turns, one of them reads 1. On x86 both could read 0, so the compiler " +
+    "puts in fences.",
+};
 const KNOWN = /^Interleaving: (allowed|forbidden)\. x86-TSO: allowed\./;
 
 /** Returns the schedule of the run that a comment describes, or null. */
@@ -84,8 +101,11 @@ export class Examples {
     this.name = name;
     findById("example-name").textContent = test ? name : parseName(text);
     findById("example-shows").textContent = test ? "" : "my own";
-    const about = test && el("p", { class: "about" }, name === WALKED && !isPredicting && this.makeWalkOffer(), this.linkNames(`${removeCacheSentences(test.about)}${explainFences(test, this.tests)}`));
-    const known = test && el("p", {}, this.linkNames(test.known));
+    const plain = caches.isOn ? undefined : PLAIN[name];
+    const own = test && `${removeCacheSentences(test.about)}${explainFences(test, this.tests)}`;
+    const about = test && el("p", { class: "about" }, this.linkNames(plain ?? own));
+    const known = test && el("p", {}, this.linkNames(`${plain ? `${own} ` : ""}${test.known}`));
+    findById("offer").replaceChildren(...(name === WALKED && !isPredicting ? this.makeWalkOffer() : []));
     const makeFold = (title, ...inner) => el("details", {}, el("summary", {}, title), inner);
     findById("about").replaceChildren(test && !isPredicting ? about : "");
     findById("known").replaceChildren(test ? (isPredicting ? makeFold("About it", about, known) : makeFold("What is known about it", known)) : "");
@@ -93,7 +113,7 @@ export class Examples {
 
   /** Returns the offer of the walk, as children for `el`. */
   makeWalkOffer() {
-    return [el("span", { id: "offer" }, "New to this? ", makeButton("Take the two-minute walk", this.openWalk, { class: "link", id: "open-walk" }), ".", el("br", {}))];
+    return ["New to this? ", makeButton("Take the two-minute walk", this.openWalk, { class: "link", id: "open-walk" }), "."];
   }
 
   /** Returns a sentence in which the name of another example leads to it. */

@@ -162,3 +162,19 @@ export function insertFencesInText(text, places) {
 export function removeFenceFromText(text, place) {
   return applyChanges(text, [place], removeFence, (test) => removeFences(test, [place]));
 }
+
+/** Returns the place of a fence, a thread and an index in its code, that words such as `P0 at 1, before ..` name. */
+function parsePlace(words) {
+  const [, thread, at] = /^P(\d) at (\d+)/.exec(words);
+  return [Number(thread), Number(at)];
+}
+
+/**
+ * Returns a test with a set of fences that an answer has: the test's own text if the fences can be put into it, or else the canonical one.
+ * @param {string} text
+ * @param {{places: string[], text: string}} set
+ * @returns {string}
+ */
+export function insertFenceSet(text, set) {
+  return insertFencesInText(text, set.places.map(parsePlace)) ?? set.text;
+}

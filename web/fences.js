@@ -5,7 +5,7 @@ import { read } from "./address.js";
 import { ask } from "./ask.js";
 import { makeEndTest } from "./condition_words.js";
 import { el, makeButton, makePlainMark, renderSentence } from "./dom.js";
-import { insertFencesInText } from "./fence_edit.js";
+import { insertFenceSet } from "./fence_edit.js";
 import { Film, makeWatchButton } from "./film.js";
 import * as guess from "./guess.js";
 import { describeMapping, listVariables } from "./register_names.js";
@@ -41,7 +41,7 @@ export class Fences {
     const words = " Compare all registers and locations, not only those of the question";
     this.choice = el("p", { class: "row" }, el("label", {}, this.everything, words));
     this.hint = el("p", { class: "small by-click" }, BY_CLICK);
-    panel.append(this.place, this.more, this.locks, this.together, this.choice, this.hint, this.film.place);
+    panel.replaceChildren(this.place, this.more, this.locks, this.together, this.choice, this.hint, this.film.place);
   }
 
   /** Removes what is shown. */
@@ -269,22 +269,6 @@ function isForbidden({ condition, table }) {
 /** Returns whether a text has an exchange, or a source statement that is compiled to one. */
 function hasExchange(text) {
   return /\b(?:xchg|xadd|swap|fetchadd)\b/i.test(blankComments(text));
-}
-
-/** Returns the place of a fence, a thread and an index in its code, that words such as `P0 at 1, before ..` name. */
-function parsePlace(words) {
-  const [, thread, at] = /^P(\d) at (\d+)/.exec(words);
-  return [Number(thread), Number(at)];
-}
-
-/**
- * Returns a test with a set of fences that an answer has: the test's own text if the fences can be put into it, or else the canonical one.
- * @param {string} text
- * @param {{places: string[], text: string}} set
- * @returns {string}
- */
-export function insertFenceSet(text, set) {
-  return insertFencesInText(text, set.places.map(parsePlace)) ?? set.text;
 }
 
 /** Returns states that two programs have in common, in words. */

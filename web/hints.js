@@ -1,8 +1,9 @@
-// The hints on faults and slips, the words on the page, the walk through it, and what fits it to a projector: the part of the page's code that is loaded after
-// the first answer, or when a text has a fault.
+// The hints on faults and slips, the words on the page, the walk through it, the panel on fences, and what fits the page to a projector: the part of its code
+// that is loaded after the first answer, or when a text has a fault.
 
 import { fillAbout } from "./about.js";
 import { explainFault, explainMissingRowEnd } from "./faults.js";
+import { Fences } from "./fences.js";
 import { findFurtherFaults } from "./further_faults.js";
 import { takeWalk } from "./guided_walk.js";
 import { ProjectorFit } from "./projector_fit.js";
@@ -22,4 +23,4 @@ function explainSafely(fault, text) {
 const makeProjectorFit = () => new ProjectorFit();
 
 /** The functions that errors.js, main.js and present.js call. */
-export const hints = { explainFault: explainSafely, explainMissingRowEnd, fillAbout, findFurtherFaults, makeProjectorFit, makeSlipNotes, takeWalk };
+export const hints = { explainFault: explainSafely, explainMissingRowEnd, fillAbout, findFurtherFaults, Fences, makeProjectorFit, makeSlipNotes, takeWalk };

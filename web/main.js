@@ -8,7 +8,6 @@ import { el, findById, makeButton } from "./dom.js";
 import { Editor } from "./editor.js";
 import { Examples } from "./examples.js";
 import { insertFencesInText, removeFenceFromText } from "./fence_edit.js";
-import { Fences } from "./fences.js";
 import { decodeFile } from "./files.js";
 import { Gallery } from "./gallery.js";
 import * as guess from "./guess.js";
@@ -67,7 +66,17 @@ const states = new States(findById("outcome"), editor, () => updateOffers(), {
 });
 const panels = {
   compile: new Compile(findById("compile"), editor, takeKnown, makeSourceButton),
-  fences: new Fences(findById("fences"), editor, takeKnown),
+  // Its code comes with the hints.
+  fences: {
+    clear: () => panels.fences.panel?.clear(),
+    askOnce: async (timeout) => {
+      const hints = await loadHints().catch(() => null);
+      if (!hints) return findById("fences").replaceChildren("This part of the page does not come. Try again later.");
+      const { fences } = panels;
+      fences.panel ??= new hints.Fences(findById("fences"), editor, takeKnown);
+      return fences.panel.askOnce(timeout);
+    },
+  },
 };
 const tabs = new Tabs(followTab);
 let examples;
@@ -410,6 +419,10 @@ async function copyLink(status) {
 function listenToTools() {
   findById("unfold").addEventListener("click", () => toggleText());
   findById("to-text").addEventListener("click", () => toggleText(false));
+  findById("to-paste").addEventListener("click", () => {
+    editor.area.select();
+    findById("said").textContent = "Now paste: Ctrl+V.";
+  });
   findById("file").addEventListener("change", openFile);
   findById("save").addEventListener("click", () => save(makeFileName(parseName(editor.text), "litmus"), "text/plain", editor.text));
   findById("link").addEventListener("click", () => copyLink(findById("said")));

@@ -2,6 +2,9 @@
 
 import { el } from "./dom.js";
 
+// How many milliseconds a browser may take to copy: one that asks its reader about that, where nobody sees it, would never end.
+const LONGEST = 1000;
+
 /**
  * Saves a file.
  * @param {string} name
@@ -39,10 +42,10 @@ export async function copy(text, status, note = "") {
   return isCopied;
 }
 
-/** Writes a text to the clipboard. Returns whether the browser allows that. */
+/** Writes a text to the clipboard. Returns whether the browser allows that, and does it soon. */
 async function writeToClipboard(text) {
   try {
-    await navigator.clipboard.writeText(text);
+    await Promise.race([navigator.clipboard.writeText(text), new Promise((_, reject) => setTimeout(reject, LONGEST))]);
     return true;
   } catch {
     return false;
@@ -69,6 +72,6 @@ function copyFromField(text, status) {
 /** Shows a text in a field, selected, so that the reader can copy it. */
 function showForCopying(text, status) {
   const field = el("input", { type: "text", class: "copied-shown", readonly: true, value: text, "aria-label": "To copy" });
-  status.replaceChildren("Copy it by hand: ", field);
+  status.replaceChildren("The browser has not copied it. Copy it by hand: ", field);
   field.select();
 }

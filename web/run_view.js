@@ -174,11 +174,12 @@ export class RunView {
   }
 
   /**
-   * Draws the machine in the first way in which it is in sight with all of its code, or else with the most of it. Returns how much of it is cut, as
-   * `drawIn` does.
+   * Draws the machine in the first way in which it is in sight with all of its code, or else with the most of it; and if it is not in sight in any way,
+   * beside a text that is narrower. Returns how much of it is cut, as `drawIn` does.
    */
   chooseWay() {
     const least = computeLeastHeight(this.stage.shown);
+    if (this.run.editor.isAlone && this.slimFor !== this.run.text) findById("test").classList.remove("slim");
     let [best, fewest] = ["", Infinity];
     const ways = WAYS.filter((it) => !largeType.isOn || !it.includes("fine"));
     for (const way of isScrolled(this.stage.place) ? ways : [""]) {
@@ -189,7 +190,12 @@ export class RunView {
       if (cut < fewest && !isWorse) [best, fewest] = [way, cut];
     }
     if (fewest) this.drawIn(best, least);
-    return fewest;
+    if (fewest < OUT_OF_SIGHT || !this.run.editor.isAlone || this.slimFor === this.run.text) return fewest;
+    // A wide text of the reader's own leaves the machine the width in which it is whole; that of an example is whole itself.
+    this.slimFor = this.run.text;
+    if (!findById("example-shows").textContent) return fewest;
+    findById("test").classList.add("slim");
+    return this.chooseWay();
   }
 
   /** Fits the machine again after the room for it has changed: if a part of it is cut, or in any case. */

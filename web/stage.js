@@ -13,6 +13,8 @@ import { makeVariable } from "./register_names.js";
 import { explainNotNext, explainNotOldest } from "./run_words.js";
 import { makeThreadClass, renderCode } from "./tint.js";
 
+const WAITING = "Stores wait here, the oldest first, until they go to memory. Only their own thread reads them.";
+
 // Causes that need no words: no event is left.
 const NOTHING_LEFT = ["Ended", "BufferEmpty", "NotHeld"];
 // The meanings of the letters of cache lines.
@@ -194,7 +196,7 @@ export class Stage {
     const empty = Array.from({ length: slots - entries.length }, () => el("li", { class: "slot", "aria-hidden": "true" }));
     const full = entries.map((_, index) => el("li", {}, this.makeEntry(entries, index, thread))).reverse();
     const label = entries.length ? "store buffer, the oldest entry last" : "store buffer: empty";
-    const caption = el("span", { class: "caption" }, el("span", { class: "long-word" }, "store "), "buffer");
+    const caption = el("span", { class: "caption", title: WAITING }, el("span", { class: "long-word" }, "store "), "buffer");
     const kind = this.shown.slots[thread] ? "buffer" : "buffer without-stores";
     return el("div", { class: kind }, caption, el("ol", { "aria-label": label }, [...empty, ...full]));
   }

@@ -32,7 +32,7 @@ const BY = {
 };
 // The kind, the word and the sentence of a test that asks nothing.
 const NO_QUESTION = ["can", "No question.", "The list has all states in which a run ends. Ask what must not happen, as `~exists (x=1)`."];
-const SIGNS_IN_WORDS = "/\\ and, \\/ or, ~ not";
+const SIGNS_IN_WORDS = "exists: can a run end this way? ~exists: can none? forall: does every run? /\\ and, \\/ or, ~ not";
 const SIGNS = { can: "○", yes: "✓", cannot: "⊘", wrong: "!" };
 const STUCK = "In none of these states every wait has ended: no run of the program comes to its end.";
 const VEILED = "The answer comes when a run of yours decides it or you have found all states";

@@ -49,6 +49,17 @@ class Links(PageCase):
         user.open_listed(user.link())
         self.assertStep("Step 6 of 6:")
 
+    def test_not_copied(self) -> None:
+        """If the browser copies nothing, or never says so, the link is in a field, selected, with words on that."""
+        user = self.user
+        user.open_listed("#example=MP-x86")
+        user.run("navigator.clipboard.writeText = () => new Promise(() => null); document.execCommand = () => false")
+        user.click("#link")
+        self.assertSays("The browser has not copied it. Copy it by hand:", "#said")
+        field = "const it = document.querySelector('#said .copied-shown'); return [it.value, it === document.activeElement, it.selectionEnd - it.selectionStart]"
+        link, is_focused, number = user.run(field)
+        self.assertEqual((True, True, len(link)), (link.endswith("#example=MP-x86"), is_focused, number))
+
     def test_names(self) -> None:
         """A bare plus in the name of an example is a plus; a link to a missing example says so, and shows the first test."""
         user = self.user

@@ -149,12 +149,29 @@ class FirstView(PageCase):
         for css in ("#text", "#outcome .verdict", "#outcome .note", "table.strip", "#watching .code li", "#watching .buffer", "#watching .memory"):
             self.assertTrue(self.user.run(IN_SIGHT, css), css)
 
+    def test_plain_words(self) -> None:
+        """Of the examples with which a lesson may begin the page says in plain words what they show, and the test's own words are folded."""
+        user = self.user
+        for name in ("SB-x86", "SB%2Bmfences-x86", "MP-x86", "n6-x86", "IRIW-x86", "Peterson-x86", "ChaseLev-x86", "SB"):
+            user.open_listed(f"#example={name}")
+            words = user.text("#about .about")
+            self.assertFalse(any(it in words for it in ("drains come", "queue, so", "take the 0")), words)
+            own = next(it for it in read(f"examples/{name.replace('%2B', '+')}.litmus").split("(*", 1)[1].split() if len(it) > 3)
+            self.assertFalse(words.startswith(own), words)
+            user.click("#known summary")
+            self.assertSays(own, "#known p")
+
     def test_says_what_it_is(self) -> None:
         """A line says what the page is and for whom, and another what to look at next, which is opened or set beside."""
         user = self.user
         user.open_listed()
         self.assertIn("Every way a small multithreaded program can end on x86 (x86-TSO)", user.text("#what"))
-        self.assertIn(": proved complete. Paste C++, Rust or assembly, too.", user.text("#what"))
+        self.assertIn(": proved complete.", user.text("#what"))
+        self.assertSays("Paste your code C, C++, Rust, pseudo code, assembly", "#paste")
+        self.assertTrue(user.run(IN_SIGHT, "#paste"))
+        user.click("#to-paste")
+        self.assertSays("Now paste", "#said")
+        self.assertEqual([0, len(user.value())], user.run("const it = document.getElementById('text'); return [it.selectionStart, it.selectionEnd]"))
         self.assertSays("Next: the same test with fences: SB+mfences-x86, or compare both.", "#next")
         user.click("#next-test")
         self.assertSays("Forbidden.", "#outcome .verdict")

@@ -74,7 +74,11 @@ class Steps(PageCase):
         title = lambda css: user.find(css).get_attribute("title")
         self.assertEqual("the number 1 itself", title("#watching .code .number"))
         self.assertEqual("D0: P0's oldest store goes to memory", title("#schedule .drains"))
-        self.assertEqual("/\\ and, \\/ or, ~ not", title("#outcome .asked code"))
+        self.assertTrue(title("#outcome .asked code").startswith("exists: can a run end this way? "))
+        self.assertTrue(title("#outcome .asked code").endswith(" /\\ and, \\/ or, ~ not"))
+        self.assertTrue(title("#watching .buffer .caption").startswith("Stores wait here, the oldest first, until they go to memory."))
+        said = lambda: user.run("return [...document.querySelectorAll('#graph-place svg g > title')].map((it) => it.textContent.split(':')[0])")
+        self.assertSoon({"po", "fr", "init"}, lambda: set(said()))
 
     def test_keys(self) -> None:
         """Arrows step, and what presenters send; also after a click on a checkbox."""

@@ -7,6 +7,58 @@ from gate.browser.lists import IN_SIGHT
 from gate.browser.page_case import PageCase
 from gate.browser.predicting import open_anew
 
+# What a button makes of Peterson's lock, and of Dekker's; and two threads with 14 instructions each.
+PETERSON = """X86 Mine
+(* 0:EAX is flag_1 after its loop, 0:EBX is turn after its loop, 1:EAX is flag_0 after its loop, 1:EBX is turn after its loop *)
+(* every wait ends: (0:EAX=0 \\/ ~0:EBX=1) /\\ (1:EAX=0 \\/ ~1:EBX=0) *)
+(* an addition to counter is lost: ~counter=2 *)
+{ flag_0=0; flag_1=0; turn=0; counter=0; }
+ P0                    | P1                    ;
+ MOV [flag_0],$1       | MOV [flag_1],$1       ;
+ MOV [turn],$1         | MOV [turn],$0         ;
+ MOV EAX,[flag_1]      | MOV EAX,[flag_0]      ;
+ CMP EAX,$0            | CMP EAX,$0            ;
+ JE L1                 | JE L1                 ;
+ MOV EBX,[turn]        | MOV EBX,[turn]        ;
+ L1: MOV ECX,[counter] | L1: MOV ECX,[counter] ;
+ ADD ECX,$1            | ADD ECX,$1            ;
+ MOV [counter],ECX     | MOV [counter],ECX     ;
+ MOV [flag_0],$0       | MOV [flag_1],$0       ;
+locations [turn]
+~exists ((0:EAX=0 \\/ ~0:EBX=1) /\\ (1:EAX=0 \\/ ~1:EBX=0) /\\ ~counter=2)
+"""
+DEKKER = """X86 Mine
+(* 0:EAX is wants_1 in its condition, 1:EAX is wants_0 in its condition *)
+(* both threads get past their loop at the first try: 0:EAX=0 /\\ 1:EAX=0 *)
+(* an addition to counter is lost: ~counter=2 *)
+{ wants_0=0; wants_1=0; turn=0; counter=0; }
+ P0                    | P1                    ;
+ MOV EBX,$1            | MOV EBX,$1            ;
+ XCHG [wants_0],EBX    | XCHG [wants_1],EBX    ;
+ MOV EAX,[wants_1]     | MOV EAX,[wants_0]     ;
+ CMP EAX,$0            | CMP EAX,$0            ;
+ JE L1                 | JE L1                 ;
+ JMP END               | JMP END               ;
+ L1: MOV EBX,[counter] | L1: MOV EBX,[counter] ;
+ ADD EBX,$1            | ADD EBX,$1            ;
+ MOV [counter],EBX     | MOV [counter],EBX     ;
+ MOV EBX,$1            | MOV EBX,$0            ;
+ XCHG [turn],EBX       | XCHG [turn],EBX       ;
+ MOV EBX,$0            | MOV EBX,$0            ;
+ XCHG [wants_0],EBX    | XCHG [wants_1],EBX    ;
+ END:                  | END:                  ;
+locations [turn]
+~exists (0:EAX=0 /\\ 1:EAX=0 /\\ ~counter=2)
+"""
+FOURTEEN = (
+    "X86 Fourteen\n{}\n P0 | P1 ;\n" + " MOV [x],$1 | MOV [y],$1 ;\n" + " MOV ECX,$1 | MOV ECX,$1 ;\n" * 6 + " ADD EBX,ECX | ADD EBX,ECX ;\n" * 6 +
+    " MOV EAX,[y] | MOV EAX,[x] ;\nexists (0:EAX=0 /\\ 1:EAX=0)\n"
+)
+# The parts of the machine and the verdict that are cut at the right.
+CUT_MACHINE = """
+return [...document.querySelectorAll("#outcome .verdict, #watching :is(.code, .register, .entry, .word)")]
+  .filter((it) => it.checkVisibility() && it.scrollWidth > it.clientWidth + 1).map((it) => `${it.tagName} ${it.className}`);
+"""
 SIZES = ((1280, 720), (1920, 1080), (1024, 640), (390, 844), (360, 640))
 # Tests with two threads and long code, with three threads, and with four.
 NAMES = ("SB-x86", "ChaseLev-x86", "n7-x86", "IRIW-x86", "Seqlock-x86")
@@ -296,6 +348,19 @@ class InSight(PageCase):
         for name in ("SB-x86", "IRIW%2Bxchgs-x86", "MP%2Bswap", "4.SB-x86", "ProducerQueue-x86"):
             self.open_at(name, 1280, 720)
             self.assertEqual([0, 0], user.run(cut), name)
+
+    def test_made(self) -> None:
+        """Of tests that are made of programs, whose text is wide, the machine, the verdict and the list are whole at 1280 by 720."""
+        user = self.user
+        user.resize(1280, 720)
+        whole = "const it = document.querySelector(arguments[0]).getBoundingClientRect(); return it.top >= 0 && it.right <= innerWidth && it.bottom <= innerHeight"
+        for text in (PETERSON, DEKKER, FOURTEEN):
+            user.open_listed(f"#text={quote(text)}")
+            user.wait(lambda: not user.all(".asking"), "the answers")
+            self.assertSoon([], lambda: user.run(UNSEEN))
+            for css in ("#outcome .verdicts", "#outcome .states-place", "#watching .machine"):
+                self.assertTrue(user.run(whole, css), css)
+            self.assertEqual([], user.run(CUT_MACHINE))
 
     def test_resized(self) -> None:
         """Code that has no room any more in a lower window is fitted anew."""

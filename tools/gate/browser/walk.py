@@ -65,7 +65,7 @@ class Walk(WalkCase):
         """The first test offers it, and so does the dialog on the page; another test does not, nor one that is to be predicted."""
         user = self.user
         user.open_listed()
-        self.assertIn("New to this? Take the two-minute walk.", user.text("#about"))
+        self.assertIn("New to this? Take the two-minute walk.", user.text("#what"))
         user.open_listed("#example=MP-x86")
         self.assertEqual([], user.all(OFFER))
         user.click("#open-about")
