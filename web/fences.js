@@ -1,7 +1,7 @@
 // Shows which fences of a test matter: a table of them, with a film to each state that a fence removes. A fence matters if states are added
 // without it. That does not show that a test with all its fences is right, so the table says in how many states the condition holds.
 
-import { read } from "./address.js";
+import * as address from "./address.js";
 import { ask } from "./ask.js";
 import { makeEndTest } from "./condition_words.js";
 import { el, makeButton, makePlainMark, renderSentence } from "./dom.js";
@@ -65,7 +65,8 @@ export class Fences {
     this.clear();
     this.askedOf = this.editor.text;
     clearFault(this.editor);
-    if (read().fences === "own" && /^\s*X86\b(?![^]*\bmfence\b)/i.test(blankComments(this.editor.text))) {
+    if (address.read().fences === "own" && /^\s*X86\b(?![^]*\bmfence\b)/i.test(blankComments(this.editor.text))) {
+      this.choice.hidden = true;
       this.place.append(el("p", { class: "notice" }, ...renderSentence(OWN_FIRST)));
       return null;
     }

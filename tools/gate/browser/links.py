@@ -17,6 +17,7 @@ while (performance.now() < until);
 location.hash = "#example=MP";
 """
 OWN = "X86 Mine\n{}\n P0 | P1 ;\n MOV [x],$1 | MOV EAX,[x] ;\nexists (1:EAX=1)\n"
+BUFFERED = "X86 Mine\n{}\n P0 | P1 ;\n MOV [x],$1 | MOV [y],$1 ;\n MOV EAX,[y] | MOV EAX,[x] ;\nexists (0:EAX=0 /\\ 1:EAX=0)\n"
 STATE = "state=0%3AEAX%3D0%3B+1%3AEAX%3D0%3B"
 # Links that the page did not make: what they name does not exist, or is the name of a property of every object.
 HOSTILE = (
@@ -192,6 +193,20 @@ class Links(PageCase):
         user.run("document.execCommand = () => false")
         user.click("#link")
         self.assertSoon(user.run("return location.href"), lambda: user.value("#said input"))
+
+    def test_own_fences(self) -> None:
+        """A link that asks for fences of one's own keeps back those that the page finds, until the test has one; another link does not."""
+        user = self.user
+        user.open_listed(f"#fences=own&text={quote(BUFFERED)}")
+        user.click("#tab-fences")
+        self.assertSays("First try fences of your own: this answers once the test has an MFENCE.", "#fences .notice")
+        self.assertEqual([], user.all("#fences table, #fences .more-fences button, #fences label:not([hidden] *)"))
+        user.run_text(BUFFERED.replace(" MOV EAX", " MFENCE | ;\n MOV EAX", 1))
+        user.click("#tab-fences")
+        self.assertSoon(True, lambda: bool(user.all("#fences table")))
+        user.open_listed(f"#text={quote(BUFFERED)}")
+        user.click("#tab-fences")
+        self.assertSoon([], lambda: user.all("#fences .notice"))
 
     def test_question(self) -> None:
         """After a link another one can be copied that asks for a prediction first, with neither state nor run; after a link that asks there is no other."""
