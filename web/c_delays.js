@@ -43,6 +43,11 @@ const OWN_METHOD = new RegExp(
 // What gives random numbers, by its name in other files, and in the standard library.
 const GENERATOR = "[A-Z]\\w*(?:Twister|Random|Rng|Generator)\\w*";
 const RANDOM = "(?:std\\s*::\\s*)?(?:mt19937(?:_64)?|minstd_rand0?|default_random_engine|random_device|uniform_int_distribution\\s*(?:<[\\w\\s:]*>)?)";
+// The begin of a function with a reference to what gives them: the groups are its name, and that of the reference.
+const DELAYING = new RegExp(
+  `(?<=^|[;{}]\\s*)(?:(?:static|inline)\\s+)*void\\s+(\\w+)\\s*\\(\\s*(?:${RANDOM}|${GENERATOR})\\s*&\\s*(\\w+)\\s*\\)\\s*\\{`,
+  "g",
+);
 const NUMBERS = /^(?:std|s?rand|random|rand_r|\d\w*)$/;
 // Where a program defines one of these itself: a function, a macro, or an object that is called.
 const OWN_NUMBERS = new RegExp(
@@ -218,17 +223,41 @@ function listObjects(code, classes, harmless, global, isDirected) {
   });
 }
 
+/** Returns the functions that only wait for the numbers of an object that they have by a reference: their names, and their ranges. */
+function listDelaying(code, constants, isDirected) {
+  return [...code.matchAll(DELAYING)].flatMap(({ 0: head, 1: name, 2: object, index }) => {
+    const end = findClosing(code, index + head.length - 1) + 1;
+    const body = code.slice(index + head.length, end - 1);
+    const isWaiting = ([, condition]) => /\w\s*\(/.test(condition) && isRandom(condition, [object], constants) && canFail(condition);
+    const left = blankRanges(body, listRanges([...body.matchAll(WAITING)].filter(isWaiting)));
+    return end && !left.trim() && body.trim() && !isDirected(name) ? [{ name, begin: index, end }] : [];
+  });
+}
+
+/** Returns the ranges of such functions and of their calls with objects, which are statements; none of one that is named otherwise, too. */
+function listCallsOfDelays(code, delaying, objects) {
+  return delaying.flatMap((it) => {
+    const pattern = new RegExp(`(?<=[;{}])\\s*${it.name}\\s*\\(\\s*(\\w+)\\s*\\)\\s*;`, "g");
+    const calls = listRanges([...code.matchAll(pattern)].filter(([, object]) => objects.includes(object))).map((call) => ({ ...call, isStatement: true }));
+    const isOther = new RegExp(`\\b${it.name}\\b`).test(blankRanges(code, [...calls, it]));
+    return isOther ? [] : [...calls, { begin: it.begin, end: it.end }];
+  });
+}
+
 /** Returns the ranges of the delays of a code, and of the objects that are only in them; and whether there are delays. */
 function listDelays(code, classes, harmless, constants, global, isDirected) {
   let objects = listObjects(code, classes, harmless, global, isDirected);
   const seeds = listSeeds(code);
+  const delaying = listDelaying(code, constants, isDirected);
   for (;;) {
     const names = objects.map((it) => it.name);
     const isKnown = (name) => objects.some((it) => it.name === name && it.isKnown);
     const isWaiting = ([, condition]) => /\w\s*\(/.test(condition) && isRandom(condition, names, constants, seeds) && canFail(condition);
     const isCounting = ([, , first, bound, other]) => [first, bound ?? other].every((it) => isRandom(it, names, constants, seeds));
     const found = listRanges([...[...code.matchAll(WAITING)].filter(isWaiting), ...[...code.matchAll(COUNTED)].filter(isCounting)]);
-    const loops = found.map((it) => ({ ...it, isStatement: true }));
+    const called = listCallsOfDelays(code, delaying, names);
+    const isCalled = (it) => called.some(({ begin, end }) => begin <= it.begin && it.end <= end);
+    const loops = [...found.filter((it) => !isCalled(it)).map((it) => ({ ...it, isStatement: true })), ...called];
     const calls = listRanges([...code.matchAll(/(?<=[;{}])\s*(\w+)\s*\.\s*\w+\s*\([\w\s,]*\)\s*;/g)].filter(([, it]) => isKnown(it)));
     const ranges = [...loops, ...calls, ...objects, ...listRanges([...code.matchAll(SEEDING)])];
     const left = blankRanges(code, ranges);

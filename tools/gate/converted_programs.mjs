@@ -1436,6 +1436,41 @@ void b() { flag1 = 1; turn = 0; if (flag0 == 0 || turn == 1) { counter++; } flag
 int main() { std::thread x(a), y(b); x.join(); y.join(); }
 `,
     "X86 Mine\n{ flag0=0; flag1=0; turn=0; counter=0; }\n P0 | P1 ;\n MOV EAX,$1 | MOV EAX,$1 ;\n XCHG [flag0],EAX | XCHG [flag1],EAX ;\n MOV EAX,$1 | MOV EAX,$0 ;\n XCHG [turn],EAX | XCHG [turn],EAX ;\n MOV EAX,[flag1] | MOV EAX,[flag0] ;\n CMP EAX,$0 | CMP EAX,$0 ;\n JNE L1 | JNE L1 ;\n MOV EAX,[counter] | MOV EAX,[counter] ;\n ADD EAX,$1 | ADD EAX,$1 ;\n MOV [counter],EAX | MOV [counter],EAX ;\n JMP L2 | JMP L2 ;\n L1: MOV EAX,[turn] | L1: MOV EAX,[turn] ;\n CMP EAX,$0 | CMP EAX,$1 ;\n JNE L3 | JNE L3 ;\n MOV EAX,[counter] | MOV EAX,[counter] ;\n ADD EAX,$1 | ADD EAX,$1 ;\n MOV [counter],EAX | MOV [counter],EAX ;\n JMP L4 | L3: L2: MOV EAX,$0 ;\n L3: MOV [counter],$0 | XCHG [flag1],EAX ;\n L4: L2: MOV EAX,$0 | ;\n XCHG [flag0],EAX | ;\nlocations [turn; counter]\nexists (true)\n"],
+  ["a delay in a function with a reference to a generator", `#include <atomic>
+#include <thread>
+#include <random>
+int x, y, r1, r2;
+void delay(std::mt19937& gen) { while (gen() % 8 != 0) ; }
+void a() { std::mt19937 g(1); delay(g); x = 1; r1 = y; }
+void b() { std::mt19937 g(2); delay(g); y = 1; r2 = x; }
+int main() { std::thread t(a), u(b); t.join(); u.join(); if (r1 == 0 && r2 == 0) printf("reorder\\n"); }
+`,
+    "X86 Mine\n(* 0:EAX is r1, 1:EAX is r2 *)\n{ x=0; y=0; }\n P0 | P1 ;\n MOV [x],$1 | MOV [y],$1 ;\n MOV EAX,[y] | MOV EAX,[x] ;\nexists (0:EAX=0 /\\ 1:EAX=0)\n"],
+  ["a result of a function that is changed before its branch", `#include <atomic>
+#include <thread>
+int buf[4];
+std::atomic<int> head{0}, tail{0};
+bool pop(int& v) {
+  int t = tail.load(std::memory_order_relaxed);
+  if (t == head.load(std::memory_order_acquire)) return false;
+  v = buf[t];
+  tail.store((t + 1) % 4, std::memory_order_release);
+  return true;
+}
+void p() { int h = head.load(std::memory_order_relaxed); buf[h] = 7; head.store(h + 1, std::memory_order_release); }
+void c() { int v = 3; bool ok = pop(v); if (head.load() == 1) ok = true; if (ok) { int r = buf[0]; } }
+int main() { std::thread a(p), b(c); a.join(); b.join(); }
+`,
+    "X86 Mine\n(* 1:EAX is v, 1:EBX is ok, 1:ECX is r *)\n{ buf_0=0; head=0; tail=0; }\n P0 | P1 ;\n MOV EAX,[head] | MOV EAX,$3 ;\n MOV [buf_0],$7 | MOV EDX,[tail] ;\n MOV [head],$1 | MOV EDX,[head] ;\n | CMP EDX,$0 ;\n | JNE L2 ;\n | MOV EBX,$0 ;\n | JMP L1 ;\n | L2: MOV EAX,[buf_0] ;\n | MOV [tail],$1 ;\n | MOV EBX,$1 ;\n | L1: MOV EDX,[head] ;\n | CMP EDX,$1 ;\n | JNE L3 ;\n | MOV EBX,$1 ;\n | L3: CMP EBX,$0 ;\n | JE END ;\n | MOV ECX,[buf_0] ;\n | END: ;\nlocations [1:EAX]\nexists (~1:EBX=0 /\\ 1:ECX=0)\n"],
+  ["an index that is a sum with the number of a thread", `#include <atomic>
+#include <thread>
+int buf[4];
+std::atomic<int> head{0};
+void p(int i) { int h = head.load(); buf[h + i] = 7; head.store(h + 1); }
+void c() { if (head.load() == 1) { int r = buf[1]; } }
+int main() { std::thread a(p, 1), b(c); a.join(); b.join(); }
+`,
+    "X86 Mine\n(* 1:EAX is head in its condition, 1:EBX is r *)\n{ buf_1=0; head=0; }\n P0 | P1 ;\n MOV EAX,[head] | MOV EAX,[head] ;\n MOV [buf_1],$7 | CMP EAX,$1 ;\n MOV EAX,$1 | JNE END ;\n XCHG [head],EAX | MOV EBX,[buf_1] ;\n | END: ;\nexists (1:EAX=1 /\\ 1:EBX=0)\n"],
 ];
 // A program of rounds, whose loop does `sets` before the threads run.
 const makeRounds = (sets, code) => `#include <semaphore.h>
@@ -2634,6 +2669,62 @@ void P0(void) { int h = atomic_load(&head); buf[h] = 1; atomic_store(&head, h + 
 void P1(void) { bump(&head); int r = buf[1]; }
 `,
     "`buf[h] = 1`: an index is a constant, or comes from a variable that only this thread writes, and that has a known constant then", "buf[h] = 1; atomic_store"],
+  ["a delay in a function that stores, too", `#include <atomic>
+#include <thread>
+#include <random>
+int x, y, r1, r2;
+void delay(std::mt19937& gen) { x = 0; while (gen() % 8 != 0) ; }
+void a() { std::mt19937 g(1); delay(g); x = 1; r1 = y; }
+void b() { std::mt19937 g(2); delay(g); y = 1; r2 = x; }
+int main() { std::thread t(a), u(b); t.join(); u.join(); if (r1 == 0 && r2 == 0) printf("reorder\\n"); }
+`,
+    "`std::mt19937 g(1)`: a statement is one load, store, exchange, addition or fence, or an `if`", "std::mt19937 g(1); delay"],
+  ["a generator whose numbers are used, too", `#include <atomic>
+#include <thread>
+#include <random>
+int x, y, r1, r2;
+void delay(std::mt19937& gen) { while (gen() % 8 != 0) ; }
+void a() { std::mt19937 g(1); delay(g); x = 1 + g(); r1 = y; }
+void b() { std::mt19937 g(2); delay(g); y = 1; r2 = x; }
+int main() { std::thread t(a), u(b); t.join(); u.join(); if (r1 == 0 && r2 == 0) printf("reorder\\n"); }
+`,
+    "`std::mt19937 g(1)`: a statement is one load, store, exchange, addition or fence, or an `if`", "std::mt19937 g(1); delay"],
+  ["a loop whose function sets a variable if it fails", `#include <atomic>
+#include <thread>
+int buf[4];
+std::atomic<int> head{0}, tail{0};
+bool pop(int& v) {
+  int t = tail.load(std::memory_order_relaxed);
+  if (t == head.load(std::memory_order_acquire)) { v = -1; return false; }
+  v = buf[t];
+  tail.store((t + 1) % 4, std::memory_order_release);
+  return true;
+}
+void p() { int h = head.load(std::memory_order_relaxed); buf[h] = 7; head.store(h + 1, std::memory_order_release); }
+void c() { int v = 3; while (!pop(v)) ; }
+int main() { std::thread a(p), b(c); a.join(); b.join(); }
+`,
+    "`while (!pop(v))`: a loop that waits by a function calls one that changes nothing if the loop goes on, and returns constants", "while (!pop(v)) ; }"],
+  ["a variable that has no value after the other result", `#include <atomic>
+#include <thread>
+std::atomic<int> f{0}; int data;
+bool get(int& v) { int s = f.load(); if (s == 0) return false; v = data; return s == 1; }
+void p() { data = 7; f.store(1); f.store(2); }
+void c() { int v; if (get(v)) { int r = v; } else { int q = v; } }
+int main() { std::thread a(p), b(c); a.join(); b.join(); }
+`,
+    "`int q = v`: `v` has no value on some path to here", "int q = v; } }"],
+  ["a loop whose function returns a comparison", `#include <atomic>
+#include <thread>
+std::atomic<int> f{0}, n{0}; int data;
+int get() { return f.load(); }
+bool ready() { n.load(); return f.load() == 1; }
+void p() { data = 7; f.store(1); }
+void c() { while (!ready()) ; int r = data; }
+void d() { while (!get()) ; int r = data; }
+int main() { std::thread a(p), b(c), e(d); a.join(); b.join(); e.join(); }
+`,
+    "`while (!ready())`: a loop that waits by a function calls one that changes nothing if the loop goes on, and returns constants", "while (!ready()) ; int r"],
 ];
 
 /** Returns a test with one blank in place of several, since names have other lengths than those in a form. */
