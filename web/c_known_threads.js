@@ -13,7 +13,7 @@ const MOST_LISTED = 8;
 const MOST_ROUNDS = 20;
 
 /** Returns the names of the variables that a thread seems to write, by its code and that of the functions whose names are in it. */
-function listWritten({ name: own, code: { code: first }, values = [] }, { names, words, functions }) {
+function listWritten({ name: own, code: { code: first }, values = [] }, { names, words, functions, globals }) {
   const found = new Map([[own, `${first} ${values.join(" ")}`]]);
   for (const text of found.values()) {
     const called = [...functions].filter(([key, it]) => !found.has(key) && new RegExp(`\\b(?:${key}|${it.name})\\b`).test(text));
@@ -21,11 +21,13 @@ function listWritten({ name: own, code: { code: first }, values = [] }, { names,
   }
   const code = replaceNames([...found.values()].join("\n"), names);
   const isWritten = (name) => {
-    const here = `(?<![\\w.])${name}\\b`;
+    const { object } = globals.get(name) ?? {};
+    const member = object ? `|\\w+\\s*(?:->|\\.)\\s*${name.slice(object.length + 1)}` : "";
+    const here = `(?<![\\w.])(?:${name}${member})\\b`;
     const assigned = `(?:\\+\\+|--)\\s*${here}|${here}\\s*(?:\\+\\+|--|(?:[-+*/%&|^]|<<|>>)?=(?!=)|\\.\\s*(?!load\\b)\\w)`;
     return new RegExp(`${assigned}|(?<!\\w)(?!\\w*(?:load|LOAD|READ))\\w+\\(\\s*&\\s*${here}|WRITE_ONCE\\(\\s*${here}`).test(code);
   };
-  return [...words.keys()].filter((name) => code.includes(name) && isWritten(name));
+  return [...words.keys()].filter(isWritten);
 }
 
 /** Adds the words that shared variables may have, as threads are written, to those of which conditions are written. Returns whether it adds some. */

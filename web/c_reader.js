@@ -34,8 +34,10 @@ import {
   splitCode,
   squeezeCode,
 } from "./c_code.js";
+import { computeConstant } from "./c_constants.js";
 import { blankUncompiled, OF_DIRECTIVES } from "./c_directives.js";
 import { explainType } from "./c_reasons.js";
+import { removeOuterParentheses } from "./c_statements.js";
 import { isOfWindows, listWindowsNames } from "./c_windows.js";
 import { WORD } from "./token_reader.js";
 import { blankComments } from "./tokens.js";
@@ -71,7 +73,7 @@ const PROTOTYPE = /^(?:\w+[\s*]+)+\w+\s*\([^(){};]*\)\s*;/;
 const MACRO = /^#[ \t]*define\b(?:[ \t]+(\w+)(?![\w(])[ \t]*(.*)|.*)/;
 const CONSTANT = new RegExp(
   "^(?:(?:static|inline)\\s+)*(?:constexpr|const)\\s+(?:auto|(?:(?:unsigned|long)\\s+)*(?:unsigned|int|long|short|char)|bool|s?size_t|u?int\\d+_t|" +
-    "(?:std::)?memory_order)\\s+(\\w+)\\s*[={]\\s*([\\w:]+)\\s*\\}?\\s*;",
+    "(?:std::)?memory_order)\\s+(\\w+)\\s*[={]\\s*([\\w:]+|[\\w\\s()+*<-]{1,60}?)\\s*\\}?\\s*;",
 );
 // An array of the standard library, up to its name: the groups are the type of its words, their number, and the name.
 const ARRAY = /\b(?:std::)?array\s*<\s*((?!(?:std::)?j?thread\b)[\w:]+(?:\s*<[\w\s]*>)?)\s*,\s*(\w+)\s*>\s*(\w+)(?=\s*[;{=])/g;
@@ -108,6 +110,13 @@ const OF_THREADS = ": a thread is a function without parameters, or with an unus
 const OF_UNUSED = ": no thread uses it, so write functions that do, as `void P0() { .. }`";
 const OF_WINDOWS = ": the page knows this function of Windows, so leave it out";
 const OF_END = ": after the threads is the question, as `exists (0:r0=0)`";
+
+/** Returns the code of the number of an expression, which is in parentheses if it is that of a macro; null if it is none, or below 0. */
+function computeNamed(code, isMacro) {
+  const squeezed = squeezeCode(code);
+  const number = isMacro && removeOuterParentheses(squeezed) === squeezed ? null : computeConstant(squeezed);
+  return number === null || number < 0 ? null : String(number);
+}
 
 /** Returns a declaration of an array of the standard library as one of an array, of the same length. */
 function writeArray(whole, type, count, name) {
@@ -259,7 +268,8 @@ class ProgramReader {
     const [macro, macroName, text = ""] = MACRO.exec(this.rest) ?? [];
     const [constant, constantName, code = ""] = CONSTANT.exec(this.rest) ?? [];
     if (!macro && !constant) return false;
-    const value = parseNamedValue(replaceNames(macro ? text : code, this.names));
+    const named = replaceNames(macro ? text : code, this.names);
+    const value = parseNamedValue(named) ?? computeNamed(named, macro !== undefined);
     if (macro && (!macroName || value === null)) refusePart(this.cutPart(macro.length), OF_MACROS);
     if (value === null) return false;
     this.setName(macroName ?? constantName, value, this.cutPart((macro ?? constant).length));

@@ -1471,6 +1471,61 @@ void c() { if (head.load() == 1) { int r = buf[1]; } }
 int main() { std::thread a(p, 1), b(c); a.join(); b.join(); }
 `,
     "X86 Mine\n(* 1:EAX is head in its condition, 1:EBX is r *)\n{ buf_1=0; head=0; }\n P0 | P1 ;\n MOV EAX,[head] | MOV EAX,[head] ;\n MOV [buf_1],$7 | CMP EAX,$1 ;\n MOV EAX,$1 | JNE END ;\n XCHG [head],EAX | MOV EBX,[buf_1] ;\n | END: ;\nexists (1:EAX=1 /\\ 1:EBX=0)\n"],
+  ["a ring buffer whose next index is chosen by a relation", `#include <atomic>
+#include <thread>
+class Q {
+  static const int N = 4;
+  volatile int buf[N];
+  std::atomic<int> w{0}, r{0};
+public:
+  bool enqueue(int v) { int i = w.load(std::memory_order_relaxed); int n = (i + 1 < N) ? i + 1 : 0; if (n == r.load(std::memory_order_acquire)) return false; buf[i] = v; w.store(n, std::memory_order_release); return true; }
+  int dequeue() { int i = r.load(std::memory_order_relaxed); if (i == w.load(std::memory_order_acquire)) return -1; int v = buf[i]; r.store(i + 1 < N ? i + 1 : 0, std::memory_order_release); return v; }
+};
+Q q; int got;
+void p() { q.enqueue(9); }
+void c() { int v = q.dequeue(); if (v != -1) got = v; }
+int main() { std::thread a(p), b(c); a.join(); b.join(); assert(got == 0 || got == 9); }
+`,
+    "X86 Mine\n(* 1:EAX is v, 1:EBX is v_2, 1:ECX is got *)\n{ q_buf_0=0; q_w=0; q_r=0; }\n P0 | P1 ;\n MOV EAX,[q_w] | MOV EDX,[q_r] ;\n MOV EAX,[q_r] | MOV EDX,[q_w] ;\n CMP EAX,$1 | CMP EDX,$0 ;\n JNE L2 | JNE L2 ;\n JMP L1 | MOV EAX,$4294967295 ;\n L2: MOV [q_buf_0],$9 | JMP L1 ;\n MOV [q_w],$1 | L2: MOV EBX,[q_buf_0] ;\n L1: | MOV [q_r],$1 ;\n | MOV EAX,EBX ;\n | L1: CMP EAX,$4294967295 ;\n | JE END ;\n | MOV ECX,EAX ;\n | END: ;\nforall (1:ECX=0 \\/ 1:ECX=9)\n"],
+  ["a ring buffer by a pointer, with a macro of a mask", `#include <stdatomic.h>
+#include <stdbool.h>
+#include <pthread.h>
+#define CAP 8
+#define MASK (CAP - 1)
+typedef struct { int data[CAP]; _Atomic unsigned head; _Atomic unsigned tail; } ring_t;
+static ring_t ring;
+static bool ring_push(ring_t *r, int v) {
+  unsigned h = atomic_load_explicit(&r->head, memory_order_relaxed);
+  unsigned t = atomic_load_explicit(&r->tail, memory_order_acquire);
+  if (h - t == CAP) return false;
+  r->data[h & MASK] = v;
+  atomic_store_explicit(&r->head, h + 1, memory_order_release);
+  return true;
+}
+static bool ring_pop(ring_t *r, int *out) {
+  unsigned t = atomic_load_explicit(&r->tail, memory_order_relaxed);
+  unsigned h = atomic_load_explicit(&r->head, memory_order_acquire);
+  if (h == t) return false;
+  *out = r->data[t & MASK];
+  atomic_store_explicit(&r->tail, t + 1, memory_order_release);
+  return true;
+}
+static void *producer(void *arg) { ring_push(&ring, 5); return NULL; }
+static void *consumer(void *arg) { int v; while (!ring_pop(&ring, &v)) ; return NULL; }
+int main(void) { pthread_t a, b; pthread_create(&a, NULL, producer, NULL); pthread_create(&b, NULL, consumer, NULL); pthread_join(a, NULL); pthread_join(b, NULL); return 0; }
+`,
+    "X86 Mine\n(* 0:EAX is t, 1:EAX is h, 1:EBX is ring_pop_result, 1:ECX is v *)\n(* every wait ends: 1:EBX=1 *)\n{ ring_data_0=0; ring_head=0; ring_tail=0; }\n P0 | P1 ;\n MOV EBX,[ring_head] | MOV EDX,[ring_tail] ;\n MOV EAX,[ring_tail] | MOV EAX,[ring_head] ;\n CMP EAX,$4294967288 | CMP EAX,$0 ;\n JNE L2 | JNE L2 ;\n JMP L1 | MOV EBX,$0 ;\n L2: MOV [ring_data_0],$5 | JMP L1 ;\n MOV [ring_head],$1 | L2: MOV ECX,[ring_data_0] ;\n L1: | MOV [ring_tail],$1 ;\n | MOV EBX,$1 ;\n | L1: ;\nlocations [0:EAX]\nexists (1:EBX=1 /\\ ~1:EAX=0 /\\ 1:ECX=0)\n"],
+  ["a ring buffer with a constant that is computed", `#include <atomic>
+#include <thread>
+constexpr size_t N = 8;
+constexpr size_t MASK = N - 1;
+int buf[N];
+std::atomic<size_t> head{0}, tail{0};
+void p() { size_t h = head.load(std::memory_order_relaxed); buf[h & MASK] = 4; head.store(h + 1, std::memory_order_release); }
+void c() { size_t t = tail.load(std::memory_order_relaxed); while (head.load(std::memory_order_acquire) == t) ; int r = buf[t & MASK]; tail.store(t + 1, std::memory_order_release); }
+int main() { std::thread a(p), b(c); a.join(); b.join(); }
+`,
+    "X86 Mine\n(* 1:EAX is head after its loop, 1:EBX is r *)\n(* every wait ends: ~1:EAX=0 *)\n{ buf_0=0; head=0; tail=0; }\n P0 | P1 ;\n MOV EAX,[head] | MOV ECX,[tail] ;\n MOV [buf_0],$4 | MOV EAX,[head] ;\n MOV [head],$1 | MOV EBX,[buf_0] ;\n | MOV [tail],$1 ;\nexists (~1:EAX=0 /\\ 1:EBX=0)\n"],
 ];
 // A program of rounds, whose loop does `sets` before the threads run.
 const makeRounds = (sets, code) => `#include <semaphore.h>
@@ -2725,6 +2780,18 @@ void d() { while (!get()) ; int r = data; }
 int main() { std::thread a(p), b(c), e(d); a.join(); b.join(); e.join(); }
 `,
     "`while (!ready())`: a loop that waits by a function calls one that changes nothing if the loop goes on, and returns constants", "while (!ready()) ; int r"],
+  ["a macro of a sum without parentheses", `#include <atomic>
+#include <thread>
+constexpr size_t N = 8;
+constexpr size_t MASK = N - 1;
+#define ONE 2 - 1
+int buf[N];
+std::atomic<size_t> head{0}, tail{0};
+void p() { size_t h = head.load(std::memory_order_relaxed); buf[h & MASK] = 4; head.store(h + 1, std::memory_order_release); }
+void c() { size_t t = tail.load(std::memory_order_relaxed); while (head.load(std::memory_order_acquire) == t) ; int r = buf[t & MASK]; tail.store(t + 1, std::memory_order_release); }
+int main() { std::thread a(p), b(c); a.join(); b.join(); }
+`,
+    "`#define ONE 2 - 1`: write its text where it is used", "#define ONE 2 - 1"],
 ];
 
 /** Returns a test with one blank in place of several, since names have other lengths than those in a form. */
