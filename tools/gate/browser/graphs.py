@@ -6,6 +6,7 @@ from urllib.parse import quote
 from gate.browser.lists import IN_SIGHT
 from gate.browser.page_case import PageCase
 from gate.browser.predicting import open_anew
+from gate.browser.sizes import DEKKER, PETERSON
 from gate.examples import examples
 
 # The least size in pixels of the letters of the graphs that are shown.
@@ -110,6 +111,16 @@ class Readable(PageCase):
             number, over, crossing = user.run(LABELS)
             self.assertTrue(number > 0, name)
             self.assertEqual(([], True), (over, len(crossing) <= 1), (name, crossing))
+
+    def test_labels_of_made(self) -> None:
+        """The same holds of the graph of a test that a button makes of a lock, which has more events than any example, except that more cross an arrow."""
+        user = self.user
+        for text in (PETERSON, DEKKER):
+            user.open_listed(f"#text={quote(text)}")
+            user.find("#graph-place svg.graph")
+            number, over, crossing = user.run(LABELS)
+            self.assertTrue(number > 0)
+            self.assertEqual(([], True), (over, 4 * len(crossing) <= number), crossing)
 
     def test_place(self) -> None:
         """A graph that has no room beside the text is below the machine, and goes with the run."""

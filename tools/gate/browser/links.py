@@ -59,7 +59,7 @@ class Links(PageCase):
         self.assertSays("The browser has not copied it. Copy it by hand:", "#said")
         field = "const it = document.querySelector('#said .copied-shown'); return [it.value, it === document.activeElement, it.selectionEnd - it.selectionStart]"
         link, is_focused, number = user.run(field)
-        self.assertEqual((True, True, len(link)), (link.endswith("#example=MP-x86"), is_focused, number))
+        self.assertEqual((True, True, len(link)), ("#example=MP-x86" in link, is_focused, number))
 
     def test_names(self) -> None:
         """A bare plus in the name of an example is a plus; a link to a missing example says so, and shows the first test."""

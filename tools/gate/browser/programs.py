@@ -85,8 +85,8 @@ class Waits(PageCase):
         user.find(HIDDEN)
         for tab in ("hand", "compile", "hand", "why", "hand", "states"):
             user.click(f"#tab-{tab}")
-            self.assertSoon("1", lambda: user.texts("table.strip thead .watch")[0])
-            self.assertSoon([], lambda: user.texts("table.strip thead .watch")[2:])
+            self.assertSoon("1", lambda: user.texts("#outcome table.strip thead .watch")[0])
+            self.assertSoon([], lambda: user.texts("#outcome table.strip thead .watch")[2:])
             self.assertSays("The condition does not hold in the only final state in which every wait ends.", "#outcome .count-words")
             if tab == "compile":
                 self.assertSays("As it is: 1 state in which every wait ends", "#compile h3")
