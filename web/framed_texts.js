@@ -100,7 +100,8 @@ export function explainFramed(text, explain) {
   if (!part) return null;
   const { code, begin } = part;
   if (isRead(code)) {
-    return { words: plain ? OF_NUMBERS : OF_TEST, change: { begin: 0, end: text.length, text: code.trimStart(), title: "Take the test out of it", done: "Taken." } };
+    const change = { begin: 0, end: text.length, text: code.trimStart(), title: "Take the test out of it", done: "Taken." };
+    return { words: plain ? OF_NUMBERS : OF_TEST, change };
   }
   const hint = explain(code);
   const around = plain ? "" : text.slice(0, begin) + text.slice(begin + code.length);

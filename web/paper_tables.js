@@ -96,7 +96,8 @@ function readNames(line) {
   const numbers = cells.map((it) => NAME.exec(it)?.[1]);
   const [first] = numbers;
   const isInOrder = numbers.length > 1 && numbers.length <= MAX_THREADS && first <= 1 && numbers.every((it, at) => Number(it) === Number(first) + at);
-  return isInOrder ? { first: Number(first), columns: listPieces(line).map((it) => it.index), count: numbers.length, hasBars: BARS.test(line), isFramed } : null;
+  const columns = listPieces(line).map((it) => it.index);
+  return isInOrder ? { first: Number(first), columns, count: numbers.length, hasBars: BARS.test(line), isFramed } : null;
 }
 
 /** Returns the cells of a row of code, one for each thread; null if it is not sure in which column each is. */
@@ -149,7 +150,9 @@ function readFront(lines) {
   return { name: titles.length === 1 && /^[A-Za-z]\w*$/.test(titles[0]) ? titles[0] : "Mine", block };
 }
 
-/** Returns the code of each thread of a table, the number of the first one, and the indices of the lines at which it begins and ends; null if it has none. */
+/**
+ * Returns the code of each thread of a table, the number of the first one, and the indices of the lines at which it begins and ends; null if there is none.
+ */
 function readTable(lines) {
   const at = lines.findIndex(readNames);
   const names = at < 0 ? null : readNames(lines[at]);

@@ -54,6 +54,10 @@ const ROLES = new RegExp(
 // Why parts of a text are not sure.
 const OF_COLUMN = "it is not sure in which column it is, so write each thread below its name, as `P0:`";
 const OF_ASSERTION = "it may be of the thread above it or of all, so indent it as that thread, or leave a blank line above it";
+const OF_TABS = "below it tabs and columns differ, so put blanks in place of tabs";
+const OF_LABELS = "it is not sure which labels are names of threads, so name these as `P0:`";
+const OF_NO_CODE = "it has no code of its own, so write the lines of each thread below its name";
+const OF_STATEMENT = "below the threads it may be an outcome, initial words or code of a thread, so begin it with `Can` or `Initially`";
 /** Why an assignment of a number is not sure. */
 export const OF_OUTCOME = "it may be an outcome or a statement, so ask for an outcome by `Can`";
 // Pieces of a line with gaps between them.
@@ -99,7 +103,8 @@ function expandTabs(line) {
 
 /** Returns the lines of a text; those of a table of Markdown without its frame. Bold words are plain, and a sentence after initial words has its own line. */
 function splitLines(text) {
-  const plain = text.replace(/^([ \t]*)\*\*([^*\n]+)\*\*/gm, "$1$2").replace(/^([ \t]*initially\b[^.?\n]*\.)[ \t]+(?=(?:is|are|can|could|may|might|does|what)\b[^\n]*\?)/gim, "$1\n");
+  const bare = text.replace(/^([ \t]*)\*\*([^*\n]+)\*\*/gm, "$1$2");
+  const plain = bare.replace(/^([ \t]*initially\b[^.?\n]*\.)[ \t]+(?=(?:is|are|can|could|may|might|does|what)\b[^\n]*\?)/gim, "$1\n");
   const lines = plain.split("\n").filter((it) => it.trim() && !/^\s*```/.test(it));
   const isFramed = lines.every((it) => !it.includes("|") || /^\s*\|(?!\|)/.test(it));
   return lines.map((it) => expandTabs(isFramed ? it.replace(/^\s*\||\|\s*$|`/g, "") : it));
@@ -187,7 +192,9 @@ function hasOtherTabs(names, lines, columns) {
   return rows.some((row, at) => row.length > 1 && listPieces(lines[at]).some(({ code, index }) => row[find(index)]?.code !== code));
 }
 
-/** Returns the lines of threads in columns, given the columns' first letters and whether they have bars. Throws a doubt if a cell is in no column for sure. */
+/**
+ * Returns the lines of threads in columns, given the columns' first letters and whether they have bars. Throws a doubt if a cell is in no column for sure.
+ */
 function readColumns(lines, columns, hasBars) {
   const threads = columns.map(() => []);
   for (const [row, line] of lines.entries()) {
@@ -257,11 +264,12 @@ function readBeside(lines, at, isNamed, apart) {
   const isAssertion = (it) => !hasBars && columns.length > 1 && ASSERTS.test(it);
   const end = findEnd(rows, (it) => isAssertion(it) && it.search(/\S/) >= columns[1] - 2);
   const asked = rows[end] ?? "";
-  if (isAssertion(asked) && asked.trimEnd().length < columns[1] && isUnsureAssertion(asked, apart)) throw makeDoubt(asked, OF_ASSERTION);
+  const isShort = asked.trimEnd().length < columns[1];
+  if (isAssertion(asked) && isShort && isUnsureAssertion(asked, apart)) throw makeDoubt(asked, OF_ASSERTION);
   const code = rows.slice(0, end);
   // Initial values may be below the names.
   while (/^\s*\{[^{}]*\}\s*$/.test(code[0] ?? "")) before.push(code.shift().replace(/[{}]/g, ""));
-  if (!hasBars && hasOtherTabs(lines[at], code, columns)) throw makeDoubt(lines[at], "below it tabs and columns differ, so put blanks in place of tabs");
+  if (!hasBars && hasOtherTabs(lines[at], code, columns)) throw makeDoubt(lines[at], OF_TABS);
   const threads = readColumns(code, columns, hasBars);
   const first = isNamed ? findFirst(names.map((it) => findNumber(it.code))) : 0;
   return { before, threads, after: rows.slice(end), first };
@@ -311,7 +319,7 @@ function splitLast(parts) {
 function readBelow(given, apart) {
   const lines = given.filter((it) => !UNDERLINE.test(it));
   const heads = findHeads(lines);
-  if (!heads) throw makeDoubt(lines.find((it) => BEGIN.test(it) || LETTER_HEAD.test(it)) ?? "", "it is not sure which labels are names of threads, so name these as `P0:`");
+  if (!heads) throw makeDoubt(lines.find((it) => BEGIN.test(it) || LETTER_HEAD.test(it)) ?? "", OF_LABELS);
   const [before, after, parts, numbers] = [[], [], [], []];
   let last = null;
   for (const [at, line] of lines.entries()) {
@@ -326,7 +334,8 @@ function readBelow(given, apart) {
     const code = dropComment(head ? " ".repeat(head.label.length) + line.slice(head.label.length) : line);
     const raw = code.search(/\S/);
     // Below code that is not indented an assertion may be one of the last thread.
-    if (raw === 0 && parts.at(-1)?.rows.at(-1)?.raw === 0 && ASSERTS.test(code) && isUnsureAssertion(line, apart)) throw makeDoubt(line, OF_ASSERTION);
+    const isBare = raw === 0 && parts.at(-1)?.rows.at(-1)?.raw === 0;
+    if (isBare && ASSERTS.test(code) && isUnsureAssertion(line, apart)) throw makeDoubt(line, OF_ASSERTION);
     if (!parts.length || INITIAL.test(line)) before.push(line);
     else if (after.length || (ASKS.test(code.trim()) && raw === 0)) after.push(line);
     else if (code.trim()) {
@@ -355,13 +364,13 @@ function findOutcomeLine(threads) {
 /** Throws a doubt if what is read of a text is not sure as a whole. */
 function refuseUnsure({ threads, after, first }) {
   const empty = threads.findIndex((it) => !it.length);
-  if (threads.length > 1 && empty >= 0) throw new Doubt(`the thread ${empty + first || empty}: it has no code of its own, so write the lines of each thread below its name`);
+  if (threads.length > 1 && empty >= 0) throw new Doubt(`the thread ${empty + first || empty}: ${OF_NO_CODE}`);
   if (threads.length > MAX_THREADS) throw new Doubt("its number of threads: a test has four at most");
   if (!(first <= 1)) throw new Doubt("the names of the threads: their numbers are not in order from 0 or 1 on");
   const outcome = findOutcomeLine(threads);
   if (outcome) throw makeDoubt(outcome, OF_OUTCOME);
   const statement = after.find((it) => STATEMENT.test(it));
-  if (statement) throw makeDoubt(statement, "below the threads it may be an outcome, initial words or code of a thread, so begin it with `Can` or `Initially`");
+  if (statement) throw makeDoubt(statement, OF_STATEMENT);
 }
 
 /**

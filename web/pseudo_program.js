@@ -67,8 +67,12 @@ const THREAD = /(?<!\w)(?:[PT](\d)|(?:thread|process|processor|cpu|core|proc)\s*
 // Pairs of sites and words, and one or two sites with a word.
 const PAIRS = /\(\s*(\w+)\s*,\s*(\w+)\s*\)\s*==?\s*\(\s*(\d+)\s*,\s*(\d+)\s*\)/g;
 const NOT_ALLOWED = /\b(?:(?:is|are)\s+)?not\s+(?:allowed|possible|permitted)\b|\b(?:should|must|can|may|does)\s*not\s+produce\b/gi;
-// What explains an answer, after it; and a question in parentheses, which explains the one before it.
-const EXPLANATION = /,?\s*\b(?:because|since|although|even\s+though|due\s+to)\b.*$/i;
+// What explains an answer, after it, and says of no word what it is; and a question in parentheses, which explains the one before it.
+const EXPLANATION = new RegExp(
+  ",?\\s*\\b(?:because|since|although|even\\s+though|due\\s+to)\\b" +
+    "(?!.*(?:=|\\b(?:is|are|be|was|equals?|holds?|reads?|sees?|not)\\b\\s*(?:\\d|$|[.,])|\\b(?:non)?zero\\b)).*$",
+  "i",
+);
 const ASIDE = /^\s*\(.*\?\s*\)\s*$/;
 const BOTH = /(?<!\w)([A-Za-z_]\w*)(?:\s+and\s+([A-Za-z_]\w*))?\s+(?:both\s+)?(?:be|equal)\s+(?=\d+\b)/gi;
 // Code of any number of threads has a loop, and elements of arrays that are those of a thread and of another one.
@@ -205,7 +209,8 @@ function findOwnNames(codes, declared, initial) {
     if (OWN.test(name)) return codes.every((it) => !has(it, name) || isSet(name, it));
     return isSet(name, code, "[A-Za-z_]") && !isElsewhere(name, thread) && !initial.has(name);
   };
-  const isOther = (name, code) => REGISTER.test(name) && !initial.has(name) && !isSet(name, code) && codes.some((it) => isSet(name, it, "[A-Za-z_]"));
+  const isLoadedBy = (name) => codes.some((it) => isSet(name, it, "[A-Za-z_]"));
+  const isOther = (name, code) => REGISTER.test(name) && !initial.has(name) && !isSet(name, code) && isLoadedBy(name);
   const other = codes.flatMap((code) => listNames(code).filter((it) => isOther(it, code)))[0];
   if (other) throw makeDoubt(other, "a thread has it, and another one sets it, so ask for it below the threads, or write a name that is shared");
   const own = codes.map((code, thread) => [...new Set(listNames(code))].filter((name) => isOwn(name, code, thread)));

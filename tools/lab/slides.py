@@ -140,8 +140,8 @@ SLIDES: list[Slide] = [
     ("A fence in each thread", [
         States("B1"),
         Words("Never: the end that we ask about is none of the three states."),
-        Words("Each thread has an `MFENCE` between its store and its load. The fence waits until the thread's own buffer is empty: so memory has the store before the load."),
-        Note("These are the three states of slide 4. With only one of the fences the fourth state comes back: a group can say which schedule reaches it."),
+        Words("Each thread has an `MFENCE` between its store and its load. It waits until the thread's buffer is empty: so the store comes before the load."),
+        Note("These are the three states of slide 4. With one fence the fourth state comes back: a group can say which schedule reaches it."),
     ]),
     ("What to take with you", [
         Words("A load may be done before the others see a store in front of it."),
