@@ -48,10 +48,11 @@ const NO_TITLE = /[=\u2190|{}]|<-|\b(?:init\w*|starts?|begins?|holds?|contains?|
 const ATOM = new RegExp(`(?<![\\w.])(?:${KIND}?[ :]*(\\d)\\s*[:,]?\\s*)?(\\[\\s*_?\\w+\\s*\\]|[A-Za-z_]\\w*)\\s*==?\\s*\\$?(\\d+)(?![\\w.])`, "gi");
 const BETWEEN = /\u2227|\/\\|&&?|\band\b|[\s,;.:?()]/gi;
 const ASKING = new RegExp(
-  "^(?:allowed|allow|forbidden|forbid|final|finally|states?|outcomes?|results?|possible|impossible|observable|observed|is|not|can|we|have|be|the|on|" +
+  "^(?:allowed|allow|forbidden|forbid|final|finally|states?|outcomes?|results?|possible|impossible|observable|observed|is|can|we|have|be|the|on|" +
     "x86|x86-tso|tso|end|in|at|both|with)$",
   "i",
 );
+const NOT_ALLOWED = /\b(?:(?:is|are)\s+)?not\s+(?:allowed|possible|permitted|observable|observed)\b/gi;
 const QUESTION = /^(?:~\s*)?(?:exists|forall)\b/;
 const OF_TABLE = "This is a table of instructions, as papers print it: `MOV [x] \u2190 1` is `MOV [x],$1` here.";
 const LONGEST_LINE = 48;
@@ -135,7 +136,7 @@ function writeQuestion(line, codes, first) {
     const site = writeSite(number === undefined ? undefined : Number(number) - first, name, codes);
     return site && `${site}=${word}`;
   });
-  const rest = line.replace(ATOM, " ").replace(BETWEEN, " ").trim().split(/\s+/).filter(Boolean);
+  const rest = line.replace(NOT_ALLOWED, "forbidden").replace(ATOM, " ").replace(BETWEEN, " ").trim().split(/\s+/).filter(Boolean);
   const sites = new Set(atoms.map((it) => it?.split("=")[0]));
   const isSure = atoms.length && !atoms.includes(null) && sites.size === atoms.length && rest.every((it) => ASKING.test(it));
   return isSure ? `exists (${atoms.join(" /\\ ")})` : null;

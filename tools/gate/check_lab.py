@@ -169,7 +169,7 @@ def check_links(tests: dict[str, str]) -> Iterator[Comparison]:
     tests_shown = [it for *_, text in parse_tasks(find_section(lab, "The sheet")) for it in find_tests(text).items()]
     links = re.findall(r'<figcaption>(\w+) <a class="screen" target="lw" href="site/index\.html#([^"]*)">', page)
     yield "each test has a link where it is used", [name for name, _ in tests_shown], [name for name, _ in links]
-    views = {"by hand": {"view": ["hand"]}, "to repair": {"fences": ["own"]}, "": {}}
+    views: dict[str, dict[str, list[str]]] = {"by hand": {"view": ["hand"]}, "to repair": {"fences": ["own"]}, "": {}}
     for (name, use), (_, link) in zip(tests_shown, links):
         view = views[use]
         yield f"the link of {name}", {"predict": ["1"], **view, "text": [tests[name]]}, parse_qs(unescape(link))
