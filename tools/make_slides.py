@@ -3,10 +3,11 @@
 
     python3 tools/make_slides.py OUT.html [--page LINK]
 
-PageDown, Space, Enter, the arrows to the right and down, a click and a tap lead on; PageUp and the other arrows lead back; Home and End to
-the ends. Two small buttons lead back and on, with the number of the slide between them. N, or a third button, shows the teacher's notes in a window of
-their own, which follows the slides; the slides themselves never show them. The number after `#` in the address is that of the slide. Printed, each slide is a page. With LINK, the address of lw's page as the slides have it (`site/index.html`), each slide
-that shows a test has a link that opens the test there, at the same run, in one tab for all slides.
+PageDown, Space, Enter, the arrows to the right and down, a click and a tap lead on; PageUp and the other arrows lead back; Home and End to the
+ends. Two small buttons lead back and on, with the number of the slide between them. N, or a third button, shows the teacher's notes in a window of
+their own, which follows the slides; the slides themselves never show them. The number after `#` in the address is that of the slide. Printed, each
+slide is a page. With LINK, the address of lw's page as the slides have it (`site/index.html`), each slide that shows a test has a link that opens
+the test there, at the same run, in one tab for all slides.
 
 What the slides show of tests comes from the program (`./lw states` and `./lw replay`), which has to be built: so it needs Linux. The machine is drawn as
 on the page, graphs are those of tools/graph.py, and all has the colours of the page. The same sources give the same bytes.
@@ -93,7 +94,8 @@ function showNote() {
   if (!notes || notes.closed) return;
   const title = slides[at].querySelector("h2").textContent;
   const words = slides[at].querySelector("aside")?.textContent ?? "There is no note on this slide.";
-  const parts = [`Slide ${at + 1} of ${slides.length}: ${title}`, words, "This window is for the teacher: move it off the projected screen. N in the slides closes it."];
+  const how = "This window is for the teacher: move it off the projected screen. N in the slides closes it.";
+  const parts = [`Slide ${at + 1} of ${slides.length}: ${title}`, words, how];
   notes.document.title = "Notes for the teacher";
   notes.document.body.replaceChildren(...parts.map((it) => Object.assign(notes.document.createElement("p"), { textContent: it })));
   notes.document.body.style.font = "18px/1.45 system-ui, sans-serif";

@@ -193,7 +193,8 @@ export function makeEndedFilter(text) {
  */
 export function leaveOutWaiting(text, report) {
   const states = makeEndedFilter(text)(report.states, ({ line }) => line);
-  return states.length === report.states.length ? report : { ...report, states, number: states.length, positive: states.filter((it) => it.holds).length };
+  const { length } = states;
+  return length === report.states.length ? report : { ...report, states, number: length, positive: states.filter((it) => it.holds).length };
 }
 
 /**

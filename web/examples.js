@@ -113,7 +113,8 @@ export class Examples {
 
   /** Returns the offer of the walk, as children for `el`. */
   makeWalkOffer() {
-    return [el("span", { class: "all-what" }, "New to this? "), makeButton("Take the two-minute walk", this.openWalk, { class: "link", id: "open-walk" }), "."];
+    const begin = makeButton("Take the two-minute walk", this.openWalk, { class: "link", id: "open-walk" });
+    return [el("span", { class: "all-what" }, "New to this? "), begin, "."];
   }
 
   /** Returns a sentence in which the name of another example leads to it. */

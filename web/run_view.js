@@ -26,9 +26,9 @@ const LISTED = [
 // The part of a graph that has to be in sight if it counts as seen, or the part of the window that it fills; and how often that is checked.
 const SEEN = 0.9;
 const LOOKS = 20;
-// How a machine may be drawn, by its classes, the best first: as large as the window allows; if its code has no room then, with the store buffer beside
-// the code; below notes that are folded and a list of fewer rows; in smaller type, with low lines and entries, with lines close to each other, and in fine
-// type, unless the reader wants large type; and if a part of it is out of sight even so, below a condition that is cut to one line.
+// How a machine may be drawn, by its classes, the best first: as large as the window allows; if its code has no room then, with the store buffer
+// beside the code; below notes that are folded and a list of fewer rows; in smaller type, with low lines and entries, with lines close to each other,
+// and in fine type, unless the reader wants large type; and if a part of it is out of sight even so, below a condition that is cut to one line.
 const TERSE = [
   "", "beside", "small", "beside small", "small low", "beside small low", "beside small low close", "fine small", "fine small low", "fine small low close",
   "small low cramped", "beside small low cramped", "beside small low close cramped", "fine small low close cramped",
@@ -174,8 +174,8 @@ export class RunView {
   }
 
   /**
-   * Draws the machine in the first way in which it is in sight with all of its code, or else with the most of it; and if it is not in sight in any way,
-   * beside a text that is narrower. Returns how much of it is cut, as `drawIn` does.
+   * Draws the machine in the first way in which it is in sight with all of its code, or else with the most of it; and if it is not in sight in any
+   * way, beside a text that is narrower. Returns how much of it is cut, as `drawIn` does.
    */
   chooseWay() {
     const least = computeLeastHeight(this.stage.shown);
@@ -205,8 +205,8 @@ export class RunView {
   }
 
   /**
-   * Draws the machine in a way. If it would be out of sight, its boxes become lower by what they have to spare. Returns how much of it is cut: lines of
-   * code, and far more if a part of the machine is out of sight.
+   * Draws the machine in a way. If it would be out of sight, its boxes become lower by what they have to spare. Returns how much of it is cut: lines
+   * of code, and far more if a part of the machine is out of sight.
    */
   drawIn(way, least) {
     const { place } = this.stage;
@@ -322,8 +322,8 @@ function listPlaces({ events, frames, cells }) {
 }
 
 /**
- * Returns the data of the machine's drawing: the registers that are used in the whole run, how many entries have left each buffer, and more. `places` has
- * the places of the run's events.
+ * Returns the data of the machine's drawing: the registers that are used in the whole run, how many entries have left each buffer, and more. `places`
+ * has the places of the run's events.
  */
 function makeShown(run, places) {
   const { cells, frame, frames, tints, slots, step, events, isByHand } = run;

@@ -66,9 +66,10 @@ export class States {
     const { why = null, runPanel = panel, graphPlace = null, firstStep = "telling", next = null, ...others } = more;
     const { onVeil = () => null, ownOf = () => null, noteOf = () => "", onWatch = null, onUnlisted = () => null, ...called } = others;
     Object.assign(this, { editor, onReveal, onVeil, ownOf, noteOf, firstStep, why, onWatch, onUnlisted });
-    // `found` has the keys of the states that are found by hand, `answered` the text of which the verdict was shown, `counted` is the report without the states
-    // in which a wait has not ended, and `isWhole` says whether the list has these, too.
-    Object.assign(this, { report: null, isByHand: false, isSearched: false, isVeiled: false, found: new Set(), answered: null, counted: null, isWhole: false });
+    // `found` has the keys of the states that are found by hand, `answered` the text of which the verdict was shown, `counted` is the report without
+    // the states in which a wait has not ended, and `isWhole` says whether the list has these, too.
+    Object.assign(this, { report: null, isByHand: false, isSearched: false, isVeiled: false, found: new Set(), answered: null });
+    Object.assign(this, { counted: null, isWhole: false });
     this.verdict = el("div", { role: "status", tabindex: "-1", class: "verdicts" });
     this.list = el("div", { class: "list-place" });
     this.strip = new Strip(editor, { choose: (line) => this.choose(line), why });
@@ -345,7 +346,8 @@ export class States {
     const { report, missing } = this;
     const byTurns = isByTurns ? "This run is an interleaving: each store goes to memory at once." : null;
     if (report?.positive !== 0 || report.asked === "Required") return { words: byTurns, explain: null };
-    const isClosest = missing !== null && countDifferences(line, missing) === countDifferences(findClosest(this.counted.states, missing).line, missing);
+    const count = (it) => countDifferences(it, missing);
+    const isClosest = missing !== null && count(line) === count(findClosest(this.counted.states, missing).line);
     const shown = isClosest ? "comes closest" : isOwn ? "is the test's example" : "ends in the first state";
     return { words: `No run ends as asked: this one ${shown}.`, explain: missing !== null && this.why ? () => this.why(missing) : null };
   }

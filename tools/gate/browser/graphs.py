@@ -113,7 +113,7 @@ class Readable(PageCase):
             self.assertEqual(([], True), (over, len(crossing) <= 1), (name, crossing))
 
     def test_labels_of_made(self) -> None:
-        """The same holds of the graph of a test that a button makes of a lock, which has more events than any example, except that more cross an arrow."""
+        """No label of the graph of a made test, which has many events, lies over another thing; few lie over an arrow of another edge."""
         user = self.user
         for text in (PETERSON, DEKKER):
             user.open_listed(f"#text={quote(text)}")

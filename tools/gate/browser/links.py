@@ -57,8 +57,8 @@ class Links(PageCase):
         user.run("navigator.clipboard.writeText = () => new Promise(() => null); document.execCommand = () => false")
         user.click("#link")
         self.assertSays("The browser has not copied it. Copy it by hand:", "#said")
-        field = "const it = document.querySelector('#said .copied-shown'); return [it.value, it === document.activeElement, it.selectionEnd - it.selectionStart]"
-        link, is_focused, number = user.run(field)
+        shown = "const it = document.querySelector('#said .copied-shown');"
+        link, is_focused, number = user.run(f"{shown} return [it.value, it === document.activeElement, it.selectionEnd - it.selectionStart]")
         self.assertEqual((True, True, len(link)), ("#example=MP-x86" in link, is_focused, number))
 
     def test_names(self) -> None:

@@ -286,7 +286,7 @@ class Verdicts(PageCase):
         self.assertSays("Interleaving gives the only state, too", "#outcome .note")
         self.assertEqual(["2 states more, in which a wait has not ended, are hidden. Show them"], user.texts("#outcome .hidden-states"))
         user.click("#outcome .hidden-states button")
-        self.assertSoon(["2 states more, in which a wait has not ended, are shown, too, and not counted. Hide them"], lambda: user.texts("#outcome .hidden-states"))
+        self.assertSays("2 states more, in which a wait has not ended, are shown, too, and not counted. Hide them", "#outcome .hidden-states")
         self.assertSays("The condition does not hold in the only final state in which every wait ends.", "#outcome .asked")
 
     def test_as_printed(self) -> None:

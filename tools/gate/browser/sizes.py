@@ -353,7 +353,8 @@ class InSight(PageCase):
         """Of tests that are made of programs, whose text is wide, the machine, the verdict and the list are whole at 1280 by 720."""
         user = self.user
         user.resize(1280, 720)
-        whole = "const it = document.querySelector(arguments[0]).getBoundingClientRect(); return it.top >= 0 && it.right <= innerWidth && it.bottom <= innerHeight"
+        box = "const it = document.querySelector(arguments[0]).getBoundingClientRect();"
+        whole = f"{box} return it.top >= 0 && it.right <= innerWidth && it.bottom <= innerHeight"
         for text in (PETERSON, DEKKER, FOURTEEN):
             user.open_listed(f"#text={quote(text)}")
             user.wait(lambda: not user.all(".asking"), "the answers")
