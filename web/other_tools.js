@@ -181,7 +181,7 @@ export function findOtherLanguage(place) {
   const code = rest.replace(C_COMMENTS, "");
   const [other] = OTHER_LANGUAGES.find(([, pattern]) => pattern.test(code) && (pattern === C_SHARP || !CPP.test(code))) ?? [];
   if (other) return { words: `This begins as a program in ${other} does. ${IS_READ}`, document: "your-code.html" };
-  if (C.test(code) && !LISTING.test(code)) return explainProgram("This begins as a program or a test in C does.", rest, place);
+  if (C.test(code) && !LISTING.test(code)) return explainProgram(`This begins as a program ${CPP.test(code) ? "in C++" : "or a test in C"} does.`, rest, place);
   if (RUST.test(code)) return explainProgram("This begins as a program in Rust does.", rest, place);
   if (OTHERS.test(token)) return { words: `\`${token}\` is the language of another processor in herd's tests. ${OF_OTHERS}`, document: "from-herd.html" };
   if (/^X86_64$/i.test(token) && !isRead(rest.replace(/^\w+/, "X86"))) {

@@ -764,7 +764,10 @@ function comparePrograms(page, compare) {
     const { words } = findHint(page, text);
     compare(`the hint on ${language}: ${text}`, `This begins as a program in ${language} does. ${IS_READ}`, words);
   }
-  for (const begin of BEGINS) compare(`a program begins with ${begin}`, BEGIN, findHint(page, `${begin}\n${PROGRAM}`).words.slice(0, BEGIN.length));
+  for (const begin of BEGINS) {
+    const expected = /std::|namespace/.test(begin) ? BEGIN_OF_CPP : BEGIN;
+    compare(`a program begins with ${begin}`, expected, findHint(page, `${begin}\n${PROGRAM}`).words.slice(0, expected.length));
+  }
   compare("a text that is no program has another hint", null, page.other_tools.findOtherLanguage({ text: "X86 A", index: 0, token: "X86" }));
 }
 
@@ -3135,6 +3138,7 @@ int main() { std::vector<std::thread> ts; for (int i = 0; i < 2; i++) ts.push_ba
 ];
 
 const BEGIN = "This begins as a program or a test in C does.";
+const BEGIN_OF_CPP = "This begins as a program in C++ does.";
 const BUTTON =
   " The button makes an x86 test of it: each access as gcc and clang compile it, in the order of the program. That is not proved, and a compiler may " +
   "also reorder or merge relaxed and plain accesses.";
@@ -3161,7 +3165,7 @@ const makePlain = (names) => ` ${names} plain: each access is one \`MOV\` here, 
 // A text, its words, how the words on the command end, and the place if the text is not rewritten, as its row and its column.
 const HINTS = [
   ["a program", `/* Mine. */\n${PROGRAM}`, `${BEGIN}${BUTTON}`, "as `// lw: exists (0:r0=0)` does."],
-  ["C++", `std::atomic<int> x;\n${PROGRAM.split("\n").slice(1).join("\n").replace(/y/g, "x")}`, `${BEGIN}${BUTTON}`, "does."],
+  ["C++", `std::atomic<int> x;\n${PROGRAM.split("\n").slice(1).join("\n").replace(/y/g, "x")}`, `${BEGIN_OF_CPP}${BUTTON}`, "does."],
   ["no question", PROGRAM.split("//")[0], `${BEGIN}${BUTTON}${GUESS}`, "does."],
   ["no question and no load", "atomic_int x;\nvoid P0() { x++; }\n",
     `${BEGIN}${BUTTON} The question \`true\` asks nothing: look at the list of states, and ask what must not happen.`, "does."],
@@ -3178,17 +3182,17 @@ const HINTS = [
   ["a loop in a test that begins with X86", WHOLE[2][1].replace("int r0 = *x;", "while (x->exchange(2) == 1) ;"),
     `${WOULD_IN_CPP} because of \`while (x->exchange(2) == 1)\`${OF_LOOPS}.`, "Its first word is `C` then.", [4, 61]],
   ["a mutex", "std::mutex m; int n;\nvoid P0() { m.lock(); n++; m.unlock(); }\nvoid P1() { m.lock(); n++; m.unlock(); }\n",
-    `${BEGIN}${BUTTON}${makePlain("`n` is")}it.${LOCKS}${GUESS}`, "does."],
+    `${BEGIN_OF_CPP}${BUTTON}${makePlain("`n` is")}it.${LOCKS}${GUESS}`, "does."],
   ["a mutex that is tried", "std::mutex m; int n;\nvoid P0() { if (m.try_lock()) { n++; m.unlock(); } }\nvoid P1() { if (m.try_lock()) { n++; m.unlock(); } }\n",
-    `${BEGIN}${BUTTON}${makePlain("`n` is")}it. A mutex is a word here, which \`XCHG\` takes if it is free.${GUESS}`, "does."],
+    `${BEGIN_OF_CPP}${BUTTON}${makePlain("`n` is")}it. A mutex is a word here, which \`XCHG\` takes if it is free.${GUESS}`, "does."],
   ["a semaphore at the begin", "sem_t s;\nint x;\nvoid P0() { sem_wait(&s); x = 1; }\n",
     `${WOULD} because of \`sem_t s;\`: the page follows semaphores that are 0 or 1 at all times, or begin and end rounds of threads${OR_WAITS}.`, "does.", [1, 1]],
   ["a lock that no thread uses", "std::atomic<int> held;\nvoid lock() { while (held.exchange(1)) ; }\nvoid unlock() { held = 0; }\n",
-    `${BEGIN}${BUTTON} No thread uses the lock: here each of two threads takes it, adds to \`counter\`, and gives it back.${makePlain("`counter` is")}it.${WAITS}${GUESS}`, "does."],
+    `${BEGIN_OF_CPP}${BUTTON} No thread uses the lock: here each of two threads takes it, adds to \`counter\`, and gives it back.${makePlain("`counter` is")}it.${WAITS}${GUESS}`, "does."],
   ["words of 64 bits", "long x;\nstd::atomic<uint64_t> y{1};\nvoid P0() { y++; long r = y; }\nvoid P1() { y -= 2UL; }\nexists (0:r=1)\n",
-    `${BEGIN}${BUTTON} Words of 64 bits are words of 32 bits here, which no sum of this program exceeds.`, "does."],
+    `${BEGIN_OF_CPP}${BUTTON} Words of 64 bits are words of 32 bits here, which no sum of this program exceeds.`, "does."],
   ["a loop of runs", `std::atomic<int> x; int r;\nint main() { int n = 0; while (1) { x = 0; std::thread a([&] { x = 1; }), b([&] { r = x; }); a.join(); b.join(); if (!r) n++; } }\n`,
-    `${BEGIN}${BUTTON} The loop in \`main\` is one run here, which is enough, since the page lists all final states.`, "does."],
+    `${BEGIN_OF_CPP}${BUTTON} The loop in \`main\` is one run here, which is enough, since the page lists all final states.`, "does."],
   ["a loop that waits, and a plain variable", LOOP.replace("x = 1;", "d = 1;").replace("y = 1;", "y = d;"),
     `${BEGIN}${BUTTON}${makePlain("`d` is")}it.${WAITS}${GUESS}`, "does."],
   ["three plain variables", "int x, y, z;\nvoid P0() { x = 1; y = 1; z = 1; }\nvoid P1() { x = 2; y = 2; z = 2; }\n// lw: exists (x=1)\n",

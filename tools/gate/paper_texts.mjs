@@ -21,7 +21,7 @@ const OF_STATES = "it is no final state for sure, as `0:EAX=0 \u2227 1:EBX=0` is
 const OF_ROWS = "in such a row only `MOV`, `XCHG` and `MFENCE` on names and on registers of 32 bits are read.";
 const OF_START = "This is code with text around it that may say with which words its variables begin: paste only the code, with these words in it.";
 const COMPILED =
-  "This begins as a program or a test in C does. The button makes an x86 test of it: each access as gcc and clang compile it, in the order of the " +
+  "This begins as a program in C++ does. The button makes an x86 test of it: each access as gcc and clang compile it, in the order of the " +
   "program. That is not proved, and a compiler may also reorder or merge relaxed and plain accesses.";
 const SB = " P0          | P1          ;\n MOV [x],$1  | MOV [y],$1  ;\n MOV EAX,[y] | MOV EBX,[x] ;\n";
 const SB_ALIKE = " P0          | P1          ;\n MOV [x],$1  | MOV [y],$1  ;\n MOV EAX,[y] | MOV EAX,[x] ;\n";
