@@ -2,10 +2,12 @@
 """Makes a quiz for a class: one HTML file, which works without a server and without a network.
 
     python3 tools/make_quiz.py OUT.html [--tests N] [--seed S] [--page LINK]
+    python3 tools/make_quiz.py OUT.html FILE.. [--seed S] [--page LINK]
 
-For each of N tests (10) it asks whether the test can end this way by interleaving, when threads take turns on one memory, and whether it can on
+For each of N tests (10), or for each of the x86 tests in the files, it asks whether the test can end this way by interleaving, when threads take turns on one memory, and whether it can on
 x86-TSO. At the end it shows which answers were right, and a code to hand in; tools/read_codes.py reads the codes, and so does the file itself, for
-the teacher. The seed has up to eight small letters and digits; the same seed makes the same bytes. With LINK, the address of lw's page as the quiz has it
+the teacher. The seed has up to eight small letters and digits; the same seed makes the same bytes. Own tests have loads, stores of constants and MFENCE only, and
+ask by `exists`. With LINK, the address of lw's page as the quiz has it
 (`site/index.html`), each answer has a link at the end that opens its test there, with the run or with the cycle that explains the answer. Code has
 the colours of the page.
 
@@ -21,11 +23,13 @@ from collections.abc import Callable, Mapping
 sys.dont_write_bytecode = True
 import films
 import given
+import plain
 from lab import codes, quiz, tints
 from shapes.edges import NoCycle
 from shared import command, start
 from shared.literal import format_literal
 
+DEFAULT_COUNT = 10
 NOT_PROVED = "make_quiz: the verdicts are those of tools/plain.py: there is no program of these sources (./lw builds it)"
 TEMPLATE = os.path.join(os.path.dirname(os.path.abspath(quiz.__file__)), "quiz.html")
 
@@ -37,10 +41,14 @@ def make_links(seed: str, files: Mapping[str, str]) -> str:
 
 
 def make_page(count: int, seed: str, report: Callable[[str], str], page: str = "", files: Mapping[str, str] | None = None) -> str:
-    """Returns the quiz as one page, with links to lw's page at an address, if there is one, and to other quizzes: for each seed its file."""
+    """Returns the quiz of a seed as one page, with links to lw's page at an address, if there is one, and to other quizzes: for each seed its file."""
+    return format_page(quiz.make_tests(count, seed, report), seed, page, make_links(seed, files or {}))
+
+
+def format_page(tests: list[quiz.QuizTest], seed: str, page: str, others: str = "") -> str:
+    """Returns the quiz of some tests as one page, with links to lw's page at an address, if there is one, and the line of links to other quizzes."""
     with open(TEMPLATE, encoding="utf-8") as file:
         html = file.read()
-    tests, others = quiz.make_tests(count, seed, report), make_links(seed, files or {})
     parts = {
         "@TITLE@": f"Quiz {seed}" if others else "A quiz", "@OTHERS@": others, "@TINTS@": tints.make_style(),
         "@TINTED@": format_literal([tints.render_test(it.text) for it in tests]),
@@ -54,18 +62,38 @@ def make_page(count: int, seed: str, report: Callable[[str], str], page: str = "
     return html
 
 
+def make_own_page(names: list[str], seed: str, report: Callable[[str], str], page: str) -> str:
+    """Returns the quiz of the tests in some files as one page. Raises NoQuiz as `quiz.make_own_tests` does, and if a file has no test, with the place."""
+    quiz.check_seed(seed)
+    texts = {}
+    for name in names:
+        data = given.read_bytes(name)
+        try:
+            texts[name] = given.decode(data)
+            plain.read_test(texts[name])
+        except given.Fault as fault:
+            raise quiz.NoQuiz(given.format_fault(name, data, fault)) from None
+    return format_page(quiz.make_own_tests(texts, report), seed, page)
+
+
 def main() -> int:
     """Runs the command that the arguments describe. Returns the exit status."""
     given.set_output_encoding()
     reader = command.Reader(__doc__)
     reader.add_argument("out", metavar="OUT.html")
-    reader.add_argument("--tests", type=int, default=10, metavar="N")
+    reader.add_argument("files", nargs="*", metavar="FILE")
+    reader.add_argument("--tests", type=int, metavar="N")
     reader.add_argument("--seed", default="1", metavar="S")
     reader.add_argument("--page", default="", metavar="LINK")
     arguments = reader.read()
+    if arguments.files and arguments.tests is not None:
+        reader.error("the files have all tests, so leave out --tests")
     report = quiz.choose_reporter()
     try:
-        html = make_page(arguments.tests, arguments.seed, report, arguments.page)
+        if arguments.files:
+            html = make_own_page(arguments.files, arguments.seed, report, arguments.page)
+        else:
+            html = make_page(DEFAULT_COUNT if arguments.tests is None else arguments.tests, arguments.seed, report, arguments.page)
         with open(arguments.out, "w", encoding="utf-8", newline="\n") as file:
             file.write(html)
     except OSError as why:

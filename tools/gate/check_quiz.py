@@ -11,6 +11,7 @@
 - Of an end that can't be, the accesses of a cycle are shown, and why each comes before the next. If the cycle is the same by interleaving and on
   x86, only what x86 keeps of it is shown again.
 - Each kind of bad code is refused, and so are all codes with one wrong symbol or two neighbours exchanged.
+- A quiz of own tests has them without comments, with the right answers; others are refused with the cause.
 - The quizzes of a site have links to each other, and each keeps its own answers; the list of documents has the first.
 
 tools/check_documents.py calls all this; the program has to be built.
@@ -36,7 +37,7 @@ from gate.examples import run
 from lab import codes, quiz, reasons
 from page import documents
 from shared import command
-from shared.home import close_check
+from shared.home import HOME, close_check
 from shared.matches import require_match
 
 SEEDS = ("1", "2", "autumn26")
@@ -428,12 +429,53 @@ def check_others(folder: str) -> Iterator[Comparison]:
         user.driver.quit()
 
 
+OWN = "X86 Mine (* A comment. *)\n{ x=1; y=0; }\nP0 | P1;\nMOV [x],$2 | MOV EAX,[y];\nMOV [y],$1 | MFENCE;\n | MOV EBX,[x];\nlocations [x;]\n"
+ASKED = "exists (1:EAX=1 /\\ 1:EBX=1)\n"
+# What own tests become, with the answers by interleaving and on x86; and those of which no quiz is made, with what is said of them.
+OWN_TESTS = [
+    (
+        OWN + ASKED,
+        "{ x=1; }\n P0         | P1          ;\n MOV [x],$2 | MOV EAX,[y] ;\n MOV [y],$1 | MFENCE      ;\n            | MOV EBX,[x] ;\n" + ASKED,
+        0,
+    ),
+]
+NO_OWN_TESTS = [
+    ("X86 A\n{}\n P0 ;\n XCHG [x],EAX ;\nexists (x=0)\n", ": the instruction XCHG [x],EAX has no source form here"),
+    ("X86 A\n{}\n P0 ;\n MOVE [x],$1 ;\nexists (x=0)\n", ":4:2: 'MOVE' is no instruction that is read"),
+    (f"{OWN}~{ASKED}", ": a quiz asks whether a test can end in a way, as exists does"),
+    (f"{OWN}{ASKED}".replace("exists", "forall"), ": a quiz asks whether a test can end in a way, as exists does"),
+    ("SRC A\n{}\n P0 ;\n x := 1 ;\nexists (x=0)\n", ": a quiz asks about X86 tests, of which it makes the source form itself"),
+]
+
+
+def check_own(folder: str) -> Iterator[Comparison]:
+    """Checks a quiz of own tests: what they become, the answers, and that a code of it is read; and what is said of tests that it can't have."""
+    names = [f"{HOME}/examples/SB-x86.litmus"]
+    for index, (text, _, _) in enumerate(OWN_TESTS):
+        names.append(f"{folder}/own{index}.litmus")
+        with open(names[-1], "w", encoding="utf-8") as file:
+            file.write(text)
+    yield "make_quiz.py OUT.html FILE..", ("", "", 0), run(["make_quiz.py", f"{folder}/own.html", *names, "--seed", "mine"])
+    with open(f"{folder}/own.html", encoding="utf-8", newline="") as file:
+        data = parse_data(file.read())
+    yield "own tests in a quiz", [f"X86 quiz{number}\n{it}" for number, (_, it, _) in enumerate(OWN_TESTS, 2)], data["tests"][1:]
+    rights = [2, *(it for _, _, it in OWN_TESTS)]
+    yield "the answers to own tests", rights, quiz.parse_answers(data)
+    code = codes.make_code(codes.CodeContents(data["mark"], "mine", STUDENT, make_answers(rights, {2: 1})))
+    row = ["1", STUDENT, f"{2 * len(rights) - 1}/{2 * len(rights)}", "2 interleaving"]
+    yield "a code of a quiz of own tests", [HEADING, row], run_and_split(code, f"{folder}/own.html")[0]
+    for text, cause in NO_OWN_TESTS:
+        with open(f"{folder}/bad.litmus", "w", encoding="utf-8") as file:
+            file.write(text)
+        yield f"a quiz of {text!r}", ("", f"make_quiz: {folder}/bad.litmus{cause}\n", 1), run(["make_quiz.py", f"{folder}/no.html", f"{folder}/bad.litmus"])
+
+
 def check_commands(folder: str) -> Iterator[Comparison]:
     """Runs the commands, and looks at their statuses."""
     for words, expected in (
         (["make_quiz.py"], 2), (["make_quiz.py", "--help"], 0), (["read_codes.py"], 2), (["read_codes.py", "--help"], 0),
         (["make_quiz.py", f"{folder}/nowhere/quiz.html"], 1), (["make_quiz.py", f"{folder}/no.html", "--tests", "0"], 1),
-        (["make_quiz.py", f"{folder}/no.html", "--tests", "41"], 1), (["make_quiz.py", f"{folder}/no.html", "--seed", "A"], 1),
+        (["make_quiz.py", f"{folder}/no.html", "--tests", "41"], 1), (["make_quiz.py", f"{folder}/no.html", "A", "--tests", "4"], 2), (["make_quiz.py", f"{folder}/no.html", "--seed", "A"], 1),
         (["read_codes.py", f"{folder}/nowhere.html"], 1), (["read_codes.py", "README.md"], 1), (["read_codes.py", "1", f"{folder}/nowhere.txt"], 1),
     ):
         _, err, status = run(words)
@@ -455,6 +497,7 @@ def make_comparisons() -> Iterator[Comparison]:
         yield "make_quiz.py OUT.html --page LINK", ("", "", 0), run(["make_quiz.py", *words])
         yield from check_page(page, quiz.make_tests(TESTS, "1", quiz.make_report_by_program))
         yield from check_codes(page, folder)
+        yield from check_own(folder)
         yield from check_commands(folder)
         yield from check_browser(page, folder)
         yield from check_links(page, folder)

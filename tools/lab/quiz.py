@@ -1,7 +1,7 @@
 """Makes the quiz of tools/make_quiz.py: its tests, and the verdicts of interleaving and x86-TSO on each.
 
-The tests are those of tools/shapes/quiz.py, all of which interleaving forbids: a third of them get a question about another word, so that the
-end is possible by interleaving. The verdicts come from two reports: that of the x86 test, and that of its source form, which is interleaved: the
+The tests are a teacher's own, or those of tools/shapes/quiz.py, all of which interleaving forbids: a third of them get a question about another word, so that
+the end is possible by interleaving. The verdicts come from two reports: that of the x86 test, and that of its source form, which is interleaved: the
 same loads and stores, without fences.
 """
 from __future__ import annotations
@@ -10,6 +10,7 @@ import base64
 import hashlib
 import json
 import re
+from collections.abc import Mapping
 from random import Random
 from typing import Callable, NamedTuple, TypedDict
 
@@ -17,6 +18,7 @@ import films
 import plain
 from lab import reasons
 from lab.codes import MARKS, MAX_TESTS, SYMBOLS
+from lab.tests import align_columns
 from shapes.quiz import make_quiz
 from shared.matches import require_match
 
@@ -131,8 +133,7 @@ def make_possible_by_interleaving(text: str, random: Random, report: Report) -> 
 
 def make_tests(count: int, seed: str, report: Report) -> list[QuizTest]:
     """Returns the tests of a quiz. The same seed makes the same tests, with any program. Raises NoQuiz if the seed or the count is not allowed."""
-    if not re.fullmatch(f"[0-9a-z]{{1,{MAX_SEED_LETTERS}}}", seed):
-        raise NoQuiz(f"a seed has up to {MAX_SEED_LETTERS} letters, all small, and digits")
+    check_seed(seed)
     if not 0 < count <= MAX_TESTS:
         raise NoQuiz(f"a quiz has 1 to {MAX_TESTS} tests")
     random = Random(f"turns {seed}")
@@ -141,6 +142,42 @@ def make_tests(count: int, seed: str, report: Report) -> list[QuizTest]:
     for index, question in enumerate(make_quiz(count, seed)):
         tests.append(make_possible_by_interleaving(question.text, random, report) if index in changed else ask_test(question.text, report))
     return tests
+
+
+def format_own_test(text: str, number: int) -> str:
+    """Returns an x86 test in the form that tests of a quiz have, without comments and with a neutral name. Raises Fault as `plain.read_test` does, and NoQuiz if the test asks of all
+    ends.
+    """
+    test = plain.read_test(text)
+    if test.language != "X86":
+        raise NoQuiz("a quiz asks about X86 tests, of which it makes the source form itself")
+    _, canonical = plain.format_canonical_text(test).split("{\n", 1)
+    initial, rows = canonical.split("}\n", 1)
+    words = " ".join(it.strip() for it in initial.splitlines() if not it.endswith("=0;"))
+    braces = f"{{ {words} }}" if words else "{}"
+    front, asks, question = re.sub(r"^locations .*\n", "", rows, flags=re.M).rpartition("exists")
+    if not asks or front.endswith("~"):
+        raise NoQuiz("a quiz asks whether a test can end in a way, as exists does")
+    return f"X86 quiz{number}\n{braces}\n{align_columns(front)}{asks}{question}"
+
+
+def make_own_tests(texts: Mapping[str, str], report: Report) -> list[QuizTest]:
+    """Returns the tests of a quiz of own tests, by the names of their files. Raises NoQuiz, with a file's name, if one has another form."""
+    if len(texts) > MAX_TESTS:
+        raise NoQuiz(f"a quiz has 1 to {MAX_TESTS} tests")
+    tests = []
+    for number, (name, text) in enumerate(texts.items(), 1):
+        try:
+            tests.append(ask_test(format_own_test(text, number), report))
+        except NoQuiz as why:
+            raise NoQuiz(f"{name}: {why}") from None
+    return tests
+
+
+def check_seed(seed: str) -> None:
+    """Raises NoQuiz if a seed is not allowed."""
+    if not re.fullmatch(f"[0-9a-z]{{1,{MAX_SEED_LETTERS}}}", seed):
+        raise NoQuiz(f"a seed has up to {MAX_SEED_LETTERS} letters, all small, and digits")
 
 
 # The contents of the page.
