@@ -22,7 +22,7 @@ const REASONS = [
   [/\bshared_(?:timed_)?mutex\b|\bshared_lock\b|\bpthread_rwlock_\w+/, ": the page follows locks that only one thread has, as `std::mutex`"],
   [/\brecursive_(?:timed_)?mutex\b/, ": the page follows mutexes that no thread locks twice, as `std::mutex`"],
   [/\b(?:future|promise|packaged_task)\s*<|\basync\s*\(/, ": the page follows threads, as `std::thread`, and no futures"],
-  [/\bonce_flag\b|\bcall_once\b/, ": the page follows no `call_once`, so do this before the threads"],
+  [/\bonce_flag\b|\bcall_once\b/, ": the page follows `call_once` of a function or a lambda without arguments, or do this before the threads"],
   [POINTER, ": a pointer is rewritten only if the program makes one object of its type, so write variables in place of pointers, and of what they point to"],
   [new RegExp(`${TEMPLATE}|\\b(?:w?string|bitset)\\b\\s+\\w`), ": a test has locations of one word each, so declare a variable for each word"],
   [/\b(?:float|double)\b/, ": a variable is an integer, as `int r0`"],

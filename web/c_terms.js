@@ -1,7 +1,9 @@
 // Rewrites a program in C or C++ in the terms that the page reads: threads look at variables where they wait by semaphores, latches, conditions, barriers, or
-// `wait` of atomic variables; names of enumerations are constants; and locks of the kernel are declared as variables are. Not proved.
+// `wait` of atomic variables; names of enumerations are constants; locks of the kernel are declared as variables are;
+// and what is called once is guarded by a mutex. Not proved.
 
 import { listBarriers } from "./c_barriers.js";
+import { listOnceCalls } from "./c_call_once.js";
 import { blankComments } from "./c_code.js";
 import { applyEdits } from "./c_edits.js";
 import { listEnumerations } from "./c_enumerations.js";
@@ -9,9 +11,10 @@ import { listKernelLocks } from "./c_kernel_locks.js";
 import { listBinarySemaphores, listLatches, listPosixSemaphores } from "./c_semaphores.js";
 import { listAtomicWaits, listConditionWaits } from "./c_waits.js";
 
-const TERMS = /\b(?:wait|latch|barrier|\w*_semaphore|sem_t|pthread_barrier_t|condition_variable\w*|pthread_cond_t|enum|boost|DEFINE_\w+|spin_lock_\w+|mutex_lock)\b/;
+const TERMS = /\b(?:wait|latch|barrier|\w*_semaphore|sem_t|pthread_barrier_t|condition_variable\w*|pthread_cond_t|enum|boost|DEFINE_\w+|spin_lock_\w+|mutex_lock|call_once)\b/;
 const KINDS = [
   listEnumerations, listKernelLocks, listBarriers, listLatches, listBinarySemaphores, listPosixSemaphores, listConditionWaits, listAtomicWaits,
+  listOnceCalls,
 ];
 const LONGEST = 20000;
 

@@ -603,7 +603,7 @@ const REFUSED = [
   ["int d;", "pthread_cond_t d;", `\`pthread_cond_t d;\`: the page follows waits for a condition right after the mutex is locked, in a loop or with a lambda that only returns it${OR_WAITS}`, "int r0 = y;", "int r0 = y; d = 1;"],
   ["int d;", "sem_t d;", `\`sem_t d;\`: the page follows semaphores that are 0 or 1 at all times, or begin and end rounds of threads${OR_WAITS}`, "int r0 = y;", "int r0 = y; d = 1;"],
   ["int d;", "std::barrier d(2);", `\`std::barrier d(2);\`: the page follows barriers at which all threads that use them begin or end, and latches that are counted down and waited for${OR_WAITS}`],
-  ["int d;", "std::once_flag d;", "`std::once_flag d;`: the page follows no `call_once`, so do this before the threads", "int r0 = y;", "int r0 = y; d = 1;"],
+  ["int d;", "std::once_flag d;", "`std::once_flag d;`: the page follows `call_once` of a function or a lambda without arguments, or do this before the threads", "int r0 = y;", "int r0 = y; d = 1;"],
   ["int d;", "std::future<int> d;", "`std::future<int> d;`: the page follows threads, as `std::thread`, and no futures"],
   ["int r0 = y;", "int *r0 = new int(1);", "X86 Mine\n(* 0:EAX is a_int, 0:EBX is r0, 1:EAX is r0 *)\n{ x=0; y=0; }\n P0           | P1           ;\n MOV ECX,$1   | MOV EBX,$1   ;\n XCHG [x],ECX | XCHG [y],EBX ;\n MOV EAX,$1   | MOV EAX,[x]  ;\n MOV EBX,$1   |              ;\nlocations [y]\nexists (0:EBX=0 /\\ 1:EAX=0)\n"],
   ["int r0 = y;", "x.wait(1 + 1);", `\`x.wait(1 + 1)\`: the page follows \`wait\` of an atomic variable for one word, as \`x.wait(0)\`${OR_WAITS}`],

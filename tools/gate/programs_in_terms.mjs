@@ -1,5 +1,5 @@
 // Compares what the page makes of programs in C and C++ that have other terms than atomic variables and mutexes - semaphores, latches, barriers, conditions,
-// enumerations, locks of the kernel, and queues that no thread uses - with what is typed in here: the rows of the test and its question, or why there is none.
+// enumerations, locks of the kernel, `call_once`, and queues that no thread uses - with what is typed in here: the rows of the test and its question, or why there is none.
 //
 //     node tools/gate/programs_in_terms.mjs      compares; the last line is 'N passed, M failed'
 //
@@ -184,6 +184,14 @@ bool dequeue(int *v) {
 `;
 const PUTTING = "MOV EAX,[queue_head_]; MOV EAX,[queue_tail_]; CMP EAX,$1; JNE L2; JMP L1; L2: MOV [queue_ring__0],$1; MOV [queue_head_],$1; L1:";
 const TAKING = "MOV EAX,$0; MOV EDX,[queue_tail_]; MOV EBX,[queue_head_]; CMP EBX,$0; JNE L2; MOV ECX,$0; JMP L1; L2: MOV EAX,[queue_ring__0]; MOV [queue_tail_],$1; MOV ECX,$1; L1:";
+const ONCE = `std::once_flag flag;
+int config = 0;
+void work() { std::call_once(flag, [] { config = 42; }); int r = config; }
+int main() { std::thread a(work), b(work); a.join(); b.join(); }
+`;
+const CALLED = ONCE.replace("void work", "void init() { config = 42; }\nvoid work").replace("[] { config = 42; }", "init");
+const ONE_CALL = "MOV ECX,[flag_done]; CMP ECX,$0; JNE L1; MOV EAX,$1; XCHG [flag_mutex],EAX; MOV ECX,[flag_done]; CMP ECX,$0; JNE L2; MOV [config],$42; MOV [flag_done],$1; L2: MOV ECX,$0; XCHG [flag_mutex],ECX; L1: MOV EBX,[config]";
+const OF_ONCE = "exists (0:EAX=0 /\\ 1:EAX=0 /\\ (0:EBX=0 \\/ 1:EBX=0))";
 const GUARDED = "MOV EAX,$1; XCHG [m],EAX; MOV [data],$42; MOV [ready],$1; MOV EBX,$0; XCHG [m],EBX";
 const LOOKING = "MOV EAX,$1; XCHG [m],EAX; MOV EBX,[ready]; MOV ECX,[data]; MOV EDX,$0; XCHG [m],EDX";
 const OF_CONDITION = "forall (~0:EAX=0 \\/ ~1:EAX=0 \\/ ~1:EBX=1 \\/ 1:ECX=42)";
@@ -211,6 +219,8 @@ const MADE = [
   ["a condition with a lambda", CONDITION, [GUARDED, LOOKING], OF_CONDITION],
   ["a condition in a loop", CONDITION.replace("cv.wait(lk, [] { return ready; });", "while (!ready) cv.wait(lk);"), [GUARDED, LOOKING], OF_CONDITION],
   ["a condition of POSIX", POSIX_CONDITION, [GUARDED.replace("42", "1"), LOOKING], "exists (0:EAX=0 /\\ 1:EAX=0 /\\ ~1:EBX=0 /\\ 1:ECX=0)"],
+  ["a lambda that is called once", ONCE, [ONE_CALL, ONE_CALL], OF_ONCE],
+  ["a function that is called once", CALLED, [ONE_CALL, ONE_CALL], OF_ONCE],
   ["an enumeration of Boost's spinlock", BOOST,
     Array(2).fill("MOV EAX,$0; XCHG [the_lock_state_],EAX; MOV EBX,[counter]; ADD EBX,$1; MOV [counter],EBX; MOV [the_lock_state_],$1"),
     "exists (~0:EAX=0 /\\ ~1:EAX=0 /\\ ~counter=2)"],
@@ -232,6 +242,8 @@ const REFUSED = [
   ["a queue with two ways to put", RING.replace("private:", "  bool enqueue(const T & value) { return push(value); }\nprivate:"), ""],
   ["an enumeration with a name that a variable has", STATE.replace("int data", "std::atomic<int> Busy; int data"), ""],
   ["an enumeration with a sum", STATE.replace("= 5", "= 2 + 3"), ""],
+  ["a function with an argument that is called once", CALLED.replace("flag, init", "flag, init, 1"), "the page follows `call_once`"],
+  ["a lambda that may leave early and is called once", ONCE.replace("config = 42;", "if (config) return; config = 42;"), "the page follows `call_once`"],
   ["a wait for a sum", WAIT.replace("wait(false, std::memory_order_acquire)", "wait(1 - 1)"), "the page follows `wait` of an atomic variable for one word"],
   ["a wait of a variable while a loop looks at another one", WAIT.replace("ready.wait(false, std::memory_order_acquire);", "while (data == 0) ready.wait(false);"), ""],
   ["a barrier of three, for two threads", BARRIER.replace("NULL, 2)", "NULL, 3)"), "the page follows barriers at which"],
