@@ -10,7 +10,7 @@ import { OF_PLAIN_LOOPS } from "./c_thread.js";
 // What is no code: strings, letters and comments.
 const NO_CODE = /"(?:[^"\\\n]|\\.)*"|'(?:[^'\\\n]|\\.)'|\/\/.*|\/\*[^]*?\*\//g;
 // A number in base 10, and a name.
-const NUMBER = /(?<![\w.'])\d[\d']*(?=[uUlLzZ]{0,3}(?![\w.]))/g;
+const NUMBER = /(?<![\w.'])\d[\d']*(?:[eE]\d)?(?=[uUlLzZ]{0,3}(?![\w.]))/g;
 const NAME = /[A-Za-z_]\w*/g;
 // What has a body of declarations. And the words before a name in a declaration of plain integers, after what begins it.
 const HOLDER = /\b(?:struct|class|namespace|union)\b[\w\s:]*$/;
@@ -40,7 +40,7 @@ function findCount(code, head) {
   const parse = (it) => Number(it.replaceAll("'", ""));
   const isCount = (it) => it >= LEAST && Number.isSafeInteger(it);
   const ofNames = (head.match(NAME) ?? []).flatMap((name) => {
-    const value = new RegExp(`(?:#[ \\t]*define[ \\t]+${name}[ \\t]+\\(?|\\bconst(?:expr)?\\b[^;(){}=]*\\b${name}\\s*[={]\\s*)(\\d[\\d']*)`).exec(code);
+    const value = new RegExp(`(?:#[ \\t]*define[ \\t]+${name}[ \\t]+\\(?|\\bconst(?:expr)?\\b[^;(){}=]*\\b${name}\\s*[={]\\s*)(\\d[\\d']*(?:[eE]\\d)?)`).exec(code);
     return value ? [parse(value[1])] : [];
   });
   const counts = [...(head.match(NUMBER) ?? []).map(parse), ...ofNames].filter(isCount);

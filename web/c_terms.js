@@ -9,12 +9,12 @@ import { applyEdits } from "./c_edits.js";
 import { listEnumerations } from "./c_enumerations.js";
 import { listKernelLocks } from "./c_kernel_locks.js";
 import { listBinarySemaphores, listLatches, listPosixSemaphores } from "./c_semaphores.js";
+import { listSpellings } from "./c_spellings.js";
 import { listAtomicWaits, listConditionWaits } from "./c_waits.js";
 
-const TERMS = /\b(?:wait|latch|barrier|\w*_semaphore|sem_t|pthread_barrier_t|condition_variable\w*|pthread_cond_t|enum|boost|DEFINE_\w+|spin_lock_\w+|mutex_lock|call_once)\b/;
 const KINDS = [
   listEnumerations, listKernelLocks, listBarriers, listLatches, listBinarySemaphores, listPosixSemaphores, listConditionWaits, listAtomicWaits,
-  listOnceCalls,
+  listOnceCalls, listSpellings,
 ];
 const LONGEST = 20000;
 
@@ -25,7 +25,7 @@ const LONGEST = 20000;
  * @returns {{text: string, findIndex: function(number): number, words: string} | null}
  */
 export function rewriteTerms(text) {
-  if (text.length > LONGEST || !TERMS.test(text)) return null;
+  if (text.length > LONGEST) return null;
   const all = [];
   let words = "";
   // Boost has the names of the standard library.
