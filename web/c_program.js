@@ -5,7 +5,7 @@
 
 import { alignCells } from "./aligned.js";
 import { CallWriter } from "./c_calls.js";
-import { parseConstant, refusePart } from "./c_code.js";
+import { findClosing, parseConstant, refusePart } from "./c_code.js";
 import { ConditionWriter } from "./c_conditions.js";
 import { applyEdits } from "./c_edits.js";
 import { areEntering, findEither, findEntry, formatList, guessQuestion } from "./c_guess.js";
@@ -338,9 +338,17 @@ function rewriteJoined(text, meaning) {
   const edited = test.made ? null : rewriteTerms(text);
   const { index, ...other } = edited ? rewriteLone(edited.text, meaning) : {};
   if (other.made) return { ...other, terms: edited.words };
-  // What is quoted is in the program.
-  const isQuoted = edited && index !== undefined && text.startsWith(edited.text.slice(index, index + 9), edited.findIndex(index));
-  return isQuoted && edited.findIndex(index) > test.index ? { ...other, index: edited.findIndex(index) } : test;
+  const place = index === undefined ? -1 : edited.findIndex(index);
+  return place > test.index ? { ...other, why: quotePart(other.why, text, place), index: place } : test;
+}
+
+/** Returns why a part is refused that is at an index of a program, with the program's own code in place of that which is quoted. */
+function quotePart(why, text, index) {
+  const rest = text.slice(index);
+  const head = /^(?:for|while|if|switch)\s*(?=\()/.exec(rest)?.[0].length;
+  const close = head ? findClosing(rest, head) + 1 : rest.search(/[;{}]/);
+  const code = rest.slice(0, close > 0 ? close : undefined).trim().replace(/\s+/g, " ").replace(/^(.{40}).+/, "$1..");
+  return why.replace(/^`[^`]*`/, () => `\`${code}\``);
 }
 
 /** Returns what `rewriteProgram` does of a program in the terms that the page reads, to which threads are added if it is a queue that none uses. */

@@ -1,5 +1,5 @@
 // Rewrites a program in C or C++ in the spellings that the page reads: counters are declared in their loops, a chain of assignments is one after another, and
-// a constant such as `1e9` has all its digits. Not proved.
+// a constant such as `1e9` has all its digits; and the number of a thread that functions of a lock have, which nothing declares, is their parameter. Not proved.
 //
 // The record `Edit` is that of c_edits.js.
 
@@ -10,9 +10,12 @@ import { isStatement, replaceMatch } from "./c_edits.js";
 const DECLARATION = /(?<=[;{}]\s*)((?:unsigned\s+|long\s+)*(?:int|unsigned|long|size_t)\s+)([A-Za-z_]\w*(?:\s*=\s*\d+)?(?:\s*,\s*[A-Za-z_]\w*(?:\s*=\s*\d+)?)*)\s*;/g;
 const LOOP = /\bfor\s*\(\s*(?=([A-Za-z_]\w*)\s*=\s*\d+\s*;)/g;
 const FUNCTION = /\)\s*(?:const\s*|noexcept\s*)*\{/g;
-// Several assignments of a constant in one statement, of variables and of words of arrays.
+// Several assignments of a constant in one statement, of variables and of words of arrays. (Another constant than 0 and 1 might not fit into one of them.)
 const PLACE = "[A-Za-z_]\\w*(?:\\s*\\[\\s*\\w+\\s*\\]|\\.\\w+)?";
-const CHAIN = new RegExp(`(?<=[;{}]\\s*)(${PLACE}(?:\\s*=(?!=)\\s*${PLACE})+)\\s*=(?!=)\\s*(-?\\d+|true|false)(?=\\s*;)`, "g");
+const CHAIN = new RegExp(`(?<=[;{}]\\s*)(${PLACE}(?:\\s*=(?!=)\\s*${PLACE})+)\\s*=(?!=)\\s*([01]|true|false)(?=\\s*;)`, "g");
+// A function without parameters, up to them, and the number of a thread.
+const BARE = /\b(?:void|int)\s+\w+\s*\(\s*(?:void\s*)?(?=\)\s*\{)/g;
+const NUMBER = /(?<!\w|\.|->)(?:self|me|tid|myid|my_id|pid)\b/;
 const SCALED = /(?<![\w.])(\d{1,3})[eE](\d)(?![\w.])/g;
 const MOST = 2 ** 32;
 
@@ -66,6 +69,17 @@ function editChains(code) {
   });
 }
 
+/** Returns the edits by which functions of a code without threads have the number of their thread as a parameter, if nothing declares it. */
+function editNumbers(code) {
+  const [name] = NUMBER.exec(code) ?? [];
+  if (!name || /\b(?:main|thread|pthread_create)\b/.test(code) || new RegExp(`(?:\\w|\\*|&)\\s+[*&]?${name}\\s*[;=,)]`).test(code)) return [];
+  const isUser = ({ index, 0: head }) => {
+    const begin = code.indexOf("{", index + head.length);
+    return new RegExp(`(?<!\\w|\\.|->)${name}\\b`).test(code.slice(begin, findClosing(code, begin)));
+  };
+  return [...code.matchAll(BARE)].filter(isUser).map((it) => replaceMatch(it, `${it[0].replace(/\(\s*(?:void\s*)?$/, "")}(int ${name}`));
+}
+
 /**
  * Returns the edits by which a code has the spellings that the page reads.
  * @param {string} code
@@ -73,6 +87,7 @@ function editChains(code) {
  */
 export function listSpellings(code) {
   const scaled = [...code.matchAll(SCALED)].map((it) => ({ it, value: Number(it[1]) * 10 ** Number(it[2]) })).filter(({ value }) => value < MOST);
-  const edits = [...scaled.map(({ it, value }) => replaceMatch(it, String(value))), ...editChains(code), ...listBodies(code).flatMap((it) => editCounters(code, it))];
+  const digits = scaled.map(({ it, value }) => replaceMatch(it, String(value)));
+  const edits = [...digits, ...editChains(code), ...editNumbers(code), ...listBodies(code).flatMap((it) => editCounters(code, it))];
   return { edits, words: "" };
 }

@@ -142,6 +142,35 @@ fn main() {
     assert_eq!(counter.load(Ordering::SeqCst), 8_000);
 }
 `;
+const GEEKS = `int flag[2];
+int turn;
+const int MAX = 1e9;
+int ans = 0;
+void lock_init() { flag[0] = flag[1] = 0; turn = 0; }
+void lock(int self) {
+    flag[self] = 1;
+    turn = 1-self;
+    while (flag[1-self]==1 && turn==1-self) ;
+}
+void unlock(int self) { flag[self] = 0; }
+void* func(void *s) {
+    int i = 0;
+    int self = (int *)s;
+    lock(self);
+    for (i=0; i<MAX; i++)
+        ans++;
+    unlock(self);
+}
+int main() {
+    pthread_t p1, p2;
+    lock_init();
+    pthread_create(&p1, NULL, func, (void*)0);
+    pthread_create(&p2, NULL, func, (void*)1);
+    pthread_join(p1, NULL);
+    pthread_join(p2, NULL);
+    printf("%d of %d", ans, MAX*2);
+}
+`;
 // A program that is refused, the title of the button that changes it, and the parts that become others. Null is the title if nothing is changed.
 const CHANGES = [
   ["a loop that counts far", LOCK, "Count to 2", [["i < 100000", "i < 2"], ["200000", "4"]]],
@@ -163,6 +192,8 @@ const CHANGES = [
   ["threads in Rust", BOOK, "Make the count 2", [["0..10", "0..2"]]],
   ["threads and rounds in Rust", PRODUCT, "Make each count 2", [["1_000", "2"], ["0..8", "0..2"], ["8_000", "4"]]],
   ["a sum in Rust that is no product", PRODUCT.replace("8_000", "16_000"), null, []],
+  ["a constant that is scaled", GEEKS, "Count to 2", [["1e9", "2"]]],
+  ["the same after its first change", GEEKS.replace("1e9", "2"), "Make flag and turn volatile", [["int flag", "volatile int flag"], ["int turn", "volatile int turn"]]],
   // A sum that the new count would not have.
   ["a loop with one pass more", LOCK.replace("i < 100000", "i <= 100000").replace("200000", "200002"), null, []],
   ["loops in loops", LOCK.replace("100000; ++i)", "100; ++i) for (int j = 0; j < 1000; ++j)"), null, []],

@@ -192,6 +192,27 @@ int main() { std::thread a(work), b(work); a.join(); b.join(); }
 const CALLED = ONCE.replace("void work", "void init() { config = 42; }\nvoid work").replace("[] { config = 42; }", "init");
 const ONE_CALL = "MOV ECX,[flag_done]; CMP ECX,$0; JNE L1; MOV EAX,$1; XCHG [flag_mutex],EAX; MOV ECX,[flag_done]; CMP ECX,$0; JNE L2; MOV [config],$42; MOV [flag_done],$1; L2: MOV ECX,$0; XCHG [flag_mutex],ECX; L1: MOV EBX,[config]";
 const OF_ONCE = "exists (0:EAX=0 /\\ 1:EAX=0 /\\ (0:EBX=0 \\/ 1:EBX=0))";
+const COUNTER = `#include <pthread.h>
+int x = 0;
+void *inc(void *s) { int i, r; for (i = 0; i < 2; i++) x++; r = x; return 0; }
+int main() { pthread_t t[2]; int i; for (i = 0; i < 2; i++) pthread_create(&t[i], 0, inc, 0); for (i = 0; i < 2; i++) pthread_join(t[i], 0); }
+`;
+const TWICE = "MOV EBX,[x]; ADD EBX,$1; MOV [x],EBX; MOV EBX,[x]; ADD EBX,$1; MOV [x],EBX; MOV EAX,[x]";
+const SELF = `volatile int flag[2];
+volatile int turn;
+void init() { flag[0] = flag[1] = 0; turn = 0; }
+void lock() {
+    flag[self] = 1;
+    turn = 1 - self;
+    while ((flag[1-self] == 1) && (turn == 1 - self))
+        ;
+}
+void unlock() { flag[self] = 0; }
+`;
+const writeSelf = (me, other) =>
+  `MOV [flag_${me}],$1; MOV [turn],$${other}; MOV EAX,[flag_${other}]; CMP EAX,$1; JNE L2; MOV EBX,[turn]; ` +
+  `L2: MOV ECX,[counter]; ADD ECX,$1; MOV [counter],ECX; MOV [flag_${me}],$0`;
+const OF_SELF = "exists ((~0:EAX=1 \\/ ~0:EBX=1) /\\ (~1:EAX=1 \\/ ~1:EBX=0) /\\ ~counter=2)";
 const GUARDED = "MOV EAX,$1; XCHG [m],EAX; MOV [data],$42; MOV [ready],$1; MOV EBX,$0; XCHG [m],EBX";
 const LOOKING = "MOV EAX,$1; XCHG [m],EAX; MOV EBX,[ready]; MOV ECX,[data]; MOV EDX,$0; XCHG [m],EDX";
 const OF_CONDITION = "forall (~0:EAX=0 \\/ ~1:EAX=0 \\/ ~1:EBX=1 \\/ 1:ECX=42)";
@@ -219,6 +240,8 @@ const MADE = [
   ["a condition with a lambda", CONDITION, [GUARDED, LOOKING], OF_CONDITION],
   ["a condition in a loop", CONDITION.replace("cv.wait(lk, [] { return ready; });", "while (!ready) cv.wait(lk);"), [GUARDED, LOOKING], OF_CONDITION],
   ["a condition of POSIX", POSIX_CONDITION, [GUARDED.replace("42", "1"), LOOKING], "exists (0:EAX=0 /\\ 1:EAX=0 /\\ ~1:EBX=0 /\\ 1:ECX=0)"],
+  ["counters that are declared before their loops", COUNTER, [TWICE, TWICE], "exists (~x=4)"],
+  ["a lock whose threads have numbers that nothing declares, and a chain of assignments", SELF, [writeSelf(0, 1), writeSelf(1, 0)], OF_SELF],
   ["a lambda that is called once", ONCE, [ONE_CALL, ONE_CALL], OF_ONCE],
   ["a function that is called once", CALLED, [ONE_CALL, ONE_CALL], OF_ONCE],
   ["an enumeration of Boost's spinlock", BOOST,
@@ -244,6 +267,8 @@ const REFUSED = [
   ["an enumeration with a sum", STATE.replace("= 5", "= 2 + 3"), ""],
   ["a function with an argument that is called once", CALLED.replace("flag, init", "flag, init, 1"), "the page follows `call_once`"],
   ["a lambda that may leave early and is called once", ONCE.replace("config = 42;", "if (config) return; config = 42;"), "the page follows `call_once`"],
+  ["a counter that is used after its loop", COUNTER.replace("r = x;", "r = i;"), ""],
+  ["a chain of assignments of another constant", SELF.replace("= 0; turn", "= 5; turn"), ""],
   ["a wait for a sum", WAIT.replace("wait(false, std::memory_order_acquire)", "wait(1 - 1)"), "the page follows `wait` of an atomic variable for one word"],
   ["a wait of a variable while a loop looks at another one", WAIT.replace("ready.wait(false, std::memory_order_acquire);", "while (data == 0) ready.wait(false);"), ""],
   ["a barrier of three, for two threads", BARRIER.replace("NULL, 2)", "NULL, 3)"), "the page follows barriers at which"],
