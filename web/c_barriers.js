@@ -12,8 +12,9 @@ const COUNTING = /\bfor\s*\([^;(){}]*=\s*0\s*;\s*\w+\s*<\s*(\w+)\s*;[^;(){}]*\)\
 const LAMBDA = /(?:\bj?thread\s*(?:\w+\s*)?[({]|\bemplace_back\s*\(|\bpush_back\s*\()\s*\[[^\]]*\]\s*(?:\([^(){}]*\)\s*)?(?:mutable\s*)?\{\s*$/;
 const FUNCTION = /\b(?:void|int)\s*\*?\s*(\w+)\s*\(([^(){};]*)\)\s*\{\s*$/;
 const FUNCTIONS = /\b(?:void|int)\s*\*?\s*\w+\s*\([^(){};]*\)\s*\{/g;
-// The end of a thread.
-const END = /^\s*;\s*(?:return\b[^;{}]*;\s*)?\}/;
+// The end of a thread, which returns nothing that it loads there; and what it may hold then.
+const END = /^\s*;\s*(?:return\b\s*(?:\(\s*void\s*\*\s*\)\s*)?(?:\d+|NULL|nullptr)?\s*;\s*)?\}/;
+const HELD = /lock|mutex|mtx|\bsem_|acquire/i;
 
 /**
  * Returns how often a thread starts whose body begins after a place: a number or the name of one for each place in the code where it starts; null if this is
@@ -59,7 +60,9 @@ function isOutside(code, calls, count) {
   const sides = [[], []];
   for (const it of calls) {
     const isFirst = /\{\s*$/.test(code.slice(0, it.begin));
-    const starts = isStatement(code, it) && (isFirst || END.test(code.slice(it.end))) ? listStarts(code, findOpening(code, it.begin) + 1) : null;
+    const open = findOpening(code, it.begin);
+    const isLast = END.test(code.slice(it.end)) && !HELD.test(code.slice(open, it.begin));
+    const starts = isStatement(code, it) && (isFirst || isLast) ? listStarts(code, open + 1) : null;
     if (!starts) return false;
     sides[Number(!isFirst)].push(...starts);
   }

@@ -2,24 +2,32 @@
 
 import { blankComments, findClosing } from "./c_code.js";
 
-const PUTTING = /^(?:try_?)?(?:push|enqueue|put|send|offer|produce|insert|add|write)(?:_?back)?$/i;
-const TAKING = /^(?:try_?)?(?:pop|dequeue|take|receive|recv|get|poll|consume|remove|read)(?:_?front)?$/i;
+const PUTTING = /^(?:try_?)?(?:push|enqueue|put|send|offer|produce)(?:_?back)?$/i;
+const TAKING = /^(?:try_?)?(?:pop|dequeue|take|receive|recv|poll|consume)(?:_?front)?$/i;
 // A class: the groups are the parameters of its template, and its name.
 const CLASS = /(?:\btemplate\s*<([^<>;{}]*)>\s*)?\b(?:class|struct)\s+(?:alignas\s*\(\w+\)\s*)?(\w+)\s*(?:final\s*)?\{/g;
 // A method with one parameter or none: the groups are its type, its name, and the type, the mark and the name of its parameter.
 const METHOD = /\b(bool|void|int|unsigned|[A-Z]\w*)\s+(\w+)\s*\(\s*(?:(?:const\s+)?([A-Za-z_]\w*)(?:\s+const)?\s*(&{0,2}|\*)\s*(\w+)\s*)?\)\s*(?:noexcept\s*|const\s*)*\{/g;
-const PARAMETER = /^(typename|class|(?:std::)?size_t|int|unsigned(?:\s+int)?)\s+(\w+)(?:\s*=[^]*)?$/;
+const PARAMETER = /^(typename|class|(?:std::)?size_t|int|unsigned(?:\s+int)?)\s+(\w+)(\s*=[^]*)?$/;
 const WORD = /^(?:int|unsigned|bool|u?int(?:8|16|32|64)_t|size_t|long)$/;
 const SIZE = "2";
-const SAID = " No thread uses the queue: here one thread puts 1 into it, and another one takes once.";
+const SAID = " No thread uses the queue: here one thread puts 1 into it, and another one takes once";
+const OF_SIZE = `, and its size is ${SIZE}`;
 
-/** Returns the arguments of a template, and the names of its parameters that are types; null if a parameter is neither a type nor a number. */
+/**
+ * Returns the arguments of a template, the names of its parameters that are types, and what is said of a size that is given; null if a parameter is neither a
+ * type nor a number.
+ */
 function findArguments(list) {
-  if (list === undefined) return { words: "", types: [] };
+  if (list === undefined) return { words: "", types: [], size: "" };
   const parameters = list.split(",").map((it) => PARAMETER.exec(it.trim()));
   if (parameters.includes(null)) return null;
   const isType = ([, kind]) => /^(?:typename|class)$/.test(kind);
-  return { words: `<${parameters.map((it) => (isType(it) ? "int" : SIZE)).join(", ")}>`, types: parameters.filter(isType).map((it) => it[2]) };
+  // What has a default keeps it.
+  const given = parameters.filter((it) => isType(it) || !it[3]);
+  if (given.length > 1 && parameters.indexOf(given.at(-1)) !== given.length - 1) return null;
+  const words = `<${given.map((it) => (isType(it) ? "int" : SIZE)).join(", ")}>`;
+  return { words, types: parameters.filter(isType).map((it) => it[2]), size: given.every(isType) ? "" : OF_SIZE };
 }
 
 /** Returns the statements that take from a queue by a function, before whose name is the queue of a method; null if it has another form. */
@@ -71,7 +79,7 @@ export function addQueueUsers(text) {
   const queue = ["queue", "the_queue", "lone_queue"].find((it) => !new RegExp(`\\b${it}\\b`).test(code));
   if (!pair || !given || !queue || !(only || (isOfFunctions && areUncalled(code, pair)))) return null;
   const users = writeUsers(pair, given, only?.match[2], queue);
-  return users && { text: `${text.trimEnd()}\n${users}`, users: SAID };
+  return users && { text: `${text.trimEnd()}\n${users}`, users: `${SAID}${given.size}.` };
 }
 
 /** Returns whether nothing in a code calls a pair of functions, and all other functions have no name of a thread. */

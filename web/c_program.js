@@ -174,7 +174,7 @@ function askAssertions(program, writers, used) {
   for (const writer of asserting) {
     if (question.code && !question.isAsserted) refusePart(writer.assertion, OF_ASKED);
     const others = writers.filter((it) => it !== writer && it.waits.length);
-    const areSure = others.every((it) => isPaired(it) && waitsForMutexes(it)) && isPaired(writer);
+    const areSure = others.every(waitsForMutexes) && writers.every(isPaired);
     if (others.length && !areSure) refusePart(writer.assertion, OF_OTHERS);
     if (writer.waitCount < writer.waits.length) refusePart(writer.assertion, OF_ENDLESS);
   }

@@ -20,6 +20,13 @@ const ENDLESS = /\b(?:while\s*\(\s*(?:1|true)\s*\)|for\s*\(\s*;\s*;\s*\))\s*(?=\
 const LEAVING = /\b(?:break|continue|return|goto|throw)\b/;
 // Why a thread is refused whose loops may have too many passes.
 const OF_ROOM = /six registers|too many statements/;
+// What asks, up to its parenthesis; the head of a loop whose passes are from 0 on, one by one, or down to 0; what is before the number of threads, besides
+// heads of loops; and a name in a declaration.
+const ASKING = /\b(?:assert\w*|static_assert|if|while|switch|[A-Z]+_(?:EQ|NE|TRUE|FALSE|GE|GT|LE|LT))\s*\(/g;
+const REGULAR =
+  /^(?:for\s*\(\s*(?:[\w:]+\s+)*(\w+)\s*=\s*(?:0\s*;\s*\1\s*(?:<|!=)\s*[\w']+\s*;\s*(?:\+\+\s*\1|\1\s*\+\+|\1\s*\+=\s*1)|[\w']+\s*;\s*\1\s*(?:>|!=)\s*0\s*;\s*(?:--\s*\1|\1\s*--))\s*\)|while\s*\(\s*\w+\s*--\s*(?:>\s*0\s*)?\))$/;
+const OF_THREADS = /(?:\[\s*|#[ \t]*define[ \t]+\w+[ \t]+\(?|\bconst(?:expr)?\b[^;(){}=]*[={]\s*|\b(?:vector|array)\s*<[^;(){}]*[({,]\s*)$/;
+const DECLARED = /\b[A-Za-z_]\w*(?=\s*(?:\[[^\]]*\]\s*)*(?:,|$))/g;
 // The counts that are tried; the least number that is a count; the most counts of which another number is a multiple, as the sum that is asked for; and
 // what is too long to look into.
 const COUNTS = [2, 1];
@@ -47,33 +54,56 @@ function findCount(code, head) {
   return new Set(counts).size === 1 ? counts[0] : null;
 }
 
+/** Returns the numbers of a code, each with its place. */
+function listNumbers(code) {
+  return [...code.matchAll(NUMBER)].map(({ 0: word, index }) => ({ word, index, value: Number(word.replaceAll("'", "")) }));
+}
+
 /**
- * Returns a program whose loops with a count have another one, as all numbers that are a few times that count, such as a sum that is asked for. Returns null
- * if a number may be a sum that is none of these.
+ * Returns whether a program asks about a number that is none of those that are changed, other than 0, 1 and factors: with other counts it would ask something
+ * else.
  */
-function replaceCount(text, code, count, other) {
+function asksOfOthers(text, code, changed) {
+  if (/\blw:|^\s*(?:~?exists|forall)\b/m.test(text)) return true;
+  const ranges = [...code.matchAll(ASKING)].map(({ 0: head, index }) => [index, findClosing(code, index + head.length - 1)]);
+  const isAsked = ({ index }) => ranges.some(([begin, end]) => begin <= index && index <= end);
+  const isFactor = ({ index, word }) => /\*\s*$/.test(code.slice(0, index)) || /^\s*\*/.test(code.slice(index + word.length));
+  const isHex = ranges.some(([begin, end]) => /\b0x/i.test(code.slice(begin, end)));
+  return isHex || listNumbers(code).some((it) => it.value > 1 && isAsked(it) && !isFactor(it) && !changed.some(({ index }) => index === it.index));
+}
+
+/** Returns a text with other words in place of numbers. */
+function replaceNumbers(text, numbers, getWord) {
+  return [...numbers].reverse().reduce((it, number) => it.slice(0, number.index) + getWord(number) + it.slice(number.index + number.word.length), text);
+}
+
+/**
+ * Returns a program whose loops with some heads, which have a count, have another one, as all numbers that are a few times that count, such as a sum that is
+ * asked for. Returns null if it would ask something else then.
+ */
+function replaceCount(text, code, heads, count, other) {
   const isMultiple = (it) => it % count === 0 && it <= count * MOST_THREADS && it > 0;
-  const numbers = [...code.matchAll(NUMBER)].map(({ 0: word, index }) => ({ word, index, value: Number(word.replaceAll("'", "")) }));
+  const numbers = listNumbers(code);
   const found = numbers.filter((it) => isMultiple(it.value));
-  // A small number may be something else, too.
-  if ((count < LARGE && found.length > 1) || numbers.some((it) => it.value > count && !isMultiple(it.value))) return null;
-  const parts = found.map(({ index, word, value }) => [index, word.length, String((value / count) * other)]);
-  return parts.reverse().reduce((whole, [index, length, word]) => whole.slice(0, index) + word + whole.slice(index + length), text);
+  // A small number may be something else, too. And a sum needs passes from 0 on, one by one.
+  const isUnsure = (count < LARGE && found.length > 1) || numbers.some((it) => it.value > count && !isMultiple(it.value));
+  const hasSum = found.some((it) => it.value > count) || /\bassert|\bif\s*\(/.test(code);
+  if (isUnsure || asksOfOthers(text, code, found) || (hasSum && !heads.every((it) => REGULAR.test(it)))) return null;
+  return replaceNumbers(text, found, ({ value }) => String((value / count) * other));
 }
 
 /**
  * Returns a program that starts another number of threads: that of the heads of its loops, of its arrays and of its constants. Returns null if a larger number
- * outside of the heads of loops may be a sum of theirs.
+ * outside of the heads of loops may be a sum of theirs, or if it would ask something else then.
  */
 function replaceThreads(text, code, count, other) {
   const heads = [...code.matchAll(/\bfor\s*\(/g)].map((it) => ({ begin: it.index, end: it.index + cutHead(code, it.index).length }));
   const isInHead = (at) => heads.some(({ begin, end }) => begin <= at && at < end);
-  const numbers = [...code.matchAll(NUMBER)].map(({ 0: word, index }) => ({ word, index, value: Number(word.replaceAll("'", "")) }));
+  const numbers = listNumbers(code);
   if (numbers.some(({ value, index }) => value > count && value % count === 0 && !isInHead(index))) return null;
-  const isOfThreads = ({ value, index }) =>
-    value === count && (isInHead(index) || /(?:\[\s*|#[ \t]*define[ \t]+\w+[ \t]+\(?|\bconst(?:expr)?\b[^;(){}=]*[={]\s*|[({,]\s*)$/.test(code.slice(0, index)));
-  const parts = numbers.filter(isOfThreads);
-  return parts.reverse().reduce((whole, { index, word }) => whole.slice(0, index) + other + whole.slice(index + word.length), text);
+  const isOfThreads = ({ value, index }) => value === count && (isInHead(index) || OF_THREADS.test(code.slice(0, index)));
+  const found = numbers.filter(isOfThreads);
+  return asksOfOthers(text, code, found) ? null : replaceNumbers(text, found, () => other);
 }
 
 /** Returns whether an index is outside of all functions: each brace around it is that of a type or a namespace. */
@@ -86,7 +116,7 @@ function isOutside(code, index) {
   return open.every((at) => HOLDER.test(code.slice(0, at).split(/[;{}]/).at(-1)));
 }
 
-/** Returns a program in which plain variables of some names are volatile, and these names. */
+/** Returns a program in which plain variables of some names are volatile, and the names of all variables that are declared with them. */
 function makeVolatile(text, code, names) {
   const places = new Map();
   for (const name of new Set(names)) {
@@ -95,11 +125,13 @@ function makeVolatile(text, code, names) {
     if (found.size === 1) places.set(name, ...found);
   }
   const indices = [...new Set(places.values())].sort((one, other) => other - one);
-  return { whole: indices.reduce((it, at) => `${it.slice(0, at)}volatile ${it.slice(at)}`, text), names: [...places.keys()] };
+  const declared = indices.flatMap((at) => [...code.slice(at, code.indexOf(";", at)).replace(/\{[^{}]*\}|=[^,]*/g, "").matchAll(DECLARED)].map((it) => it[0]));
+  return { whole: indices.reduce((it, at) => `${it.slice(0, at)}volatile ${it.slice(at)}`, text), names: [...new Set([...places.keys(), ...declared])] };
 }
 
-/** Returns a program in which each endless loop is its block; null if one of them is left, or has a next pass before its end. */
+/** Returns a program in which each endless loop is its block; null if one of them is left, or has a next pass before its end, or if it asserts something. */
 function runOnce(text, code) {
+  if (/\bassert|\blw:|^\s*(?:~?exists|forall)\b/m.test(text)) return null;
   const heads = [...code.matchAll(ENDLESS)];
   const isWhole = ({ 0: head, index }) => !LEAVING.test(code.slice(index, findClosing(code, index + head.length) + 1));
   return heads.every(isWhole) ? heads.reverse().reduce((whole, { 0: head, index }) => whole.slice(0, index) + whole.slice(index + head.length), text) : null;
@@ -113,7 +145,7 @@ function listRemedies(text, { why, index }) {
     const heads = head ? [head] : [...code.matchAll(/\bfor\s*\(/g)].map((it) => cutHead(code, it.index));
     const counts = new Set(heads.map((it) => findCount(code, it)).filter(Boolean));
     const [count] = counts.size === 1 ? counts : [null];
-    const make = (other) => ({ whole: count && replaceCount(text, code, count, other), title: `Count to ${other}` });
+    const make = (other) => ({ whole: count && replaceCount(text, code, heads.filter((it) => findCount(code, it)), count, other), title: `Count to ${other}` });
     return COUNTS.map(make).filter((it) => it.whole);
   }
   if (why.includes(OF_MANY)) {

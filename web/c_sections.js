@@ -11,8 +11,14 @@ export const IN_SECTION = "threads are in the critical section together";
 // What a test says whose question is whether an addition is lost.
 const LOST = "(* an addition to critical is lost:";
 const COMMENT = /\/\/.*|\/\*[^]*?\*\//g;
-const SECTION =
-  /^\W*(?:(?:in(?:side)?|enter|begin|start|do|this is)\s+)?(?:of\s+)?(?:the\s+)?(?:critical[\s_-](?:section|region)|CS)(?:\s+(?:(?:goes|is)\s+)?here)?\W*$/i;
+const SECTION = /^\W*(?:(?:in(?:side)?|enter|begin|start|this is)\s+)?(?:of\s+)?(?:the\s+)?(?:critical[\s_-](?:section|region)|CS)(?:\s+(?:(?:goes|is)\s+)?here)?\W*$/i;
+// What is right before a critical section: a loop that waits, a call that takes a lock, or a branch with a block.
+const BEFORE = new RegExp(
+  "(?:\\bwhile\\s*\\((?:[^(){};]|\\((?:[^(){};]|\\([^(){};]*\\))*\\))*\\)\\s*(?:;|\\{\\s*(?:[\\w:]*(?:pause|yield|relax)\\w*\\s*\\(\\s*\\)\\s*;\\s*)?\\})|" +
+    "(?:^|[;{}.>])\\s*\\w*(?:lock|acquire|enter)\\w*\\s*\\([^;{}]*\\)\\s*;|\\bif\\s*\\([^;{}]*\\)\\s*\\{)\\s*$",
+  "i",
+);
+const LEAVING = /(?:unlock|release|leave|exit)\w*\s*\([^;{}]*\)\s*;\s*$/i;
 // What is before the first declaration: comments and directives.
 const FRONT = /^(?:\s|\/\/.*|\/\*[^]*?\*\/|#.*)*/;
 
@@ -20,8 +26,10 @@ const FRONT = /^(?:\s|\/\/.*|\/\*[^]*?\*\/|#.*)*/;
 function countSections(text) {
   if (/\bcritical\b/.test(text.replace(COMMENT, ""))) return null;
   let count = 0;
-  const counted = text.replace(COMMENT, (comment) => {
-    const isSection = SECTION.test(comment);
+  const code = text.replace(COMMENT, (comment) => comment.replace(/[^\n]/g, " "));
+  const counted = text.replace(COMMENT, (comment, index) => {
+    const before = code.slice(0, index);
+    const isSection = SECTION.test(comment) && BEFORE.test(before) && !LEAVING.test(before);
     count += Number(isSection);
     return isSection ? "critical++;" : comment;
   });

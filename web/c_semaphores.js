@@ -91,7 +91,9 @@ function isBinary(code, value, takes, gives) {
     const order = marks.sort(([one], [other]) => one - other).map(([, kind]) => kind);
     return order.length % 2 === 0 && order.every((kind, at) => kind === (at % 2 ? "give" : "take"));
   };
-  if (value === "1" && begins.every(alternates) && !/\b(?:if|for|while|return|break|continue|goto|switch)\b/.test(listInner(code, begins))) return true;
+  // What lambdas of `main` do is not in the order of its text.
+  const isOfMain = (begin) => /\bmain\s*\([^(){}]*\)\s*\{$/.test(code.slice(0, begin + 1));
+  if (value === "1" && begins.every((it) => alternates(it) && !isOfMain(it)) && !/\b(?:if|for|while|return|break|continue|goto|switch)\b/.test(listInner(code, begins))) return true;
   if (value !== "0" || gives.length !== 1) return false;
   const { begin, end } = findBody(code, gives[0].begin);
   const isLoop = /\b(?:for|while|do|goto)\b/.test(code.slice(begin, end));

@@ -11,7 +11,7 @@ const OF_CONDITION = ` A wait for a condition is a look at it here, once the mut
 const ATOMIC = /\b(?:std\s*::\s*)?atomic(?:\s*<[^<>;{}()]*>|_\w+)\s+([^;()]*(?:\([^;()]*\)[^;()]*)*);/g;
 const FLAG = /^(?:std\s*::\s*)?atomic_flag\b/;
 const WAIT = /(?:\w+\s*(?:\.|->)\s*)*?\b(\w+)\s*(?:\.|->)\s*wait\s*\(/g;
-const NOTIFY = /(?:\w+\s*(?:\.|->)\s*)*\b(\w+)\s*(?:\.|->)\s*notify_(?:one|all)\s*\(\s*\)\s*;/g;
+const NOTIFY = /(?:\w+\s*(?:\.|->)\s*)*\b(\w+)\s*(?:\.|->)\s*notify_(?:one|all)\s*\(\s*\)(?=\s*;)/g;
 const VALUE = /^-?\w+$/;
 const ORDER = /^(?:std\s*::\s*)?memory_order(?:\s*::\s*|_)\w+$/;
 // Declarations of conditions, and what else is said of them.
@@ -20,8 +20,8 @@ const OF_CALLS = /\bpthread_cond_(?:signal|broadcast|init|destroy)\s*\(/g;
 const COND_WAIT = /\bpthread_cond_wait\s*\(/g;
 // What a loop looks at that waits for a variable, after whose name it is: nothing, or one access, compared with a word.
 const LOOK = "(?:\\s*(?:\\.|->)\\s*(?:load|test|test_and_set|exchange)\\s*\\([\\w:,\\s]*\\))?(?:\\s*[!=]=\\s*\\w+)?";
-// A lambda that only returns what is waited for, which is the group. And a statement that takes a mutex.
-const RETURNING = /^\[[^\]]*\]\s*(?:\(\s*\)\s*)?(?:->\s*bool\s*)?\{\s*return\b([^;{}]*);\s*\}$/;
+// A lambda that only returns what is waited for, which is the group, and copies nothing. And a statement that takes a mutex.
+const RETURNING = /^\[\s*(?:&|this|(?:&\s*\w+\s*,?\s*)+)?\s*\]\s*(?:\(\s*\)\s*)?(?:->\s*bool\s*)?\{\s*return\b([^;{}]*);\s*\}$/;
 const TAKING = /(?:\bunique_lock\s*(?:<[^<>;]*>)?\s*(\w+)\s*[({]\s*[\w.&>-]+\s*[)}]|\bpthread_mutex_lock\s*\(\s*&\s*(\w+)\s*\))\s*;\s*$/;
 const HEAD = /\bwhile\s*\(/g;
 const OPPOSITES = { "==": "!=", "!=": "==", "<": ">=", ">": "<=", "<=": ">", ">=": "<" };

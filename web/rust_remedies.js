@@ -1,7 +1,7 @@
 // Finds what to change in a program in Rust that is not rewritten, where smaller counts help: those of its threads, and of what each of them repeats. Not proved.
 
 import { makeChange } from "./change.js";
-import { blank } from "./c_code.js";
+import { blank, findClosing } from "./c_code.js";
 
 const NO_CODE = /"(?:[^"\\]|\\.)*"|\/\/.*|\/\*[^]*?\*\//g;
 const NUMBER = /(?<!\w|(?<!\.)\.)\d[\d_]*(?=(?:[iu](?:\d+|size))?\b(?!\.\d))/g;
@@ -32,6 +32,18 @@ function listProducts(counts) {
   return new Map(products.filter(([before]) => before > 1));
 }
 
+/** Returns a function that says whether an index of a code is in what asks: an assertion, or the condition of a branch or a loop. */
+function listAsked(code) {
+  const assertions = [...code.matchAll(/\bassert(?:_eq|_ne)?!\s*\(/g)].map(({ 0: head, index }) => [index, findClosing(code, index + head.length - 1)]);
+  const conditions = [...code.matchAll(/\b(?:if|while)\b[^{};]*\{/g)].map(({ 0: head, index }) => [index, index + head.length]);
+  return (at) => [...assertions, ...conditions].some(([begin, end]) => begin <= at && at <= end);
+}
+
+/** Returns whether all ranges of a code begin with 0, and leave out their ends. */
+function areFromZero(code) {
+  return [...code.matchAll(/(?<![\w.])(\d+)\s*\.\.(=?)/g)].every(([, begin, sign]) => Number(begin) === 0 && !sign);
+}
+
 /**
  * Returns the change of a program in Rust with smaller counts, because of which it is rewritten; null if it has no such counts, or a number may be a sum of
  * theirs that is none of their products.
@@ -47,7 +59,10 @@ export function findRustRemedy(text, rewrite) {
   const products = listProducts(counts);
   const numbers = [...code.matchAll(NUMBER)].map(({ 0: word, index }) => ({ word, index, value: parseNumber(word) }));
   const isSum = (value) => value > Math.min(...counts) && counts.some((it) => value % it === 0);
-  if (numbers.some(({ value }) => !products.has(value) && isSum(value))) return null;
+  const isAsked = listAsked(code);
+  if (numbers.some(({ value, index }) => !products.has(value) && (isSum(value) || (value > 1 && isAsked(index))))) return null;
+  // A sum needs ranges from 0 on.
+  if (!areFromZero(code) && numbers.some(({ index }) => isAsked(index))) return null;
   const changed = numbers.filter(({ value }) => products.has(value)).reverse();
   const whole = changed.reduce((it, { index, word, value }) => it.slice(0, index) + products.get(value) + it.slice(index + word.length), text);
   if (!rewrite(whole)?.made) return null;
