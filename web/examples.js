@@ -56,8 +56,7 @@ const PLAIN = {
     "wait in store buffers while both look: then both enter.",
   "ChaseLev-x86": "The owner of a queue takes an item from its bottom, a thief from its top. The owner's write that says so can wait in its store buffer: " +
     "then both take the same item.",
-  SB: "Each thread writes one variable and then reads the other's. If the threads take turns, one of them reads 1. On x86 both could read 0, so the compiler " +
-    "puts in fences.",
+  SB: "Each thread writes one variable and then reads the other's. If the threads take turns, one of them reads 1.",
 };
 const KNOWN = /^Interleaving: (allowed|forbidden)\. x86-TSO: allowed\./;
 
@@ -102,8 +101,8 @@ export class Examples {
     findById("example-name").textContent = test ? name : parseName(text);
     findById("example-shows").textContent = test ? "" : "my own";
     const plain = caches.isOn ? undefined : PLAIN[name];
-    const own = test && `${removeCacheSentences(test.about)}${explainFences(test, this.tests)}`;
-    const about = test && el("p", { class: "about" }, this.linkNames(plain ?? own));
+    const own = test && removeCacheSentences(test.about);
+    const about = test && el("p", { class: "about" }, this.linkNames(`${plain ?? own}${explainFences(test, this.tests)}`));
     const known = test && el("p", {}, this.linkNames(`${plain ? `${own} ` : ""}${test.known}`));
     findById("offer").replaceChildren(...(name === WALKED && !isPredicting ? this.makeWalkOffer() : []));
     const makeFold = (title, ...inner) => el("details", {}, el("summary", {}, title), inner);
