@@ -11,6 +11,8 @@ const MIN_TYPE = 18;
 const MIN_TYPE_OF_TWO = 13;
 const MIN_PART_OF_HEIGHT = 0.024;
 const MAX_TYPE = 44;
+// The size of type in pixels that is still tried if the machine is not in sight as a whole in the least one.
+const SMALLEST_TYPE = 11;
 // The largest ratio of the machine's type to the rest, if there is room: with at most two threads, and with more.
 const [MAX_SCALE, MAX_TIGHT_SCALE] = [1.5, 1.2];
 // The possible places of the graph: beside the machine, and beside all. Its possible sizes there: that in which its letters are as large as the rest, a
@@ -53,7 +55,7 @@ export class ProjectorFit {
     this.placeGraph(dataset, least);
     this.placeText(dataset, least);
     document.documentElement.classList.toggle("close", !this.fits(least));
-    if (!this.fits(least)) return this.foldCode();
+    if (!this.fits(least)) return this.shrink(least);
     const size = this.findSize(least, most);
     if (isOne) this.enlarge(this.moveList(least, most, size));
   }
@@ -123,6 +125,17 @@ export class ProjectorFit {
     const sizes = shown.map(([name, it]) => [name, getComputedStyle(it).fontSize]);
     classList.add("present");
     for (const [name, size] of sizes) style.setProperty(name, size);
+  }
+
+  /** Folds the code, in a size of type, or in a smaller one if the machine is not in sight as a whole then. */
+  shrink(least) {
+    const root = document.documentElement;
+    for (let size = least; size >= SMALLEST_TYPE; size -= 1) {
+      root.style.removeProperty("--code-room");
+      root.style.fontSize = `${size}px`;
+      this.foldCode();
+      if (root.scrollHeight <= innerHeight) return;
+    }
   }
 
   /** Shows as many lines of the code as leave room for the rest of the machine, and the next instruction among them. */

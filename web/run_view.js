@@ -174,8 +174,8 @@ export class RunView {
   }
 
   /**
-   * Draws the machine in the first way in which it is in sight with all of its code, or else with the most of it; and if it is not in sight in any
-   * way, beside a text that is narrower. Returns how much of it is cut, as `drawIn` does.
+   * Draws the machine in the first way in which it is in sight with all of its code, or else with the most of it; and if it is cut in any way, beside a text
+   * that is narrower, if less of it is cut then. Returns how much of it is cut, as `drawIn` does.
    */
   chooseWay() {
     const least = computeLeastHeight(this.stage.shown);
@@ -190,11 +190,14 @@ export class RunView {
       if (cut < fewest && !isWorse) [best, fewest] = [way, cut];
     }
     if (fewest) this.drawIn(best, least);
-    if (fewest < OUT_OF_SIGHT || !this.run.editor.isAlone || this.slimFor === this.run.text) return fewest;
+    if (!fewest || !this.run.editor.isAlone || this.slimFor === this.run.text) return fewest;
     // A wide text of the reader's own leaves the machine the width in which it is whole; that of an example is whole itself.
     this.slimFor = this.run.text;
     if (!findById("example-shows").textContent) return fewest;
     findById("test").classList.add("slim");
+    const slimmer = this.chooseWay();
+    if (slimmer < fewest) return slimmer;
+    findById("test").classList.remove("slim");
     return this.chooseWay();
   }
 
