@@ -1526,6 +1526,20 @@ void c() { size_t t = tail.load(std::memory_order_relaxed); while (head.load(std
 int main() { std::thread a(p), b(c); a.join(); b.join(); }
 `,
     "X86 Mine\n(* 1:EAX is head after its loop, 1:EBX is r *)\n(* every wait ends: ~1:EAX=0 *)\n{ buf_0=0; head=0; tail=0; }\n P0 | P1 ;\n MOV EAX,[head] | MOV ECX,[tail] ;\n MOV [buf_0],$4 | MOV EAX,[head] ;\n MOV [head],$1 | MOV EBX,[buf_0] ;\n | MOV [tail],$1 ;\nexists (~1:EAX=0 /\\ 1:EBX=0)\n"],
+  ["an exchange of a relation in an `if` in another one", `#include <atomic>
+#include <thread>
+std::atomic<int> x{0}, y{0}; int p;
+void t0(){ int r0=y.load(std::memory_order_relaxed); int r1=0; if (r0==1) if (x.exchange(2)>1) r1=1; }
+void t1(){ y.store(1,std::memory_order_relaxed); int r2=x.load(std::memory_order_relaxed); }
+`,
+    "X86 Mine\n(* 0:EAX is r0, 0:EBX is r1, 0:ECX is x_compared, 1:EAX is r2 *)\n{ x=0; y=0; }\n P0 | P1 ;\n MOV EAX,[y] | MOV [y],$1 ;\n MOV EBX,$0 | MOV EAX,[x] ;\n CMP EAX,$1 | ;\n JNE END | ;\n MOV ECX,$2 | ;\n XCHG [x],ECX | ;\n CMP ECX,$2 | ;\n JNE END | ;\n MOV EBX,$1 | ;\n END: | ;\nlocations [0:EAX; 0:EBX; 0:ECX; 1:EAX]\nexists (true)\n"],
+  ["an exchange that is compared for equality after a relation", `#include <atomic>
+#include <thread>
+std::atomic<int> x{0}, y{0}; int p;
+void t0(){ int r0=y.load(std::memory_order_relaxed); int r1=0; if (r0>=1 && x.exchange(2)==1) r1=1; }
+void t1(){ y.store(1,std::memory_order_relaxed); int r2=x.load(std::memory_order_relaxed); }
+`,
+    "X86 Mine\n(* 0:EAX is r0, 0:EBX is r1, 1:EAX is r2 *)\n{ x=0; y=0; }\n P0 | P1 ;\n MOV EAX,[y] | MOV [y],$1 ;\n MOV EBX,$0 | MOV EAX,[x] ;\n CMP EAX,$1 | ;\n JNE END | ;\n MOV ECX,$2 | ;\n XCHG [x],ECX | ;\n CMP ECX,$1 | ;\n JNE END | ;\n MOV EBX,$1 | ;\n END: | ;\nlocations [0:EAX; 0:EBX; 1:EAX]\nexists (true)\n"],
 ];
 // A program of rounds, whose loop does `sets` before the threads run.
 const makeRounds = (sets, code) => `#include <semaphore.h>
@@ -2792,6 +2806,20 @@ void c() { size_t t = tail.load(std::memory_order_relaxed); while (head.load(std
 int main() { std::thread a(p), b(c); a.join(); b.join(); }
 `,
     "`#define ONE 2 - 1`: write its text where it is used", "#define ONE 2 - 1"],
+  ["an exchange of a relation after `&&`", `#include <atomic>
+#include <thread>
+std::atomic<int> x{0}, y{0};
+void t0(){ int r0=y.load(std::memory_order_relaxed); int r1=0; if (r0==1 && x.exchange(2)>1) r1=1; }
+void t1(){ y.store(1,std::memory_order_relaxed); int r2=x.load(std::memory_order_relaxed); }
+`,
+    "`if (r0==1 && x.exchange(2)>1)`: what is after `&&` changes a variable only if what is before it holds, so write two `if`, one in the other", "if (r0==1 && x.exchange(2)>1) r1=1; }"],
+  ["an addition in a relation after `&&`", `#include <atomic>
+#include <thread>
+std::atomic<int> x{0}, y{0};
+void t0(){ int r0=y.load(std::memory_order_relaxed); int r1=0; if (r0==1 && x.fetch_add(1)>=1) r1=1; }
+void t1(){ y.store(1,std::memory_order_relaxed); int r2=x.load(std::memory_order_relaxed); }
+`,
+    "`if (r0==1 && x.fetch_add(1)>=1)`: what is after `&&` changes a variable only if what is before it holds, so write two `if`, one in the other", "if (r0==1 && x.fetch_add(1)>=1) r1=1; }"],
 ];
 
 /** Returns a test with one blank in place of several, since names have other lengths than those in a form. */
