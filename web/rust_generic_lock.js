@@ -2,6 +2,8 @@
 // without the lock's type: each lock is its atomics and its data, and its code is in place of the calls. Not proved.
 
 import { findClosing } from "./c_code.js";
+import { findBlockEnd, isStatement } from "./rust_locks.js";
+import { splitStatements, Unread } from "./rust_statements.js";
 
 const VISIBLE = "(?:pub(?:\\([^)]*\\))?\\s+)?";
 // The heads of items: a structure, whose groups are its name and its parameters, and an `impl`, whose groups are a trait and a type.
@@ -11,6 +13,14 @@ const FUNCTION = /(?:pub(?:\([^)]*\))?\s+)?(?:const\s+|unsafe\s+)*fn\s+(\w+)\s*\
 const FIELD = /(\w+)\s*:\s*([\w:<>' &]+?)\s*(?:,|$)/g;
 const NUMBER = /^(?:[iu](?:32|64|size))$/;
 const CLONE = /\blet\s+(\w+)\s*=\s*(?:Arc::clone\(\s*&\s*(\w+)\s*\)|(\w+)\.clone\(\s*\))\s*;/g;
+const LOCKED = "\\s*\\.\\s*lock\\s*\\(\\s*\\)";
+// Marks that are in place of what takes a lock and what gives it back, before its name.
+const [TAKEN, GIVEN] = ["\u0001", "\u0002"];
+// The head of a block that joins each thread of a list.
+const JOINING = /\bfor\s+\w+\s+in\b[^{};]*$|\bfor_each\s*\(\s*\|\s*\w+\s*\|\s*$/;
+const OF_GUARDS =
+  ": a lock is taken by `let mut g = L.lock();`, and its data is only `*g`, up to `drop(g)` in the same block or the end of this, which nothing " +
+  "leaves before";
 const LEAVING = /\b(?:return|break|continue|await)\b|\?|\bpanic!|\.unwrap\(\)\s*\?/;
 
 /** Returns the items of code with a head, each with the groups of this, its body, and its range. */
@@ -78,37 +88,84 @@ function readParts(own, dropping, { name, guardName, back, data, others }) {
   return /\blet\b|\breturn\b/.test(locking + unlocking) ? null : { words, locking, unlocking: `${unlocking.trim().replace(/;?$/, ";")}` };
 }
 
-/** Returns where the block ends in which an index is. */
-function findBlockEnd(code, index) {
-  let [at, depth] = [index, 0];
-  for (; at < code.length && depth >= 0; at += 1) depth += Number(code[at] === "{") - Number(code[at] === "}");
-  return at - 1;
+/** Returns whether code of a block has no value: it ends with a statement, or with blocks that have none. */
+function isWithoutValue(code) {
+  const last = splitStatements(code).at(-1) ?? "";
+  const blocks = [];
+  for (let open = /^(?:if\b|unsafe\s*\{|\{)/.test(last) ? last.indexOf("{") : -1; open >= 0; ) {
+    const close = findClosing(last, open);
+    blocks.push(last.slice(open + 1, close));
+    open = last.indexOf("{", close);
+  }
+  return isStatement(code) || (blocks.length > 0 && blocks.every(isWithoutValue));
 }
 
-/** Returns code in which the code of a lock is in place of the guards that it gives; null if one does more than to change a number. */
-function replaceGuards(code, name, { locking, unlocking, data }) {
-  const [lock, unlock] = [locking, unlocking].map((it) => it.replace(/\bself\s*\.\s*(\w+)/g, `${name}_$1`));
-  const word = `${name}_${data.name}`;
-  const guard = new RegExp(`\\blet\\s+(?:mut\\s+)?(\\w+)\\s*=\\s*${name}\\s*\\.\\s*lock\\s*\\(\\s*\\)\\s*;`);
+/** Returns code in which a guard of a lock, whose declaration is found last, ends where Rust drops it, and its data is a word. Throws Unread. */
+function replaceGuard(code, [declaration, guard, name], index, word) {
+  const begin = index + declaration.length;
+  const end = findBlockEnd(code, begin);
+  const body = code.slice(begin, end);
+  const given = new RegExp(`\\b(?:(?:std::)?mem::)?drop\\s*\\(\\s*${guard}\\s*\\)\\s*;`).exec(body);
+  // A guard without a name is dropped at once.
+  const held = guard === "_" ? "" : given ? body.slice(0, given.index) : body;
+  const after = guard === "_" ? body : given ? body.slice(given.index + given[0].length) : "";
+  const inner = held.replace(new RegExp(`\\*\\s*${guard}\\b`, "g"), word);
+  const isNested = findClosing(`{${held}}`, 0) !== held.length + 1;
+  const isUsed = guard !== "_" && new RegExp(`\\b${guard}\\b`).test(inner + after);
+  if (isNested || isUsed || LEAVING.test(held) || !isWithoutValue(held)) throw new Unread(declaration, OF_GUARDS);
+  const written = inner.trimEnd().replace(/[^;}\s]$/, "$&;");
+  return `${code.slice(0, index)}${TAKEN}${name}; ${written} ${GIVEN}${name}; ${after}${code.slice(end)}`;
+}
+
+/**
+ * Returns code without guards of locks, whose words are known by their names: marks are where it takes a lock and gives it back. The last guard is
+ * replaced first, since Rust drops it first. Throws Unread if one does more than to change a number.
+ */
+function replaceGuards(code, words) {
+  const names = [...words.keys()].join("|");
+  const guard = new RegExp(`\\blet\\s+(?:mut\\s+)?(\\w+)\\s*=\\s*(${names})${LOCKED}\\s*;`, "g");
   let text = code;
-  for (let found = guard.exec(text); found; found = guard.exec(text)) {
-    const begin = found.index + found[0].length;
-    const end = findBlockEnd(text, begin);
-    const body = text.slice(begin, end);
-    const given = new RegExp(`\\bdrop\\s*\\(\\s*${found[1]}\\s*\\)\\s*;`).exec(body);
-    const held = given ? body.slice(0, given.index) : body;
-    const after = given ? body.slice(given.index + given[0].length) : "";
-    const inner = held.replace(new RegExp(`\\*\\s*${found[1]}\\b`, "g"), word);
-    const isLeft = LEAVING.test(held) || !/[;}]\s*$/.test(held) || findBlockEnd(held, 0) < held.length - 1;
-    if (isLeft || new RegExp(`\\b${found[1]}\\b`).test(inner + after)) return null;
-    text = `${text.slice(0, found.index)}${lock} ${inner} ${unlock} ${after}${text.slice(end)}`;
+  for (const found of [...code.matchAll(guard)].reverse()) text = replaceGuard(text, found, found.index, words.get(found[2]));
+  const statics = new Set([...code.matchAll(/\bstatic\s+(?:mut\s+)?(\w+)/g)].map(([, it]) => it));
+  const [begin, end] = findRest(text) ?? [text.length, text.length];
+  const free = text.slice(begin, end).replace(new RegExp(`\\*\\s*(${names})${LOCKED}`, "g"), (whole, name) => words.get(name));
+  text = text.slice(0, begin) + free + text.slice(end);
+  // What is on the right is computed before the lock is taken.
+  const change = new RegExp(`(?<=[;{}]\\s*)\\*\\s*(${names})${LOCKED}\\s*([-+]?=)\\s*(\\w+(?:\\s*[-+]\\s*\\w+)*)\\s*(?:;|(?=\\}))`, "g");
+  const read = new RegExp(`(?<=[;{}]\\s*)(let\\s+(?:mut\\s+)?(?!_\\b)\\w+\\s*(?::\\s*\\w+\\s*)?=)\\s*\\*\\s*(${names})${LOCKED}\\s*;`, "g");
+  const dropped = new RegExp(`(?<=[;{}]\\s*)(${names})${LOCKED}\\s*;`, "g");
+  const hold = (name, statement) => `${TAKEN}${name}; ${statement} ${GIVEN}${name};`;
+  const isLocal = (value) => value.split(/[-+\s]+/).every((it) => !statics.has(it));
+  return text
+    .replace(change, (whole, name, sign, value) => (isLocal(value) ? hold(name, `${words.get(name)} ${sign} ${value};`) : whole))
+    .replace(read, (whole, front, name) => hold(name, `${front} ${words.get(name)};`))
+    .replace(dropped, (whole, name) => hold(name, ""));
+}
+
+/**
+ * Returns where code begins and ends that the function executes which joins the threads, after it has joined the last one, when it finds all locks
+ * free; null if there is none.
+ */
+function findRest(code) {
+  const scopes = [...code.matchAll(/\bthread::scope\s*\(/g)].map((it) => findClosing(code, it.index + it[0].length - 1));
+  let begin = Math.max(code.lastIndexOf(".join()"), ...scopes);
+  if (begin < 0) return null;
+  let end = findBlockEnd(code, begin);
+  const cutHead = () => code.slice(0, findOpen(code, end));
+  for (; JOINING.test(cutHead()); end = findBlockEnd(code, begin)) begin = end + 1;
+  // A closure may be that of a thread, and so may a function in the rest.
+  const isWhole = listItems(code, FUNCTION).some((it) => it.end === end + 1) || /\bmodel\s*\(\s*(?:move\s*)?\|\|\s*$/.test(cutHead());
+  return isWhole && !/\bfn\b|\bspawn\b/.test(code.slice(begin, end)) ? [begin, end] : null;
+}
+
+/** Returns the index of the brace that opens the block which one at an index closes. */
+function findOpen(code, close) {
+  let [at, depth] = [close, 1];
+  while (at > 0 && depth > 0) {
+    at -= 1;
+    depth += Number(code[at] === "}") - Number(code[at] === "{");
   }
-  const once = new RegExp(`\\*\\s*${name}\\s*\\.\\s*lock\\s*\\(\\s*\\)\\s*([-+]?=)\\s*(\\d+)\\s*;`, "g");
-  text = text.replace(once, (_, sign, value) => `${lock} ${word} ${sign} ${value}; ${unlock}`);
-  // After all threads have ended, `main` finds the lock free.
-  const scopes = [...text.matchAll(/\bthread::scope\s*\(/g)].map((it) => findClosing(text, it.index + it[0].length - 1));
-  const last = Math.max(text.lastIndexOf(".join()"), ...scopes);
-  return text.replace(new RegExp(`\\*\\s*${name}\\s*\\.\\s*lock\\s*\\(\\s*\\)`, "g"), (whole, at) => (last >= 0 && at > last ? word : whole));
+  return at;
 }
 
 /** Returns code with a static lock in place of one that threads share by `Arc`, and of the names of its clones. */
@@ -145,14 +202,19 @@ export function rewriteGenericLock(code) {
     "g",
   );
   const locks = [...text.matchAll(declared)];
-  if (!locks.length || locks.some(([, , type]) => !NUMBER.test(type))) return code;
+  const words = new Map(locks.map(([, name]) => [name, `${name}_${lock.data.name}`]));
+  const isTaken = [...words.keys()].some((name) => [lock.data, ...lock.others].some((it) => new RegExp(`\\b${name}_${it.name}\\b`).test(code)));
+  if (!locks.length || words.size < locks.length || isTaken || locks.some(([, , type]) => !NUMBER.test(type))) return code;
   text = text.replace(declared, (_, name, type, word) => {
     const atomics = lock.others.map((it) => `static ${name}_${it.name}: ${it.type} = ${it.type}::new(${lock.words.get(it.name)});`);
-    return `${atomics.join(" ")} static mut ${name}_${lock.data.name}: ${type} = ${word};`;
+    return `${atomics.join(" ")} static mut ${words.get(name)}: ${type} = ${word};`;
   });
-  for (const [, name] of locks) {
-    text = text && replaceGuards(text, name, lock);
-    if (text === null || new RegExp(`\\b${name}\\b`).test(text)) return code;
+  text = replaceGuards(text, words);
+  for (const name of words.keys()) {
+    const [taking, giving] = [lock.locking, lock.unlocking].map((it) => it.replace(/\bself\s*\.\s*(\w+)/g, `${name}_$1`));
+    text = text.replaceAll(`${TAKEN}${name};`, () => taking).replaceAll(`${GIVEN}${name};`, () => giving);
+    const [other] = new RegExp(`[^;{}]*\\b${name}\\b[^;{}]*`).exec(text) ?? [];
+    if (other) throw new Unread(other, OF_GUARDS);
   }
   return new RegExp(`\\b${lock.name}\\b`).test(text) ? code : text;
 }

@@ -15,8 +15,13 @@ const LOCAL = new RegExp(
 const LOCKED = "\\.lock\\(\\)(?:\\.unwrap\\(\\)|\\.expect\\([^()]*\\))?";
 const CELL_GET = /\*\s*((?:self|[A-Za-z_]\w*)(?:\.[a-z_]\w*)*)\.get\(\)/g;
 
-/** Returns the index of the brace that ends the block in which an index is; the length of code, if none does. */
-function findBlockEnd(code, index) {
+/**
+ * Returns the index of the brace that ends the block in which an index is; the length of code, if none does.
+ * @param {string} code
+ * @param {number} index
+ * @returns {number}
+ */
+export function findBlockEnd(code, index) {
   let depth = 0;
   for (let at = index; at < code.length; at += 1) {
     depth += (code[at] === "{") - (code[at] === "}");
@@ -38,10 +43,14 @@ function renameClones(code, name) {
   return written;
 }
 
-/** Returns whether code of a block ends with a statement, which has no value. */
-function isStatement(code) {
+/**
+ * Returns whether code of a block ends with a statement, which has no value.
+ * @param {string} code
+ * @returns {boolean}
+ */
+export function isStatement(code) {
   const last = splitStatements(code).at(-1) ?? "";
-  return /;\s*$/.test(code) || /^(?:while|for|loop)\b|^if\b(?![^]*\belse\b)/.test(last) || /^[^{}]*[^=!<>{}]=(?!=)[^{}]*$/.test(last);
+  return /(?:^|;)\s*$/.test(code) || /^(?:while|for|loop)\b|^if\b(?![^]*\belse\b)/.test(last) || /^[^{}]*[^=!<>{}]=(?!=)[^{}]*$/.test(last);
 }
 
 /** Returns code in which a guard of a mutex, whose declaration is found, is one of C++, or a lock and an unlock where it is dropped. */
@@ -70,13 +79,19 @@ function writeStatements(code, name) {
   const locked = `\\*\\s*${name}${LOCKED}`;
   const change = new RegExp(`(?<=[;{}]\\s*)${locked}\\s*([+-]?=)\\s*(-?\\w+)\\s*(?:;|(?=\\}))`, "g");
   const read = new RegExp(`(?<=[;{}]\\s*)let\\s+(\\w+)\\s*=\\s*${locked}\\s*;`, "g");
-  const changed = code.replace(change, `${name}_lock.lock(); ${name} $1 $2; ${name}_lock.unlock();`);
+  // What is on the right is computed before the mutex is locked, which matters for what other threads change.
+  const changed = code.replace(change, (whole, sign, value) => {
+    const isShared = new RegExp(`\\bstatic\\s+(?:mut\\s+)?${value}\\b`).test(code);
+    return isShared ? whole : `${name}_lock.lock(); ${name} ${sign} ${value}; ${name}_lock.unlock();`;
+  });
   const scope = /\bscope\s*\(/.exec(changed);
   const last = Math.max(changed.lastIndexOf(".join("), scope ? findClosing(changed, scope.index + scope[0].length - 1) : -1);
   // What the function that joins the threads asks after this ends before the next function.
   const length = last < 0 ? 0 : `${changed.slice(last)} fn `.search(/\bfn\s/);
-  const asked = changed.slice(last, last + length).replace(new RegExp(`((?:assert\\w*!|print\\w*!)\\s*\\([^;]*?)${locked}`, "g"), `$1${name}`);
-  const whole = last < 0 ? changed : changed.slice(0, last) + asked + changed.slice(last + length);
+  const end = changed.slice(last, last + length);
+  const asked = end.replace(new RegExp(`((?:assert\\w*!|print\\w*!)\\s*\\([^;]*?)${locked}`, "g"), `$1${name}`);
+  // What starts a thread is not the end.
+  const whole = last < 0 || /\bspawn\b/.test(end) ? changed : changed.slice(0, last) + asked + changed.slice(last + length);
   return whole.replace(read, `${name}_lock.lock(); let $1 = ${name}; ${name}_lock.unlock();`);
 }
 
