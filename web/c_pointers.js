@@ -6,7 +6,7 @@
 // `Declaration` are those of c_reader.js.
 
 import { blank, blankComments, findClosing, parseConstant, parseDeclaration, refusePart, squeezeCode } from "./c_code.js";
-import { isDoublyChecked } from "./c_once.js";
+import { findDoubleCheck, isOne } from "./c_once.js";
 import { splitOutside } from "./c_statements.js";
 import { WORD } from "./token_reader.js";
 
@@ -51,6 +51,7 @@ const NULL = /\bnullptr\b|\bNULL\b/g;
 // Why a part of a program with pointers is refused, as the end of a sentence.
 const OF_SEVERAL = ": pointers are rewritten if one object of their type is made, by one thread";
 const OF_LOOPS = ": an object is made in a statement of its own, in no loop and no branch";
+const OF_EACH = ": several threads make one object only if all of them take one and the same lock, and test one and the same pointer";
 const OF_METHODS = ": an object is made in a function, not in a method of a class, which others may call, too";
 const OF_FREED = ": what is freed may be made anew, which is not rewritten";
 const OF_VALUES = ": an object is made with constants and variables";
@@ -238,7 +239,9 @@ class PointerWriter {
 
   /** Throws NoTest unless the code at an index is executed once at most: it is in no loop and no branch, and what it is in is named once. */
   checkOnce(index, part, depth = 0) {
-    if (!depth && isDoublyChecked(this.code, index)) return;
+    const checked = depth ? null : findDoubleCheck(this.code, index);
+    if (checked && !checked.every((it) => isOne(this.code, it))) refusePart(part, OF_EACH);
+    if (checked) return;
     const heads = this.findHeads(index);
     const isInLoop = (at) => REPEATING.test(this.code.slice(this.findStatement(at), at));
     const isRepeated = heads.some((it) => it.isBranching || isInLoop(it.at)) || isInLoop(index);

@@ -152,7 +152,7 @@ function findRest(code) {
   if (begin < 0) return null;
   let end = findBlockEnd(code, begin);
   const cutHead = () => code.slice(0, findOpen(code, end));
-  for (; JOINING.test(cutHead()); end = findBlockEnd(code, begin)) begin = end + 1;
+  for (; end < code.length && JOINING.test(cutHead()); end = findBlockEnd(code, begin)) begin = end + 1;
   // A closure may be that of a thread, and so may a function in the rest.
   const isWhole = listItems(code, FUNCTION).some((it) => it.end === end + 1) || /\bmodel\s*\(\s*(?:move\s*)?\|\|\s*$/.test(cutHead());
   return isWhole && !/\bfn\b|\bspawn\b/.test(code.slice(begin, end)) ? [begin, end] : null;

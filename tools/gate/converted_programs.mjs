@@ -1540,6 +1540,56 @@ void t0(){ int r0=y.load(std::memory_order_relaxed); int r1=0; if (r0>=1 && x.ex
 void t1(){ y.store(1,std::memory_order_relaxed); int r2=x.load(std::memory_order_relaxed); }
 `,
     "X86 Mine\n(* 0:EAX is r0, 0:EBX is r1, 1:EAX is r2 *)\n{ x=0; y=0; }\n P0 | P1 ;\n MOV EAX,[y] | MOV [y],$1 ;\n MOV EBX,$0 | MOV EAX,[x] ;\n CMP EAX,$1 | ;\n JNE END | ;\n MOV ECX,$2 | ;\n XCHG [x],ECX | ;\n CMP ECX,$1 | ;\n JNE END | ;\n MOV EBX,$1 | ;\n END: | ;\nlocations [0:EAX; 0:EBX; 1:EAX]\nexists (true)\n"],
+  ["a lock and a pointer of one object", `#include <atomic>
+#include <mutex>
+#include <thread>
+struct Data{int x;};
+struct Lazy{ std::atomic<Data*> p{nullptr}; std::mutex m; Data* get(){ Data* q=p.load(std::memory_order_acquire); if(q==nullptr){ std::lock_guard<std::mutex> g(m); q=p.load(std::memory_order_relaxed); if(q==nullptr){ q=new Data; q->x=1; p.store(q,std::memory_order_release);} } return q; } };
+Lazy l1;
+void a(){ Data* d=l1.get(); d->x=5; }
+void b(){ Data* d=l1.get(); int r1=d->x; }
+`,
+    "X86 Mine\n(* 0:EAX is q, 0:EBX is l1_m at its lock, 0:ECX is d, 1:EAX is q, 1:EBX is l1_m at its lock, 1:ECX is d, 1:EDX is r1 *)\n(* every wait ends: 0:EBX=0 /\\ 1:EBX=0 *)\n{ Data_x=0; l1_p=0; l1_m=0; }\n P0 | P1 ;\n MOV EAX,[l1_p] | MOV EAX,[l1_p] ;\n CMP EAX,$0 | CMP EAX,$0 ;\n JNE L2 | JNE L2 ;\n MOV EBX,$1 | MOV EBX,$1 ;\n XCHG [l1_m],EBX | XCHG [l1_m],EBX ;\n MOV EAX,[l1_p] | MOV EAX,[l1_p] ;\n CMP EAX,$0 | CMP EAX,$0 ;\n JNE L3 | JNE L3 ;\n MOV EAX,$1 | MOV EAX,$1 ;\n MOV [Data_x],$1 | MOV [Data_x],$1 ;\n MOV [l1_p],EAX | MOV [l1_p],EAX ;\n L3: MOV EDX,$0 | L3: MOV ESI,$0 ;\n XCHG [l1_m],EDX | XCHG [l1_m],ESI ;\n L2: MOV ECX,EAX | L2: MOV ECX,EAX ;\n MOV [Data_x],$5 | MOV EDX,[Data_x] ;\nlocations [0:EAX; 0:ECX; 1:EAX; 1:ECX; l1_p; Data_x]\nexists (0:EBX=0 /\\ 1:EBX=0 /\\ 1:EDX=0)\n"],
+  ["a static lock of two objects, and one pointer", `#include <atomic>
+#include <mutex>
+#include <thread>
+struct Data{int x;}; std::atomic<Data*> p{nullptr};
+struct Getter{ static std::mutex m; Data* get(){ Data* q=p.load(std::memory_order_acquire); if(q==nullptr){ std::lock_guard<std::mutex> g(m); q=p.load(std::memory_order_relaxed); if(q==nullptr){ q=new Data; q->x=1; p.store(q,std::memory_order_release);} } return q; } };
+std::mutex Getter::m;
+Getter g1, g2;
+void a(){ Data* d=g1.get(); int r0=d->x; }
+void b(){ Data* d=g2.get(); int r1=d->x; }
+`,
+    "X86 Mine\n(* 0:EAX is q, 0:EBX is m at its lock, 0:ECX is d, 0:EDX is r0, 1:EAX is q, 1:EBX is m at its lock, 1:ECX is d, 1:EDX is r1 *)\n(* every wait ends: 0:EBX=0 /\\ 1:EBX=0 *)\n(* a thread finds Data_x not yet set: 0:EDX=0 \\/ 1:EDX=0 *)\n{ Data_x=0; p=0; m=0; }\n P0 | P1 ;\n MOV EAX,[p] | MOV EAX,[p] ;\n CMP EAX,$0 | CMP EAX,$0 ;\n JNE L2 | JNE L2 ;\n MOV EBX,$1 | MOV EBX,$1 ;\n XCHG [m],EBX | XCHG [m],EBX ;\n MOV EAX,[p] | MOV EAX,[p] ;\n CMP EAX,$0 | CMP EAX,$0 ;\n JNE L3 | JNE L3 ;\n MOV EAX,$1 | MOV EAX,$1 ;\n MOV [Data_x],$1 | MOV [Data_x],$1 ;\n MOV [p],EAX | MOV [p],EAX ;\n L3: MOV ESI,$0 | L3: MOV ESI,$0 ;\n XCHG [m],ESI | XCHG [m],ESI ;\n L2: MOV ECX,EAX | L2: MOV ECX,EAX ;\n MOV EDX,[Data_x] | MOV EDX,[Data_x] ;\nlocations [0:EAX; 0:ECX; 1:EAX; 1:ECX; p; Data_x]\n~exists (0:EBX=0 /\\ 1:EBX=0 /\\ (0:EDX=0 \\/ 1:EDX=0))\n"],
+  ["a lock and a pointer outside of two objects", `#include <atomic>
+#include <mutex>
+#include <thread>
+struct Data{int x;}; std::atomic<Data*> p{nullptr}; std::mutex m;
+struct Getter{ int k; Data* get(){ Data* q=p.load(std::memory_order_acquire); if(q==nullptr){ std::lock_guard<std::mutex> g(m); q=p.load(std::memory_order_relaxed); if(q==nullptr){ q=new Data; q->x=1; p.store(q,std::memory_order_release);} } return q; } };
+Getter g1, g2;
+void a(){ Data* d=g1.get(); int r0=d->x; }
+void b(){ Data* d=g2.get(); int r1=d->x; }
+`,
+    "X86 Mine\n(* 0:EAX is q, 0:EBX is m at its lock, 0:ECX is d, 0:EDX is r0, 1:EAX is q, 1:EBX is m at its lock, 1:ECX is d, 1:EDX is r1 *)\n(* every wait ends: 0:EBX=0 /\\ 1:EBX=0 *)\n(* a thread finds Data_x not yet set: 0:EDX=0 \\/ 1:EDX=0 *)\n{ Data_x=0; p=0; m=0; }\n P0 | P1 ;\n MOV EAX,[p] | MOV EAX,[p] ;\n CMP EAX,$0 | CMP EAX,$0 ;\n JNE L2 | JNE L2 ;\n MOV EBX,$1 | MOV EBX,$1 ;\n XCHG [m],EBX | XCHG [m],EBX ;\n MOV EAX,[p] | MOV EAX,[p] ;\n CMP EAX,$0 | CMP EAX,$0 ;\n JNE L3 | JNE L3 ;\n MOV EAX,$1 | MOV EAX,$1 ;\n MOV [Data_x],$1 | MOV [Data_x],$1 ;\n MOV [p],EAX | MOV [p],EAX ;\n L3: MOV ESI,$0 | L3: MOV ESI,$0 ;\n XCHG [m],ESI | XCHG [m],ESI ;\n L2: MOV ECX,EAX | L2: MOV ECX,EAX ;\n MOV EDX,[Data_x] | MOV EDX,[Data_x] ;\nlocations [0:EAX; 0:ECX; 1:EAX; 1:ECX; p; Data_x]\n~exists (0:EBX=0 /\\ 1:EBX=0 /\\ (0:EDX=0 \\/ 1:EDX=0))\n"],
+  ["an object that is declared with its class", `#include <atomic>
+#include <mutex>
+#include <thread>
+struct Data{int x;};
+struct Lazy{ std::atomic<Data*> p{nullptr}; std::mutex m; Data* get(){ Data* q=p.load(std::memory_order_acquire); if(q==nullptr){ std::lock_guard<std::mutex> g(m); q=p.load(std::memory_order_relaxed); if(q==nullptr){ q=new Data; q->x=1; p.store(q,std::memory_order_release);} } return q; } } l1;
+void a(){ Data* d=l1.get(); int r0=d->x; }
+void b(){ Data* d=l1.get(); int r1=d->x; }
+`,
+    "X86 Mine\n(* 0:EAX is q, 0:EBX is l1_m at its lock, 0:ECX is d, 0:EDX is r0, 1:EAX is q, 1:EBX is l1_m at its lock, 1:ECX is d, 1:EDX is r1 *)\n(* every wait ends: 0:EBX=0 /\\ 1:EBX=0 *)\n(* a thread finds Data_x not yet set: 0:EDX=0 \\/ 1:EDX=0 *)\n{ Data_x=0; l1_p=0; l1_m=0; }\n P0 | P1 ;\n MOV EAX,[l1_p] | MOV EAX,[l1_p] ;\n CMP EAX,$0 | CMP EAX,$0 ;\n JNE L2 | JNE L2 ;\n MOV EBX,$1 | MOV EBX,$1 ;\n XCHG [l1_m],EBX | XCHG [l1_m],EBX ;\n MOV EAX,[l1_p] | MOV EAX,[l1_p] ;\n CMP EAX,$0 | CMP EAX,$0 ;\n JNE L3 | JNE L3 ;\n MOV EAX,$1 | MOV EAX,$1 ;\n MOV [Data_x],$1 | MOV [Data_x],$1 ;\n MOV [l1_p],EAX | MOV [l1_p],EAX ;\n L3: MOV ESI,$0 | L3: MOV ESI,$0 ;\n XCHG [l1_m],ESI | XCHG [l1_m],ESI ;\n L2: MOV ECX,EAX | L2: MOV ECX,EAX ;\n MOV EDX,[Data_x] | MOV EDX,[Data_x] ;\nlocations [0:EAX; 0:ECX; 1:EAX; 1:ECX; l1_p; Data_x]\n~exists (0:EBX=0 /\\ 1:EBX=0 /\\ (0:EDX=0 \\/ 1:EDX=0))\n"],
+  ["a lock and a pointer of an object that is not copied", `#include <atomic>
+#include <mutex>
+#include <thread>
+struct Data{int x;};
+struct Lazy{ std::atomic<Data*> p{nullptr}; std::mutex m; Lazy() = default; Lazy(const Lazy&) = delete; ~Lazy() = default; Data* get(){ Data* q=p.load(std::memory_order_acquire); if(q==nullptr){ std::lock_guard<std::mutex> g(m); q=p.load(std::memory_order_relaxed); if(q==nullptr){ q=new Data; q->x=1; p.store(q,std::memory_order_release);} } return q; } };
+static Lazy lazy;
+void a(){ Data* d=lazy.get(); int r0=d->x; }
+void b(){ Data* d=lazy.get(); int r1=d->x; }
+`,
+    "X86 Mine\n(* 0:EAX is q, 0:EBX is lazy_m at its lock, 0:ECX is d, 0:EDX is r0, 1:EAX is q, 1:EBX is lazy_m at its lock, 1:ECX is d, 1:EDX is r1 *)\n(* every wait ends: 0:EBX=0 /\\ 1:EBX=0 *)\n(* a thread finds Data_x not yet set: 0:EDX=0 \\/ 1:EDX=0 *)\n{ Data_x=0; lazy_p=0; lazy_m=0; }\n P0 | P1 ;\n MOV EAX,[lazy_p] | MOV EAX,[lazy_p] ;\n CMP EAX,$0 | CMP EAX,$0 ;\n JNE L2 | JNE L2 ;\n MOV EBX,$1 | MOV EBX,$1 ;\n XCHG [lazy_m],EBX | XCHG [lazy_m],EBX ;\n MOV EAX,[lazy_p] | MOV EAX,[lazy_p] ;\n CMP EAX,$0 | CMP EAX,$0 ;\n JNE L3 | JNE L3 ;\n MOV EAX,$1 | MOV EAX,$1 ;\n MOV [Data_x],$1 | MOV [Data_x],$1 ;\n MOV [lazy_p],EAX | MOV [lazy_p],EAX ;\n L3: MOV ESI,$0 | L3: MOV ESI,$0 ;\n XCHG [lazy_m],ESI | XCHG [lazy_m],ESI ;\n L2: MOV ECX,EAX | L2: MOV ECX,EAX ;\n MOV EDX,[Data_x] | MOV EDX,[Data_x] ;\nlocations [0:EAX; 0:ECX; 1:EAX; 1:ECX; lazy_p; Data_x]\n~exists (0:EBX=0 /\\ 1:EBX=0 /\\ (0:EDX=0 \\/ 1:EDX=0))\n"],
 ];
 // A program of rounds, whose loop does `sets` before the threads run.
 const makeRounds = (sets, code) => `#include <semaphore.h>
@@ -2820,6 +2870,85 @@ void t0(){ int r0=y.load(std::memory_order_relaxed); int r1=0; if (r0==1 && x.fe
 void t1(){ y.store(1,std::memory_order_relaxed); int r2=x.load(std::memory_order_relaxed); }
 `,
     "`if (r0==1 && x.fetch_add(1)>=1)`: what is after `&&` changes a variable only if what is before it holds, so write two `if`, one in the other", "if (r0==1 && x.fetch_add(1)>=1) r1=1; }"],
+  ["a lock of each object, and one pointer", `#include <atomic>
+#include <mutex>
+#include <thread>
+struct Data{int x;}; std::atomic<Data*> p{nullptr};
+struct Getter{ std::mutex m; Data* get(){ Data* q=p.load(std::memory_order_acquire); if(q==nullptr){ std::lock_guard<std::mutex> g(m); q=p.load(std::memory_order_relaxed); if(q==nullptr){ q=new Data; q->x=1; p.store(q,std::memory_order_release);} } return q; } };
+Getter g1,g2;
+void a(){ Data* d=g1.get(); d->x=5; int r0=d->x; }
+void b(){ Data* d=g2.get(); d->x=6; int r1=d->x; }
+`,
+    "`new Data`: several threads make one object only if all of them take one and the same lock, and test one and the same pointer", "new Data; q->x=1; p.store(q,std::memory_order_release);} } r"],
+  ["a lock and a pointer of each object", `#include <atomic>
+#include <mutex>
+#include <thread>
+struct Data{int x;};
+struct Lazy{ std::atomic<Data*> p{nullptr}; std::mutex m; Data* get(){ Data* q=p.load(std::memory_order_acquire); if(q==nullptr){ std::lock_guard<std::mutex> g(m); q=p.load(std::memory_order_relaxed); if(q==nullptr){ q=new Data; q->x=1; p.store(q,std::memory_order_release);} } return q; } };
+Lazy l1,l2;
+void a(){ Data* d=l1.get(); d->x=5; }
+void b(){ Data* d=l2.get(); int r1=d->x; }
+`,
+    "`new Data`: several threads make one object only if all of them take one and the same lock, and test one and the same pointer", "new Data; q->x=1; p.store(q,std::memory_order_release);} } r"],
+  ["a pointer of each object, and one lock", `#include <atomic>
+#include <mutex>
+#include <thread>
+struct Data{int x;}; std::mutex m; std::atomic<Data*> p{nullptr};
+struct Lazy{ std::atomic<Data*> q{nullptr}; Data* get(){ Data* d=q.load(std::memory_order_acquire); if(d==nullptr){ std::lock_guard<std::mutex> g(m); d=q.load(std::memory_order_relaxed); if(d==nullptr){ d=new Data; d->x=1; q.store(d,std::memory_order_release);} } return d; } };
+Lazy l1,l2;
+void a(){ Data* d=l1.get(); d->x=5; int r0=d->x; }
+void b(){ Data* d=l2.get(); d->x=6; int r1=d->x; }
+`,
+    "`new Data`: several threads make one object only if all of them take one and the same lock, and test one and the same pointer", "new Data; d->x=1; q.store(d,std::memory_order_release);} } r"],
+  ["a method outside of its class, whose objects have a lock each", `#include <atomic>
+#include <mutex>
+#include <thread>
+struct Data{int x;}; std::atomic<Data*> p{nullptr};
+class Getter{ std::mutex m; public: Data* get(); };
+Data* Getter::get(){ Data* q=p.load(std::memory_order_acquire); if(q==nullptr){ std::lock_guard<std::mutex> g(m); q=p.load(std::memory_order_relaxed); if(q==nullptr){ q=new Data; q->x=1; p.store(q,std::memory_order_release);} } return q; }
+Getter g1; Getter g2;
+void a(){ Data* d=g1.get(); d->x=5; int r0=d->x; }
+void b(){ Data* d=g2.get(); d->x=6; int r1=d->x; }
+`,
+    "`new Data`: several threads make one object only if all of them take one and the same lock, and test one and the same pointer", "new Data; q->x=1; p.store(q,std::memory_order_release);} } r"],
+  ["two objects that are declared with their class", `#include <atomic>
+#include <mutex>
+#include <thread>
+struct Data{int x;};
+struct Lazy{ std::atomic<Data*> p{nullptr}; std::mutex m; Data* get(){ Data* q=p.load(std::memory_order_acquire); if(q==nullptr){ std::lock_guard<std::mutex> g(m); q=p.load(std::memory_order_relaxed); if(q==nullptr){ q=new Data; q->x=1; p.store(q,std::memory_order_release);} } return q; } } l1, l2;
+void a(){ Data* d=l1.get(); d->x=5; }
+void b(){ Data* d=l2.get(); int r1=d->x; }
+`,
+    "`new Data`: several threads make one object only if all of them take one and the same lock, and test one and the same pointer", "new Data; q->x=1; p.store(q,std::memory_order_release);} } r"],
+  ["a lock of each object of a template", `#include <atomic>
+#include <mutex>
+#include <thread>
+struct Data{int x;};
+template<class T> struct Lazy{ std::atomic<Data*> p{nullptr}; std::mutex m; Data* get(){ Data* q=p.load(std::memory_order_acquire); if(q==nullptr){ std::lock_guard<std::mutex> g(m); q=p.load(std::memory_order_relaxed); if(q==nullptr){ q=new Data; q->x=1; p.store(q,std::memory_order_release);} } return q; } };
+Lazy<int> l1; Lazy<int> l2;
+void a(){ Data* d=l1.get(); d->x=5; }
+void b(){ Data* d=l2.get(); int r1=d->x; }
+`,
+    "`new Data`: several threads make one object only if all of them take one and the same lock, and test one and the same pointer", "new Data; q->x=1; p.store(q,std::memory_order_release);} } r"],
+  ["a lock of a base class of two objects", `#include <atomic>
+#include <mutex>
+#include <thread>
+struct Data{int x;};
+struct Lazy{ std::atomic<Data*> p{nullptr}; std::mutex m; Data* get(){ Data* q=p.load(std::memory_order_acquire); if(q==nullptr){ std::lock_guard<std::mutex> g(m); q=p.load(std::memory_order_relaxed); if(q==nullptr){ q=new Data; q->x=1; p.store(q,std::memory_order_release);} } return q; } };
+struct Other : Lazy {};
+Lazy l1; Other l2;
+void a(){ Data* d=l1.get(); d->x=5; }
+void b(){ Data* d=l2.get(); int r1=d->x; }
+`,
+    "`new Data`: several threads make one object only if all of them take one and the same lock, and test one and the same pointer", "new Data; q->x=1; p.store(q,std::memory_order_release);} } r"],
+  ["a thread's own pointer in a lock", `#include <atomic>
+#include <mutex>
+#include <thread>
+struct Data{int x;}; std::mutex m;
+void t(){ Data* p=nullptr; { std::lock_guard<std::mutex> g(m); if (p==nullptr) { Data* q=new Data; q->x=1; p=q; } } p->x = 2; }
+int main(){ std::thread a(t), b(t); a.join(); b.join(); }
+`,
+    "`new Data`: several threads make one object only if all of them take one and the same lock, and test one and the same pointer", "new Data; q->x=1; p=q; } } p->x = 2; }"],
 ];
 
 /** Returns a test with one blank in place of several, since names have other lengths than those in a form. */
