@@ -24,6 +24,8 @@ const FUNCTIONS = [
   ...["thread", "signal"].map((it) => `atomic_${it}_fence`), ...["m", "l", "s"].map((it) => `_mm_${it}fence`),
   ...["create", "join", "exit", "mutex_lock", "mutex_trylock", "mutex_unlock", "mutex_init", "mutex_destroy"].map((it) => `pthread_${it}`),
   ...["thrd_create", "thrd_join", "thrd_yield", "mtx_lock", "mtx_trylock", "mtx_unlock", "mtx_init", "spin_lock", "spin_unlock", "spin_trylock"],
+  // What tries a lock in the kernel and in POSIX: others return 0 on success.
+  ...["mutex", "rt_mutex", "down", "down_read", "down_write", "read", "write", "raw_spin", "pthread_spin"].map((it) => `${it}_trylock`),
   ...["smp_mb", "smp_rmb", "smp_wmb", "smp_load_acquire", "smp_store_release", "smp_store_mb", "READ_ONCE", "WRITE_ONCE", "sched_yield"],
   ...["assert", "printf", "fprintf", "sprintf", "insert", "malloc", "calloc", "while", "switch", "for", "if", "return", "sizeof", "defined"],
 ];

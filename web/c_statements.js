@@ -45,6 +45,7 @@ export const BITS = /\b(?:test_and_)?(?:set|clear|change|test)_bit\w*\s*\(/;
 /** Why it is refused, as the end of a sentence. */
 export const OF_BITS = ": of bits only bit 0 of a word is set and cleared here, which is only 0 or 1 then";
 const REASONS = [
+  [/\b(?!spin_|pthread_|mtx_|atomic_)\w+_try_?lock\(/, ": of what tries a lock `m.try_lock()`, `spin_trylock`, `pthread_mutex_trylock` and `mtx_trylock` are read"],
   [/_?try_?lock\(/, ": a lock is tried in a condition of its own, as `if (m.try_lock())`"],
   [/^(?:__)?asm(?:__)?\b|thread_fence/, ": a fence is `atomic_thread_fence(memory_order_seq_cst)`"],
   [/compare_exchange|cmpxchg/, ": the x86 format has no compare-and-swap. `tools/from_c.py` follows it"],
@@ -54,7 +55,7 @@ const REASONS = [
   [/\?/, ": write an `if`"],
   [/^(?:const )?(?:float|double|string)\b/, ": a variable is an integer, as `int r0`"],
   [/\w\[/, OF_INDICES],
-  [/^\w+ ?\*(?!=)|&(?=\w+$)/, ": threads have no pointers of their own"],
+  [/^\w+ ?\*(?!=)|(?<![\w)\]&])&(?=\w+$)/, ": threads have no pointers of their own"],
   [/^\w+:|^goto\b/, ": `goto` and labels are not rewritten"],
   [/[\w)](?:[*\/%^]|&(?!&)|\|(?!\|))|~|<<|>>/, ": the x86 format has sums only"],
   [/_cast</, ": write the word that the cast results in"],

@@ -402,6 +402,9 @@ const OF_OTHER_THREADS = ": another thread may still wait then, in a loop or for
 const NO_ORDER = ": no order of memory has this name; they are `relaxed`, `consume`, `acquire`, `release`, `acq_rel` and `seq_cst`";
 const OF_DIRECTIVES = ": leave out `#if` and its like, with what is not compiled";
 const REFUSED = [
+  ["int r0 = y;", "int r0 = y; int n = (r0 + 1) & 1;", "`int n = (r0 + 1) & 1`: the x86 format has sums only"],
+  ["int r0 = y;", "int r0 = y; int n = r0 &d;", "`int n = r0 &d`: the x86 format has sums only"],
+  ["int r0 = y;", "int r0 = y; long n = &d;", "`long n = &d`: threads have no pointers of their own"],
   ["int r0 = y;", "if (y == 1) { int r0 = 1; }", `\`0:r0\`${OF_PATHS}`],
   ["int r0 = y;", "while (y != 1) ;", `\`0:r0\`${UNSET}`],
   ["int r0 = y;", "for (unsigned k = 3; k >= 0; k--) x = k;", `\`for (unsigned k = 3; k >= 0; k--)\`${OF_LOOPS}`],
@@ -3221,6 +3224,10 @@ const SLIPS = [
   ["data = 1", "r3 = 1", null],
   ["data = 1", "pthread_mutex_lokc(&m); data = 1", meanName(6, "pthread_mutex_lokc", "pthread_mutex_lock"), [6, 13], "Change it to pthread_mutex_lock"],
   ["data = 1", "data.fetch_and(1)", null],
+  // The kernel's functions return 1 if they get the lock, and C's 0.
+  ["data = 1", "if (mutex_trylock(&m)) data = 1", null],
+  ["data = 1", "if (down_trylock(&m) == 0) data = 1", null],
+  ["data = 1;", "if (mtx_tryloc(&m) == 0) { data = 1; mtx_unlock(&m); }", meanName(6, "mtx_tryloc", "mtx_trylock"), [6, 17], "Change it to mtx_trylock"],
   ["data = 1", "_mm_xfence(); data = 1", null],
   ["release);", "release)", "a `;` is missing at the end of line 3.", [3, 40], "Put in the ;"],
   ["data = 1;", "data = 1", "a `;` is missing in line 6.", [6, 21], "Put in the ;"],

@@ -2949,6 +2949,18 @@ void t(){ Data* p=nullptr; { std::lock_guard<std::mutex> g(m); if (p==nullptr) {
 int main(){ std::thread a(t), b(t); a.join(); b.join(); }
 `,
     "`new Data`: several threads make one object only if all of them take one and the same lock, and test one and the same pointer", "new Data; q->x=1; p=q; } } p->x = 2; }"],
+  ["a mutex of the kernel that is tried", `#include <linux/mutex.h>
+DEFINE_MUTEX(m); int x;
+void t0(void){ if (mutex_trylock(&m)) { x = 1; mutex_unlock(&m); } }
+void t1(void){ mutex_lock(&m); x = 2; mutex_unlock(&m); }
+`,
+    "`if (mutex_trylock(&m))`: of what tries a lock `m.try_lock()`, `spin_trylock`, `pthread_mutex_trylock` and `mtx_trylock` are read", "if (mutex_trylock(&m)) { x = 1; mutex_unlock(&m); } }"],
+  ["a semaphore of the kernel that is tried", `#include <linux/semaphore.h>
+DEFINE_MUTEX(m); int x;
+void t0(void){ if (!down_trylock(&m)) { x = 1; mutex_unlock(&m); } }
+void t1(void){ mutex_lock(&m); x = 2; mutex_unlock(&m); }
+`,
+    "`if (!down_trylock(&m))`: of what tries a lock `m.try_lock()`, `spin_trylock`, `pthread_mutex_trylock` and `mtx_trylock` are read", "if (!down_trylock(&m)) { x = 1; mutex_unlock(&m); } }"],
 ];
 
 /** Returns a test with one blank in place of several, since names have other lengths than those in a form. */
