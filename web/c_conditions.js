@@ -39,10 +39,10 @@ export class ConditionWriter extends KnownWriter {
   fillCondition(code, except = []) {
     const isLoading = [...code.matchAll(CALLS)].every(([, name]) => name.startsWith("atomic_load"));
     if (!isLoading || /(?<![=!<>])=(?!=)|\+\+|--/.test(code)) return code;
-    const { filled, names } = this.fillShared(code);
+    const { filled, names } = this.fillShared(code, true);
     this.loadKnown([...names, ...this.indexed]);
     this.indexed.clear();
-    return balanceDifference(foldConstants(this.fill(filled, except)));
+    return balanceDifference(foldConstants(this.fill(filled, except, true)));
   }
 
   /** Writes an `if`, only one of whose branches is reached if its condition is known. */
@@ -53,7 +53,7 @@ export class ConditionWriter extends KnownWriter {
       this.writeAssignment(`${name}${sign}${sign}`);
       code = `${open}${name}${code.slice(stepped.length)}`;
     }
-    const number = this.compute(code);
+    const number = this.compute(code, true);
     if (number === null) return this.writeFilled({ ...statement, condition: this.writeRelations(this.fillCondition(code)) }, isLast);
     this.writeBlock(number ? statement.then : statement.otherwise, isLast);
     this.isOver = !this.known;
@@ -62,7 +62,7 @@ export class ConditionWriter extends KnownWriter {
 
   /**
    * Returns a condition of equalities in place of one with relations of variables and constants, and writes the load in the first one: each
-   * variable has one of a few words. Throws NoTest if these are not known.
+   * variable has one of a few words. The branch stays if the relation holds of all or none of them. Throws NoTest if they are not known.
    */
   writeRelations(code) {
     if (splitOutside(removeOuterParentheses(code), "||").length > 1 || !isRelation(code)) return code;
@@ -83,11 +83,12 @@ export class ConditionWriter extends KnownWriter {
     const variable = this.locals.has(value) ? value : COMPARED.test(value) && word !== null ? this.loadCompared(value) : null;
     const words = variable && this.known.has(variable) && word !== null ? this.listLocal(variable) : null;
     if (!words || [...words, word].some((it) => it >= WORD / 2)) this.refuseStatement(OF_RELATIONS);
-    const holds = (it) => Boolean(computeConstant(isReversed ? `${word}${sign}${it}` : `${it}${sign}${word}`)) === (negation === "");
+    const holds = (it) => Boolean(computeConstant(isReversed ? `${word}${sign}(${it})` : `(${it})${sign}${word}`)) === (negation === "");
     const [held, others] = [words.filter(holds), words.filter((it) => !holds(it))];
-    if (!held.length) return "0";
-    if (!others.length) return "1";
-    return held.length === 1 ? `${variable}==${held[0]}` : others.map((it) => `${variable}!=${it}`).join("&&");
+    if (held.length === 1) return `${variable}==${held[0]}`;
+    // A word that the variable has not, if it has none of which the relation does not hold.
+    const excluded = others.length ? others : [word, word + 1, word - 1].filter((it) => !holds(it)).slice(0, 1);
+    return excluded.map((it) => `${variable}!=${it}`).join("&&");
   }
 
   /** Returns whether a name is that of a shared variable. */
@@ -194,7 +195,7 @@ export class ConditionWriter extends KnownWriter {
 
   /** Writes statements, at the begin of which something may be known. */
   writeBlock(statements, isLast) {
-    for (const [key, word] of this.facts.get(statements) ?? []) this.learn(key, word);
+    for (const [key, word] of this.facts.get(statements) ?? []) this.learn(key, word, true);
     this.split = this.rests.get(statements) ?? null;
     if (!this.split) super.writeBlock(statements, isLast);
     else this.writeRest(statements, isLast);

@@ -5,7 +5,7 @@
 // assumed while it is written, and checked in the accesses of all threads: till a first access breaks an assumption, all threads run as they are
 // written.
 // What is known on all paths to a statement is in `known` beside the variables that have a value: `h=1` of one of the thread, and `&head=1` of a
-// shared one.
+// shared one. `%h=1` says that the thread itself made this word: only by such words a branch is decided, and left out if it is not reached.
 
 import { CallWriter } from "./c_calls.js";
 import { MOST_ELEMENTS, replaceNames, squeezeCode } from "./c_code.js";
@@ -61,6 +61,8 @@ export class KnownWriter extends CallWriter {
   constructor(program, number, kept) {
     super(program, number, kept);
     this.unknowable = program.unknowable[number];
+    // The shared variables that the thread seems to write.
+    this.written = program.written[number];
     // The variables that no other thread may write, what is known at the begin of blocks, and the variable that the last statement loaded.
     this.assumed = new Set();
     this.facts = new Map();
@@ -82,7 +84,7 @@ export class KnownWriter extends CallWriter {
 
   /** Writes all instructions, at the begin of which the initial words are known. */
   writeThread() {
-    for (const [name, word] of this.words) this.learn(`&${name}`, word);
+    for (const [name, word] of this.words) this.learn(`&${name}`, word, this.written.has(name));
     return super.writeThread();
   }
 
@@ -98,15 +100,23 @@ export class KnownWriter extends CallWriter {
 
   // Words.
 
-  /** Records the word of a variable. */
-  learn(key, word) {
+  /** Records the word of a variable, and whether the thread itself made it (`isOwn`). */
+  learn(key, word, isOwn = false) {
     this.forget(key);
-    if (this.known && !this.isConditional) this.known.add(`${key}=${word}`);
+    if (!this.known || this.isConditional) return;
+    this.known.add(`${key}=${word}`);
+    if (isOwn) this.known.add(`%${key}=1`);
   }
 
   /** Removes what is known of a variable. */
   forget(key) {
-    for (const it of this.known ?? []) if (it.startsWith(`${key}=`)) this.known.delete(it);
+    for (const it of this.known ?? []) if (it.startsWith(`${key}=`) || it.startsWith(`%${key}=`)) this.known.delete(it);
+  }
+
+  /** Returns whether the thread itself made all known words of variables in squeezed code. */
+  isOwnWord(code) {
+    const keys = (code.match(/[A-Za-z_]\w*/g) ?? []).map((it) => (this.locals.has(it) ? it : this.variables.has(it) ? `&${it}` : null));
+    return keys.every((it) => it === null || this.findWord(`%${it}`) !== null);
   }
 
   /** Returns the word of a variable; null if it is not known. */
@@ -120,23 +130,24 @@ export class KnownWriter extends CallWriter {
     this.learn("!", this.changeCount);
   }
 
-  /** Returns squeezed code with words in place of variables of the thread that are known, except some. */
-  fill(code, except = []) {
+  /** Returns squeezed code with words in place of variables of the thread that are known, except some. In a condition (`isDeciding`) it made them. */
+  fill(code, except = [], isDeciding = false) {
     return code.replace(NAME, (name) => {
-      const word = this.locals.has(name) && !except.includes(name) ? this.findWord(name) : null;
+      const isFilled = this.locals.has(name) && !except.includes(name) && (!isDeciding || this.isOwnWord(name));
+      const word = isFilled ? this.findWord(name) : null;
       return word === null || word >= WORD / 2 ? name : String(word);
     });
   }
 
   /**
    * Returns squeezed code with words in place of shared variables that only this thread writes, if they are known, and the names of these. Where it
-   * loads them does not matter then.
+   * loads them does not matter then. In a condition (`isDeciding`) it made these.
    */
-  fillShared(code) {
+  fillShared(code, isDeciding = false) {
     const names = [];
     const filled = code.replace(SHARED, (whole, loaded, name = loaded) => {
       const isShared = this.variables.has(name) && !this.locals.has(name) && !this.unknowable.has(name) && !this.variables.get(name).isPointer;
-      const word = isShared ? this.findWord(`&${name}`) : null;
+      const word = isShared && (!isDeciding || this.isOwnWord(name)) ? this.findWord(`&${name}`) : null;
       if (word === null || word >= WORD / 2) return whole;
       names.push(name);
       return String(word);
@@ -162,14 +173,14 @@ export class KnownWriter extends CallWriter {
     return found;
   }
 
-  /** Returns the number of squeezed code; null if it is not known. */
-  compute(code) {
+  /** Returns the number of squeezed code; null if it is not known. In a condition (`isDeciding`) the thread made its words. */
+  compute(code, isDeciding = false) {
     const choice = parseChoice(code);
     if (choice) {
-      const number = this.compute(choice.condition);
-      return number === null ? null : this.compute(number ? choice.then : choice.otherwise);
+      const number = this.compute(choice.condition, true);
+      return number === null ? null : this.compute(number ? choice.then : choice.otherwise, isDeciding);
     }
-    const filled = this.fill(code);
+    const filled = this.fill(code, [], isDeciding);
     return computeConstant(filled) ?? computeConstant(foldConstants(filled));
   }
 
@@ -197,12 +208,13 @@ export class KnownWriter extends CallWriter {
   assignLocal(name, value) {
     const count = this.accesses.length;
     const { loaded, loadedBranches } = this;
+    const isOwn = this.isOwnWord(value);
     const number = this.computeLoading(value);
     super.assignLocal(name, number === null ? value : String(number));
     if (this.findCall(value)) return;
     const [access, another] = this.accesses.slice(count);
     this.recordOrigin(name, number, another ? null : access);
-    if (number !== null) this.learn(name, (number + WORD) % WORD);
+    if (number !== null) this.learn(name, (number + WORD) % WORD, isOwn);
     else if (access && !another && !access.isWrite && LOAD.test(this.instructions.at(-1)) && this.learnLoad(name, access.name)) {
       // No question asks of what is known.
       Object.assign(this, { loaded, loadedBranches });
@@ -224,7 +236,7 @@ export class KnownWriter extends CallWriter {
     if (this.unknowable.has(name) || this.isConditional) return false;
     const words = word === null ? this.listWords(name) : [word];
     if (!words) return false;
-    if (words.length === 1) this.learn(variable, words[0]);
+    if (words.length === 1) this.learn(variable, words[0], word === null ? this.written.has(name) : this.isOwnWord(name));
     else if (NAMED_INDEX.test((this.frames.at(-1) ?? this.called).code.code)) this.split = { variable, name, words, statement: this.statement };
     this.assumed.add(name);
     return true;
@@ -234,9 +246,9 @@ export class KnownWriter extends CallWriter {
   declareLocal(variable, value) {
     const { name } = variable;
     this.forget(name);
-    const number = value ? this.declareLoaded(variable, value) ?? this.computeLoading(value) : null;
+    const number = value && this.isOwnWord(value) ? this.declareLoaded(variable, value) ?? this.computeLoading(value) : null;
     super.declareLocal(variable, number === null ? value : String(number));
-    if (!value && !this.frames.length && this.own.some((it) => it.name === name)) this.learn(name, this.words.get(name));
+    if (!value && !this.frames.length && this.own.some((it) => it.name === name)) this.learn(name, this.words.get(name), this.written.has(name));
   }
 
   /** Writes the load of a variable whose word is known into one of the thread that keeps it. Returns the word; null if it is no such load. */
@@ -252,13 +264,14 @@ export class KnownWriter extends CallWriter {
   writeOperation(operation, register) {
     const { kind, name, value } = operation;
     const number = value ? this.computeLoading(value) : null;
+    const [isOwn, isOwnBefore] = [!value || this.isOwnWord(value), this.isOwnWord(name)];
     const before = this.unknowable.has(name) ? null : this.findWord(`&${name}`);
     super.writeOperation(number === null ? operation : { ...operation, value: String(number) }, register);
     if (number !== null && before !== null && kind.startsWith("fetch")) {
-      this.learn(`&${name}`, (before + (kind === "fetch_sub" ? -number : number) + WORD) % WORD);
+      this.learn(`&${name}`, (before + (kind === "fetch_sub" ? -number : number) + WORD) % WORD, isOwn && isOwnBefore);
       this.assumed.add(name);
     }
-    if (number !== null && /^(?:store|exchange)$/.test(kind)) this.learn(`&${name}`, (number + WORD) % WORD);
+    if (number !== null && /^(?:store|exchange)$/.test(kind)) this.learn(`&${name}`, (number + WORD) % WORD, isOwn);
   }
 
   // Statements.

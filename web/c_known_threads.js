@@ -51,10 +51,11 @@ function extendLists(wordLists, writers, { words }) {
  */
 export function writeKnown(program, write) {
   const written = program.threads.map((it) => listWritten(it, program));
+  const allWritten = written.map((it) => new Set(it));
   const unknowable = written.map((_, number) => new Set(written.filter((_names, other) => other !== number).flat()));
   const wordLists = new Map();
   for (let round = 0; round < MOST_ROUNDS; round += 1) {
-    const writers = write({ ...program, unknowable, wordLists });
+    const writers = write({ ...program, unknowable, written: allWritten, wordLists });
     const accesses = writers.flatMap((it) => it.accesses);
     const isBroken = ({ number }, name) => accesses.some((it) => it.isWrite && it.name === name && it.thread !== number);
     const broken = writers.map((writer) => [...writer.assumed].filter((it) => isBroken(writer, it)));
@@ -62,7 +63,7 @@ export function writeKnown(program, write) {
     for (const [number, names] of broken.entries()) for (const it of names) unknowable[number].add(it);
   }
   const none = new Map([...program.words.keys()].map((it) => [it, null]));
-  return write({ ...program, unknowable: written.map(() => new Set(program.words.keys())), wordLists: none });
+  return write({ ...program, unknowable: written.map(() => new Set(program.words.keys())), written: allWritten, wordLists: none });
 }
 
 /**

@@ -2275,6 +2275,64 @@ L l, k; int n;
 void P0() { std::scoped_lock g(l, k); n++; }
 void P1() { l.lock(); n++; l.unlock(); }
 `, "`std::scoped_lock g(l, k)`: of several locks each is a mutex, as `std::mutex m`"],
+  ["no question, and branches on words that no run stores stay", `int x,y;
+void P0(void){int r1=READ_ONCE(x); if(r1>0) WRITE_ONCE(y,1);}
+void P1(void){int r2=READ_ONCE(y); if(r2>0) WRITE_ONCE(x,1);}
+`, `X86 Mine
+(* 0:EAX is r1, 1:EAX is r2 *)
+{ x=0; y=0; }
+ P0          | P1          ;
+ MOV EAX,[x] | MOV EAX,[y] ;
+ CMP EAX,$1  | CMP EAX,$1  ;
+ JNE END     | JNE END     ;
+ MOV [y],$1  | MOV [x],$1  ;
+ END:        | END:        ;
+locations [0:EAX; 1:EAX]
+exists (true)
+`],
+  ["no question, and a branch that none of the words takes, and one that all take", `int x,y,z;
+void P0(void){int r1=READ_ONCE(x); WRITE_ONCE(z,2); if(r1>5) WRITE_ONCE(y,1); else WRITE_ONCE(y,2);}
+void P1(void){int r2=READ_ONCE(y); WRITE_ONCE(x,2); if (!(r2 >= 10)) WRITE_ONCE(z,1); if (r2 >= 0) WRITE_ONCE(z,3);}
+`, `X86 Mine
+(* 0:EAX is r1, 1:EAX is r2 *)
+{ x=0; y=0; z=0; }
+ P0             | P1                      ;
+ MOV EAX,[x]    | MOV EAX,[y]             ;
+ MOV [z],$2     | MOV [x],$2              ;
+ CMP EAX,$0     | CMP EAX,$10             ;
+ JE L1          | JE L1                   ;
+ CMP EAX,$2     | MOV [z],$1              ;
+ JE L1          | L1: CMP EAX,$4294967295 ;
+ MOV [y],$1     | JE END                  ;
+ JMP END        | MOV [z],$3              ;
+ L1: MOV [y],$2 | END:                    ;
+ END:           |                         ;
+locations [0:EAX; 1:EAX; z]
+exists (true)
+`],
+  ["a call of an unknown function in a branch that none of the words takes", `int x,y;
+void P0(void){int r1=READ_ONCE(x); if(r1>5) log_it(r1); WRITE_ONCE(y,1);}
+void P1(void){int r2=READ_ONCE(y); WRITE_ONCE(x,1);}
+`, "`log_it(r1)`: write what the function does in its place"],
+  ["no question, and a branch on a variable that no thread writes", `atomic_int x, y, z; int buf[2];
+void P0(void) { int r = x; if (r > 0) buf[r] = 1; if (r == 1) y = 1; }
+void P1(void) { int r1 = y; int r2 = buf[0]; if (r1 < 1) z = 1; }
+`, `X86 Mine
+(* 0:EAX is r, 1:EAX is r1, 1:EBX is r2 *)
+{ x=0; y=0; z=0; buf_0=0; }
+ P0             | P1              ;
+ MOV EAX,[x]    | MOV EAX,[y]     ;
+ CMP EAX,$0     | MOV EBX,[buf_0] ;
+ JE L1          | CMP EAX,$0      ;
+ MOV [buf_0],$1 | JNE END         ;
+ L1: CMP EAX,$1 | MOV ECX,$1      ;
+ JNE END        | XCHG [z],ECX    ;
+ MOV EBX,$1     | END:            ;
+ XCHG [y],EBX   |                 ;
+ END:           |                 ;
+locations [0:EAX; 1:EAX; 1:EBX; z]
+exists (true)
+`],
   ["a loop of loads of a word that is not known", `std::atomic<int> seq{0}; std::atomic<int> d;
 void w() { int s = seq; s += s; s += 3; seq = s; }
 void r() { int a, b; do { a = seq.load(std::memory_order_acquire); b = d; } while (a * a / 3 != b + (a && b ? 1 : 2)); }

@@ -1401,10 +1401,16 @@ void P1(void) { int r = buf[0]; int s = buf[1]; }
     "X86 Mine\n(* 1:EAX is r, 1:EBX is s *)\n{ buf_0=0; buf_1=0; head=0; }\n P0 | P1 ;\n MOV EAX,[head] | MOV EAX,[buf_0] ;\n MOV [buf_0],$1 | MOV EBX,[buf_1] ;\n MOV EAX,$1 | ;\n LOCK XADD [head],EAX | ;\n MOV EAX,[head] | ;\n MOV [buf_1],$2 | ;\nexists (~1:EAX=0 /\\ 1:EBX=0)\n"],
   ["an index that branches set to a constant", `#include <stdatomic.h>
 int buf[4]; atomic_int head, x;
-void P0(void) { int h = atomic_load(&head); while (atomic_load(&x) == 0) ; if (h == 0) { h = 2; } else { h = 1; } buf[h] = 1; }
+void P0(void) { int h = atomic_load(&head); while (atomic_load(&x) == 0) ; if (h == 0) { h = 2; } else { h = 1; } buf[h] = 1; head = h; }
 void P1(void) { int r = buf[2]; atomic_store(&x, 1); }
 `,
-    "X86 Mine\n(* 0:EAX is h, 0:EBX is x after its loop, 1:EAX is r *)\n(* every wait ends: ~0:EBX=0 *)\n{ buf_2=0; head=0; x=0; }\n P0 | P1 ;\n MOV EAX,[head] | MOV EAX,[buf_2] ;\n MOV EBX,[x] | MOV EBX,$1 ;\n MOV EAX,$2 | XCHG [x],EBX ;\n MOV [buf_2],$1 | ;\nlocations [0:EAX]\nexists (~0:EBX=0 /\\ 1:EAX=0)\n"],
+    "X86 Mine\n(* 0:EAX is h, 0:EBX is x after its loop, 1:EAX is r *)\n(* every wait ends: ~0:EBX=0 *)\n{ buf_2=0; head=0; x=0; }\n P0 | P1 ;\n MOV EAX,[head] | MOV EAX,[buf_2] ;\n MOV EBX,[x] | MOV EBX,$1 ;\n MOV EAX,$2 | XCHG [x],EBX ;\n MOV [buf_2],$1 | ;\n MOV ECX,$2 | ;\n XCHG [head],ECX | ;\nlocations [0:EAX]\nexists (~0:EBX=0 /\\ 1:EAX=0)\n"],
+  ["an index that branches on a variable of no thread set to a constant", `#include <stdatomic.h>
+int buf[4]; atomic_int head, x;
+void P0(void) { int h = atomic_load(&head); if (h == 0) { h = 2; } else { h = 1; } buf[h] = 1; }
+void P1(void) { int r = buf[2]; atomic_store(&x, 1); }
+`,
+    "`buf[h] = 1`: an index is a constant, or comes from a variable that only this thread writes, and that has a known constant then"],
   ["an index that a function computes", `#include <stdatomic.h>
 int buf[4]; atomic_int head, x;
 int idx(int i) { i = i + 1; return i % 4; }
