@@ -251,10 +251,10 @@ function makeQuestion(program, writers, used, ends, meaning) {
   const asked = askAssertions(program, writers, used) || translateQuestion(program, writers, used);
   const { question: whole, phrases } = asked ? { question: asked, phrases: [] } : guessQuestion(program, writers, writers.flatMap((it) => it.accesses));
   const said = phrases.map(({ words, formula }) => ({ words, proposition: formatFormula(formula) }));
+  const isOpen = /^(?:locations.*\n)?exists \(true\)$/.test(whole);
   if (asked && meaning) said.push({ words: meaning, proposition: readProposition(asked) });
-  const isOpen = !asked && whole.endsWith("(true)");
   const question = ends.length && !isOpen ? limitQuestion(whole, ends) ?? refusePart(program.question, OF_QUESTION) : whole;
-  return { question, isGuess: !asked, isOpen, said };
+  return { question, isGuess: !asked || isOpen, isOpen, said };
 }
 
 /**

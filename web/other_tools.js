@@ -1,6 +1,7 @@
 // Finds what a text has from other tools and languages: their first words, comments, types of initial values; and what it lacks before its rows. Not
 // proved.
 
+import { rewriteWithComment } from "./c_comments.js";
 import { rewriteProgram } from "./c_program.js";
 import { findRemedy } from "./c_remedies.js";
 import { rewriteWithSections } from "./c_sections.js";
@@ -89,7 +90,7 @@ function explainProgram(words, text, place) {
   const how = `${OF_C}: save this as \`${file}\`, then \`${command}\` prints a test for this page.${form}${once}`;
   const hint = { more: how, document: "from-c.html", command };
   const isRust = RUST.test(text.replace(C_COMMENTS, ""));
-  const test = isRust ? rewriteRust(text) : rewriteWithSections(text);
+  const test = rewriteWithComment(text, isRust ? rewriteRust : rewriteWithSections);
   if (!test) return { words: `${words} ${IS_READ}`, ...hint };
   const slip = test.made || isRust ? null : findSlip(text, test, rewriteProgram);
   if (slip) return { ...explainSlip(text, slip, place.text), ...hint };
@@ -105,14 +106,14 @@ function explainProgram(words, text, place) {
  * @param {object} test
  * @returns {string}
  */
-export function explainMade({ made, isGuess, isOpen, races, isWaiting, isSwapping, isLocking, isTrying, isWide, isRepeated, isDelayed, isEnding, pointed, users = "", terms = "" }) {
+export function explainMade({ made, isGuess, isOpen, races, isWaiting, isSwapping, isLocking, isTrying, isWide, isRepeated, isDelayed, isEnding, pointed, users = "", terms = "", asks = "" }) {
   const end = `${isOpen ? "" : LEFT_OUT}.`;
   const objects = ` A pointer is a word here, 0 for null and 1 for the object, whose members are variables, as \`${pointed}\`; a null pointer reads them, too.`;
   const ofLocks = [[isLocking, OF_LOCKING + end], [isTrying, OF_TRYING]];
   const ofLoops = [[isWaiting, OF_WAITING + end], [isSwapping, OF_SWAPPING]];
   const parts = [[pointed, objects], ...ofLoops, ...ofLocks, [isWide, OF_WIDE], [isRepeated, OF_REPEATED], [isDelayed, OF_DELAYS], [isEnding, OF_ENTRY]];
   const question = made.endsWith("(true)\n") ? NOT_ASKED : isGuess ? OF_GUESS : "";
-  return `${users}${terms}${explainRaces(races)}${parts.map(([isSo, sentence]) => (isSo ? sentence : "")).join("")}${question}`;
+  return `${users}${terms}${explainRaces(races)}${parts.map(([isSo, sentence]) => (isSo ? sentence : "")).join("")}${asks}${question}`;
 }
 
 /** Returns a sentence on plain variables, if there are some, on which threads race in a program; or "". */

@@ -229,6 +229,76 @@ const SECTIONS = [
   ["a variable of that name", VOLATILE.replace("int turn;", "int turn;\nvolatile int critical;"), false],
 ];
 
+// Programs with comments in place of `// Q` and `/* R */`, in which two threads store, load the other's variable, and do nothing else.
+const ASKED = {
+  C: "int x, y; // Q\nvoid P0(void) { WRITE_ONCE(x, 1); int r1 = READ_ONCE(y); }\nvoid P1(void) { WRITE_ONCE(y, 1); int r2 = READ_ONCE(x); /* R */ }\n",
+  "C++": `// Q
+#include <atomic>
+#include <thread>
+std::atomic<int> x{0}, y{0};
+int r1 = 0, r2 = 0;
+int main() {
+  std::thread a([] { x.store(1, std::memory_order_relaxed); r1 = y.load(std::memory_order_relaxed); });
+  std::thread b([] { y.store(1, std::memory_order_relaxed); r2 = x.load(std::memory_order_relaxed); });
+  a.join(); b.join();
+  /* R */
+}
+`,
+  Rust: `use std::sync::atomic::{AtomicI32, Ordering::*};
+use std::thread;
+static x: AtomicI32 = AtomicI32::new(0);
+static y: AtomicI32 = AtomicI32::new(0);
+// Q
+fn main() {
+  let t = thread::spawn(|| { x.store(1, Relaxed); let r1 = y.load(Relaxed); });
+  let u = thread::spawn(|| { y.store(1, Relaxed); let r2 = x.load(Relaxed); });
+  t.join().unwrap(); u.join().unwrap(); /* R */
+}
+`,
+};
+const OF_BOTH = "exists (0:EAX=1 /\\ 1:EAX=1)";
+const OF_NONE = "~exists (0:EAX=0 /\\ 1:EAX=0)";
+const OF_TRUE = "locations [0:EAX; 1:EAX]\nexists (true)";
+const IS_READ = "The question is that of the comment `";
+const IS_UNREAD = "The page does not read the question of the comment `";
+const ARE_SEVERAL = "Several comments seem to ask, and a test has one question: leave in the one that is yours.";
+// Words of comments in place of Q and R, the question that they become, and what is said of them.
+const QUESTIONS = [
+  ["r1 == 1 && r2 == 1 ?", "", OF_BOTH, IS_READ],
+  ["", "r1 == 1 && r2 == 1 ?", OF_BOTH, IS_READ],
+  ["Can r1 == 1 && r2 == 1 happen?", "", OF_BOTH, IS_READ],
+  ["exists (r1 == 1 && r2 == 1)", "", OF_BOTH, IS_READ],
+  ["", "Is r1 == 1 and r2 == 1 possible?", OF_BOTH, IS_READ],
+  ["Store buffering. Can r1 = 1 and r2 = 1?", "", OF_BOTH, IS_READ],
+  ["r1 == 2 && r2 == 1 must be impossible", "", "~exists (0:EAX=2 /\\ 1:EAX=1)", IS_READ],
+  ["forbidden: r1 == 1 && r2 == 1", "", OF_BOTH, IS_READ],
+  ["assert never r1 == 0 && r2 == 0", "", OF_NONE, IS_READ],
+  ["r1 == 0 && r2 == 0 can't happen", "", OF_NONE, IS_READ],
+  ["~exists (r1 = 0 /\\ r2 = 0)", "", OF_NONE, IS_READ],
+  ["forall (r1 == 1 || r2 == 1)", "", "forall (0:EAX=1 \\/ 1:EAX=1)", IS_READ],
+  ["Can r1 == 0 || r2 != 1 happen?", "", "exists (0:EAX=0 \\/ ~1:EAX=1)", IS_READ],
+  ["x == 1 && r1 == 0 possible?", "", "exists (x=1 /\\ 0:EAX=0)", IS_READ],
+  ["r1 == 1 && r2 == 1 ?", "r1 == 1 && r2 == 1?", OF_BOTH, IS_READ],
+  ["r1 == 1 && r2 == 1 ?", "r1 == 0 && r2 == 0 ?", OF_TRUE, ARE_SEVERAL],
+  ["r1 == 1 && r2 == 1 ?", "is this right?", OF_TRUE, ARE_SEVERAL],
+  ["Can both be 0?", "", OF_TRUE, IS_UNREAD],
+  ["What can happen?", "", OF_TRUE, IS_UNREAD],
+  ["r3 == 0 && r2 == 0 ?", "", OF_TRUE, IS_UNREAD],
+  ["Can r1 == 0 and r2 == 0 never happen?", "", OF_TRUE, IS_UNREAD],
+  ["Is r1 == 0 or r2 == 0 impossible?", "", OF_TRUE, IS_UNREAD],
+  ["Can r1 == 1 unless r2 == 1?", "", OF_TRUE, IS_UNREAD],
+  ["It is not forbidden that r1 == 0 && r2 == 0 never holds", "", OF_TRUE, IS_UNREAD],
+  ["Thread 2: r1 == 1 ?", "", OF_TRUE, IS_UNREAD],
+  ["See https://example.org/?q=1. The store happens before the load.", "", "exists (0:EAX=0 /\\ 1:EAX=0)", ""],
+  ["r1 == 1 && r2 == 1", "", "exists (0:EAX=0 /\\ 1:EAX=0)", ""],
+];
+// Programs whose comments ask of what a function has there and then.
+const ASKED_THERE = [
+  ["a location in a function", ASKED.C.replace("/* R */", "/* y == 1 ? */").replace("// Q", "")],
+  ["a register that is set twice", ASKED.C.replace("/* R */", "/* r2 == 0 ? */ r2 = 5;").replace("// Q", "")],
+  ["a register of two threads", ASKED.C.replace(/r2/g, "r1").replace("// Q", "// r1 == 0 ?").replace("/* R */", "")],
+];
+
 /** Compares the changes of programs that are refused. */
 function compareChanges({ faults }, compare) {
   for (const [name, text, title, parts] of CHANGES) {
@@ -252,6 +322,26 @@ function compareSections({ faults }, compare) {
   }
 }
 
+/** Compares the questions that comments ask, and what is said of them. */
+function compareQuestions({ faults }, compare) {
+  const find = (text) => {
+    const { words, change } = faults.explainFault(makeFault(text), text);
+    return { words, question: /^(?:locations.*\n)?(?:~?exists|forall).*$/m.exec(change?.text ?? "")?.[0] };
+  };
+  for (const [language, program] of Object.entries(ASKED)) {
+    for (const [before, after, expected, part] of QUESTIONS) {
+      const text = program.replace("// Q", before && `// ${before}`).replace("/* R */", after && `/* ${after} */`);
+      const { words, question } = find(text);
+      const isSaid = part ? words.includes(part) : !/\bcomments?\b/.test(words);
+      compare(`the question of the comments ${before} and ${after} in ${language}`, [expected, true], [question, isSaid]);
+    }
+  }
+  for (const [name, text] of ASKED_THERE) {
+    const { words, question } = find(text);
+    compare(`the question of a comment on ${name}`, [true, true], [question?.endsWith("exists (true)"), words.includes(IS_UNREAD)]);
+  }
+}
+
 /**
  * Compares what the page changes and what it counts, by its own modules.
  * @param {function(string, any, any)} compare
@@ -260,6 +350,7 @@ export async function compareChangedPrograms(compare) {
   const page = await loadModules(["faults"]);
   compareChanges(page, compare);
   compareSections(page, compare);
+  compareQuestions(page, compare);
 }
 
 await runAlone(import.meta.url, compareChangedPrograms);
