@@ -6,6 +6,7 @@ import { guessProposition } from "./guess_question.js";
 import { makeBlock } from "./initial_values.js";
 import { findRewriting } from "./notation.js";
 import { isRead } from "./other_tools.js";
+import { readAnnotations } from "./pseudo_annotations.js";
 import { EVENTS, hasOutcome, readPseudoText } from "./pseudo_lines.js";
 import { rewritePseudoProgram } from "./pseudo_program.js";
 import { REGISTERS } from "./token_reader.js";
@@ -158,7 +159,7 @@ function nameRegisters(text, codes, own) {
  * @returns {Hint | null}
  */
 export function explainPseudoCode(text) {
-  const read = text.length > LONGEST || TABLE.test(text) || NO_COMMENT.test(text) || EVENTS.test(text) ? null : readPseudoCode(text);
+  const read = text.length > LONGEST || readAnnotations(text) || TABLE.test(text) || NO_COMMENT.test(text) || EVENTS.test(text) ? null : readPseudoCode(text);
   if (!read) return null;
   const { head, language, codes, own, asked } = read;
   const rows = Array.from({ length: Math.max(...codes.map((it) => it.length)) }, (_, row) => codes.map((it) => it[row] ?? ""));

@@ -7,6 +7,7 @@ import { numberThreads } from "./assembly.js";
 import { rewriteProgram } from "./c_program.js";
 import { IN_SECTION, OF_LOST, OF_SECTION } from "./c_sections.js";
 import { explainMade } from "./other_tools.js";
+import { NO_ANNOTATIONS, OF_ANNOTATIONS, readAnnotations } from "./pseudo_annotations.js";
 import { Doubt, makeDoubt } from "./pseudo_doubts.js";
 import { findPseudoThreads, hasOutcome, OF_OUTCOME } from "./pseudo_lines.js";
 import { enterAtOnce } from "./pseudo_loops.js";
@@ -326,8 +327,21 @@ export function rewritePseudoProgram(text) {
   return latest.test;
 }
 
-/** Rewrites a text, as `rewritePseudoProgram` does for a text that is not the last one. */
+/** Rewrites a text, as `rewritePseudoProgram` does for a text that is not the last one. Words beside its loads are its question, if it has no other one. */
 function rewriteText(text) {
+  const annotated = readAnnotations(text);
+  if (!annotated) return rewriteBare(text);
+  const bare = rewriteBare(annotated.text);
+  if (!bare?.made || bare.asked) return bare;
+  const asking = annotated.question ? rewriteBare(`${annotated.text.trimEnd()}\n\n${annotated.question}\n`) : null;
+  const isLoaded = (name) => new RegExp(`\\bis ${name}(?=,| \\*)`).test(asking.made);
+  if (asking?.made && asking.asked && annotated.names.every(isLoaded)) return { ...asking, said: asking.said + OF_ANNOTATIONS };
+  const open = rewriteBare(`${annotated.text.trimEnd()}\n\nexists (true)\n`);
+  return open?.made ? { ...open, said: open.said + NO_ANNOTATIONS } : open;
+}
+
+/** Rewrites a text in which no words are beside loads. */
+function rewriteBare(text) {
   const processes = writeProcesses(text);
   const rewrite = (read, isEntry) => {
     const { program, ...asks } = writeProgram(read, isEntry);
