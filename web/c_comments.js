@@ -49,11 +49,15 @@ function listNames(made) {
   return { own, locations: [...block.matchAll(/(\w+)=/g)].map(([, name]) => name) };
 }
 
-/** Returns the names that a comment at an index asks of: in a function, those of registers that are set once, since others may be asked of there and then. */
-function listAskedNames(text, index, made) {
+/**
+ * Returns the names that a comment at an index asks of: in a function, or beside a line of pseudo code, those of registers that are set once, since others
+ * may be asked of there and then.
+ */
+function listAskedNames(text, index, made, isPseudo) {
   const { own, locations } = listNames(made);
   const blanked = text.replace(COMMENT, (it) => it.replace(/[^\n]/g, " "));
-  const isOutside = blanked.slice(0, index).split("{").length === blanked.slice(0, index).split("}").length;
+  const isBeside = isPseudo && /\S[^\n]*$/.test(blanked.slice(0, index));
+  const isOutside = blanked.slice(0, index).split("{").length === blanked.slice(0, index).split("}").length && !isBeside;
   const isAtEnd = /\bmain\b/.test(blanked.slice(0, index)) && /^\s*(?:return 0;\s*)?[}\s]*$/.test(blanked.slice(index));
   if (isOutside || isAtEnd) return { own, locations };
   const isOnce = (name) => [...blanked.matchAll(new RegExp(`(?<![\\w.])${name}\\s*(?:=(?!=)|[-+*/|&^]=|\\+\\+|--|\\{|\\()`, "g"))].length < 2;
@@ -100,28 +104,40 @@ function quote(words) {
   return `\`${line.length > LONGEST ? `${line.slice(0, LONGEST - 2)}..` : line}\``;
 }
 
-/** Returns the test of a program that asks nothing, with a sentence on why (`asks`). */
-function askNothing(text, rewrite, asks, index) {
-  const other = rewrite(`${text}\n// lw: exists (true)\n`);
+/** Returns the test that a function makes with a question that asks nothing, with a sentence on why (`asks`). */
+function askNothing(ask, asks, index) {
+  const other = ask("exists (true)");
   return other?.made ? { ...other, asks } : { why: `a comment:${asks.replace(/\.$/, "")}`, index };
 }
 
 /**
- * Returns what a function makes of a program, with the question of its only comment that asks, if the program itself asks nothing. `asks` is a sentence on
- * the comment then.
+ * Returns a test of a text that asks nothing itself, with the question of its only comment that asks: a function makes it with a question. `asks` is a
+ * sentence on the comment then. Returns the test itself if no comment asks.
+ * @param {string} text
+ * @param {object} test
+ * @param {function(string): object | null} ask
+ * @param {boolean} [isPseudo] whether the text is pseudo code
+ * @returns {object}
+ */
+export function askByComments(text, test, ask, isPseudo = false) {
+  const comments = listAsking(text);
+  if (!comments.length) return test;
+  const questions = comments.map((it) => readComment(it.words, listAskedNames(text, it.index, test.made, isPseudo)));
+  const [{ words, index }] = comments;
+  if (new Set(questions.map((it, at) => it || comments[at].words)).size > 1) return askNothing(ask, OF_SEVERAL, index);
+  const asked = questions[0] && ask(questions[0]);
+  if (asked?.made) return { ...asked, asks: ` The question is that of the comment ${quote(words)}.` };
+  return askNothing(ask, ` The page does not read the question of the comment ${quote(words)}, and guesses none.`, index);
+}
+
+/**
+ * Returns what a function makes of a program, with the question of its only comment that asks, if the program itself asks nothing.
  * @param {string} text
  * @param {function(string): object | null} rewrite
  * @returns {object | null}
  */
 export function rewriteWithComment(text, rewrite) {
   const test = rewrite(text);
-  if (!test?.made || !(test.isGuess || test.sections)) return test;
-  const comments = listAsking(text);
-  if (!comments.length) return test;
-  const questions = comments.map((it) => readComment(it.words, listAskedNames(text, it.index, test.made)));
-  const [{ words, index }] = comments;
-  if (new Set(questions.map((it, at) => it || comments[at].words)).size > 1) return askNothing(text, rewrite, OF_SEVERAL, index);
-  const asked = questions[0] && rewrite(`${text}\n// lw: ${questions[0]}\n`);
-  if (asked?.made) return { ...asked, asks: ` The question is that of the comment ${quote(words)}.` };
-  return askNothing(text, rewrite, ` The page does not read the question of the comment ${quote(words)}, and guesses none.`, index);
+  const asksNothing = test?.made && (test.isGuess || test.sections);
+  return asksNothing ? askByComments(text, test, (question) => rewrite(`${text}\n// lw: ${question}\n`)) : test;
 }

@@ -4,6 +4,7 @@
 // Initial words are by the names that have them, with those of an array in a list.
 
 import { numberThreads } from "./assembly.js";
+import { askByComments } from "./c_comments.js";
 import { rewriteProgram } from "./c_program.js";
 import { IN_SECTION, OF_LOST, OF_SECTION } from "./c_sections.js";
 import { explainMade } from "./other_tools.js";
@@ -340,8 +341,17 @@ function rewriteText(text) {
   return open?.made ? { ...open, said: open.said + NO_ANNOTATIONS } : open;
 }
 
-/** Rewrites a text in which no words are beside loads. */
+/** Rewrites a text in which no words are beside loads, and that may ask in a comment. */
 function rewriteBare(text) {
+  const test = rewriteUnasked(text);
+  if (!test?.made || test.asked) return test;
+  const program = test.program.replace(/\/\/ lw:.*\n$/, "");
+  const ask = (question) => ({ ...test, made: undefined, asked: question, ...rewriteProgram(`${program}// lw: ${question}\n`) });
+  return askByComments(text, test, ask, true);
+}
+
+/** Rewrites a text as if no comment asked. */
+function rewriteUnasked(text) {
   const processes = writeProcesses(text);
   const rewrite = (read, isEntry) => {
     const { program, ...asks } = writeProgram(read, isEntry);
