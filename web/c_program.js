@@ -7,6 +7,7 @@ import { alignCells } from "./aligned.js";
 import { CallWriter } from "./c_calls.js";
 import { findClosing, parseConstant, refusePart } from "./c_code.js";
 import { ConditionWriter } from "./c_conditions.js";
+import { rewriteDialect } from "./c_dialects.js";
 import { applyEdits } from "./c_edits.js";
 import { areEntering, findEither, findEntry, formatList, guessQuestion } from "./c_guess.js";
 import { needsWords, writeKnown } from "./c_known_threads.js";
@@ -329,7 +330,21 @@ function isRead(text) {
  *   why?: string, index?: number}}
  */
 export function rewriteProgram(text, meaning = "") {
-  return rewriteJoined(text.replace(SEPARATED, (it) => it.replaceAll("'", "").padEnd(it.length)), meaning);
+  const joined = text.replace(SEPARATED, (it) => it.replaceAll("'", "").padEnd(it.length));
+  const test = rewriteJoined(joined, meaning);
+  return test.made ? test : rewriteOther(joined, meaning, test.index) ?? test;
+}
+
+/** Returns what `rewriteProgram` does of a program in the form of another tool, which is `refused` at an index; null of one in its own form. */
+function rewriteOther(text, meaning, refused) {
+  try {
+    const edited = rewriteDialect(text, refused);
+    if (!edited) return null;
+    const { index, ...test } = rewriteJoined(edited.text, meaning);
+    return { ...test, index: index === undefined ? undefined : edited.findIndex(index) };
+  } catch ({ message, index }) {
+    return { why: message, index };
+  }
 }
 
 /** Returns what `rewriteProgram` does of a program without marks between digits. */

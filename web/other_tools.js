@@ -21,7 +21,7 @@ const OTHERS = /^(?:AArch64|ARM|PPC|RISCV|MIPS)$/i;
 const C_COMMENTS = /^(?:\s|\/\/.*|\/\*[^]*?\*\/)*/;
 const C = new RegExp(
   "^(?:C\\s|(?:\\{[^{}]*\\}\\s*)?P0\\s*\\([^(){};|]*\\*[^(){};|]*\\)\\s*\\{|#[ \\t]*(?:include|define|pragma|if|ifdef|ifndef)\\b|" +
-    "using\\s|(?:inline\\s+)?namespace\\b|extern\\s+\"C|alignas\\b|template\\b|typedef\\s|\\[\\[|" +
+    "using\\s|(?:inline\\s+)?namespace\\b|TEST\\s*\\(\\s*\\w+\\s*,|union\\s|extern\\s+\"C|alignas\\b|template\\b|typedef\\s|\\[\\[|" +
     "(?:(?:extern|static|inline|volatile|const|constexpr|thread_local|_Atomic)\\s+)*" +
     "(?:class\\s+\\w+[\\w\\s]{0,40}\\{|enum\\s*(?:(?:class|struct)\\s+)?(?:\\w+\\s*)?(?::\\s*[\\w:]+\\s*)?\\{|" +
     "(?:atomic_\\w+|int|void|(?:un)?signed|long|short|char|s?size_t|bool|auto|struct|u?int(?:\\d+|ptr)_t|pthread_(?:\\w+_)?t|" +

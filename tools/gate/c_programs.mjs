@@ -2333,6 +2333,111 @@ void P1(void) { int r1 = y; int r2 = buf[0]; if (r1 < 1) z = 1; }
 locations [0:EAX; 1:EAX; 1:EBX; z]
 exists (true)
 `],
+  ["no question, and threads of CppMem", `int main() {
+  atomic_int x = 0; atomic_int y = 0;
+  {{{ { x.store(1, memory_order_relaxed); r1 = y.load(memory_order_relaxed); }
+  ||| y.store(1, memory_order_relaxed);
+  }}};
+  return 0;
+}
+`, `X86 Mine
+(* 0:EAX is r1 *)
+{ x=0; y=0; }
+ P0          | P1         ;
+ MOV [x],$1  | MOV [y],$1 ;
+ MOV EAX,[y] |            ;
+locations [x]
+exists (0:EAX=0)
+`],
+  ["threads of CppMem, and what they read", `int main() {
+  atomic_int x=0;
+  int y=0;
+  {{{ { y=1; x.store(1,memory_order_release); }
+  ||| { r1=x.load(memory_order_acquire).readsvalue(1); r2=y.readsvalue(0); } }}}
+  return 0; }
+`, `X86 Mine
+(* 1:EAX is r1, 1:EBX is r2 *)
+{ x=0; y=0; }
+ P0         | P1          ;
+ MOV [y],$1 | MOV EAX,[x] ;
+ MOV [x],$1 | MOV EBX,[y] ;
+exists (1:EAX=1 /\\ 1:EBX=0)
+`],
+  ["a load of CppMem that has no register", `int main() {
+  atomic_int x=0;
+  {{{ x.store(1, memory_order_relaxed);
+  ||| x.load(memory_order_relaxed).readsvalue(1);
+  }}}
+}
+`, "`x.load(memory_order_relaxed).readsvalue(..`: what a load reads is asked of a register, as `r1 = x.load(memory_order_acquire).readsvalue(1)`"],
+  ["no question, and references", `std::atomic<int> x{0}, y{0};
+auto& shared = x;
+void P0() { auto& a = y; shared.store(1, std::memory_order_relaxed); int r1 = a.load(std::memory_order_relaxed); }
+void P1() { std::atomic<int> &a = x; y.store(1, std::memory_order_relaxed); int r2 = a.load(std::memory_order_relaxed); }
+`, `X86 Mine
+(* 0:EAX is r1, 1:EAX is r2 *)
+{ x=0; y=0; }
+ P0          | P1          ;
+ MOV [x],$1  | MOV [y],$1  ;
+ MOV EAX,[y] | MOV EAX,[x] ;
+exists (0:EAX=0 /\\ 1:EAX=0)
+`],
+  ["a reference whose name is declared again", `std::atomic<int> x{0}, y{0};
+auto& a = x;
+void P0() { int a = 1; y = a; }
+void P1() { a = 1; int r2 = y; }
+`, "`auto& a = x;`: a reference is another name of a variable, and it is not sure of which one here, so write the variable in its place"],
+  ["a reference to a name that is declared again", `std::atomic<int> x{0}, y{0};
+auto& a = x;
+void P0() { int x = 1; a = x; }
+void P1() { a = 1; int r2 = y; }
+`, "`auto& a = x;`: a reference is another name of a variable, and it is not sure of which one here, so write the variable in its place"],
+  ["no question, letters, and orders that are numbers", `int x, y; volatile char c;
+void P0(void) { __atomic_store_n(&x, 1, 5); c = 'A'; putchar('B'); int r1 = __atomic_load_n(&y, 5); }
+void P1(void) { __atomic_store_n(&y, '\\0', 3); __atomic_thread_fence(5); int r2 = __atomic_load_n(&x, 2); if (c == 'A') c = '\\n'; }
+`, `X86 Mine
+(* 0:EAX is r1, 1:EAX is r2 *)
+{ x=0; y=0; c=0; }
+ P0           | P1          ;
+ MOV EBX,$1   | MOV [y],$0  ;
+ XCHG [x],EBX | MFENCE      ;
+ MOV [c],$65  | MOV EAX,[x] ;
+ MOV EAX,[y]  | MOV EBX,[c] ;
+              | CMP EBX,$65 ;
+              | JNE END     ;
+              | MOV [c],$10 ;
+              | END:        ;
+locations [0:EAX; 1:EAX; c]
+exists (true)
+`],
+  ["an order that has no number", `int x;
+void P0(void) { __atomic_store_n(&x, 1, 7); }
+void P1(void) { int r2 = x; }
+`, "`__atomic_store_n(&x, 1, 7)`: write what the function does in its place"],
+  ["a variable of each thread", `std::atomic<int> x{0}, y{0};
+thread_local int t;
+void P0() { t = 1; x = t; }
+void P1() { t = 2; y = t; }
+`, "`thread_local int t`: each thread has its own variable of this name, so declare it in the functions of the threads, as `int t = 0;`"],
+  ["a test of GoogleTest", `TEST(Litmus, SB) {
+  std::atomic<int> x{0}, y{0};
+  int r1 = 0, r2 = 0;
+  std::thread t1([&] { x.store(1, std::memory_order_relaxed); r1 = y.load(std::memory_order_relaxed); });
+  std::thread t2([&] { y.store(1, std::memory_order_relaxed); r2 = x.load(std::memory_order_relaxed); });
+  t1.join(); t2.join();
+  EXPECT_FALSE(r1 == 0 && r2 == 0) << "both are 0";
+}
+`, `X86 Mine
+(* 0:EAX is r1, 1:EAX is r2 *)
+{ x=0; y=0; }
+ P0          | P1          ;
+ MOV [x],$1  | MOV [y],$1  ;
+ MOV EAX,[y] | MOV EAX,[x] ;
+~exists (0:EAX=0 /\\ 1:EAX=0)
+`],
+  ["two tests of GoogleTest", `TEST(A, B) { std::atomic<int> x{0}; std::thread t([&] { x = 1; }); t.join(); EXPECT_EQ(x.load(), 1); }
+TEST(A, C) { std::atomic<int> x{0}; std::thread t([&] { x = 2; }); t.join(); EXPECT_NE(x.load(), 1); }
+`, "`TEST(A, C)`: the page takes one test of several, so leave out the others"],
   ["a loop of loads of a word that is not known", `std::atomic<int> seq{0}; std::atomic<int> d;
 void w() { int s = seq; s += s; s += 3; seq = s; }
 void r() { int a, b; do { a = seq.load(std::memory_order_acquire); b = d; } while (a * a / 3 != b + (a && b ? 1 : 2)); }
