@@ -47,8 +47,8 @@ const ENCLOSED = /^\((?!\s*\))([^()]*)\)$|^\{([^{}]*)\}$/;
 const PSEUDO_MOVE = /^(?:mov|xchg)\s+(?:\[\s*_?\w+\s*\]\s*,\s*(?:\d+|r[0-7])|r[0-7]\s*,\s*(?:\d+|r[0-7]|\[\s*_?\w+\s*\]))$/i;
 // Names of threads by what they do, which become numbers.
 const ROLES = new RegExp(
-  "(?<=^|[ \\t]{2}|\\t|\\|[ \\t]*|\\/\\/[ \\t]*)(?:producer|consumer|writer|reader|sender|receiver|alice|bob)(?:[ \\t]+(?:thread|process))?" +
-    "(?=[ \\t]*(?:\\([ \\t]*\\)[ \\t]*)?(?::(?!=)|\\{|\\||$)|[ \\t]{2}|\\t)",
+  "(?<=^|[ \\t]{2}|\\t|\\|[ \\t]*|\\/\\/[ \\t]*|\\/\\*[ \\t]*)(?:producer|consumer|writer|reader|sender|receiver|alice|bob)(?:[ \\t]+(?:thread|process))?" +
+    "(?=[ \\t]*(?:\\([ \\t]*\\)[ \\t]*)?(?::(?!=)|\\{|\\||\\*\\/|$)|[ \\t]{2}|\\t)",
   "gim",
 );
 // Why parts of a text are not sure.
@@ -63,7 +63,7 @@ export const OF_OUTCOME = "it may be an outcome or a statement, so ask for an ou
 // Pieces of a line with gaps between them.
 const PIECE = /\S+(?: \S+)*/g;
 // How a line begins that stores, and a line that is or begins with a whole assignment.
-const STORE = /^\w[\w[\]]*\s*(?::=|=|<-|\u2190)|^(?:mov|xchg)\b/i;
+const STORE = /^\w[\w[\]]*\s*(?::=|=|<-|\u2190)|^(?:mov|xchg)\b|^\w+(?:\.|->)(?:store|exchange|fetch_add)\s*\(/i;
 const STATEMENT = /^\s*[A-Za-z_][\w[\]]*\s*(?::=|<-|\u2190|=)(?!=)\s*\w+(?:\s*[+-]\s*\w+)?\s*(?:[;|]|$|\s{2})/;
 // Words that numbers follow with commas between them.
 const SET_BY_COMMAS = /^(?:[A-Za-z_]\w*\s*(?::=|<-|\u2190|=)\s*\d+\s*,\s*)+[A-Za-z_]\w*\s*(?::=|<-|\u2190|=)\s*\d+[.;]?$/;
@@ -139,7 +139,9 @@ function dropComment(line) {
 /** Returns a text in which threads that are named by what they do have numbers; the same text if there are not two names. */
 function numberRoles(text) {
   const names = [...new Set((text.match(ROLES) ?? []).map((it) => it.toLowerCase()))];
-  return names.length < 2 ? text : text.replace(ROLES, (it) => `P${names.indexOf(it.toLowerCase())}`.padEnd(it.length));
+  if (names.length < 2) return text;
+  const numbered = text.replace(ROLES, (it) => `P${names.indexOf(it.toLowerCase())}`.padEnd(it.length));
+  return numbered.replace(/\/\*[ \t]*(P\d)[ \t]*\*\//g, (it, name) => `/* ${name} */`.padEnd(it.length));
 }
 
 /** Returns the first one of the numbers of threads, 0 if they have none; NaN if they are not in order. */

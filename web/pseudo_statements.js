@@ -39,11 +39,14 @@ const LOADS = /(?<=(?::=|<-|←|=)\s*)(?:load|read)\s*(?:\(\s*\[?(\w+)\]?\s*\)|\
 const SWAP = /^xchg\s+(?:\[\s*_?(\w+)\s*\]\s*,\s*(\w+)|(\w+)\s*,\s*\[\s*_?(\w+)\s*\])$/i;
 const MOVE = /^mov[lq]?\s+([^\s,<][^,<]*?)\s*(?:,|<-)\s*(.+)$/i;
 const EXPRESSION = /^[\w\s+()[\]-]+$/;
-const CONDITION = /^[\w\s=!&|()[\]+.,:-]+$/;
+const CONDITION = /^(?:[\w\s=!&|()[\]+.,:-]|[<>](?![<>]))+$/;
 // A call of an atomic variable or function in C++ or C, code with one, and an order of memory by its short name.
 const CALL = /\b\w+(?:\.|->)(?:store|load|exchange|fetch_\w+|test_and_set|clear)\s*\(|\batomic_\w+\s*\(/;
 const CODE_WITH_CALL = /^(?:\w+\s*=\s*)?[\w\s()[\]&+.,:>-]+$/;
 const ORDER = /(?<![\w:])(?:mo_|memory_order_)?(relaxed|consume|acquire|release|acq_rel|seq_cst)\b/g;
+// The same as the last argument, by three letters.
+const SHORT_ORDER = /(?<=[(,]\s*)(?:mo_)?(rlx|acq|rel|sc|ar|acqrel)(?=\s*[,)])/gi;
+const SHORT_ORDERS = { rlx: "relaxed", acq: "acquire", rel: "release", sc: "seq_cst", ar: "acq_rel", acqrel: "acq_rel" };
 const KERNEL_LOAD = /\b(?:READ_ONCE|smp_load_acquire)\s*\(\s*&?(\w+)\s*\)/g;
 const KERNEL_STORE = /^(?:WRITE_ONCE|smp_store_release)\s*\(\s*&?(\w+)\s*,\s*(.+)\)$/;
 // Instructions of processors in pseudo code, with what does the same in C; and a lock that a thread gets or gives back.
@@ -80,7 +83,8 @@ export function toC(code) {
 
 /** Returns code in which each order of memory has its whole name. */
 function nameOrders(code) {
-  return code.replace(ORDER, "std::memory_order_$1");
+  const whole = code.replace(SHORT_ORDER, (_, short) => SHORT_ORDERS[short.toLowerCase()]);
+  return whole.replace(ORDER, "std::memory_order_$1");
 }
 
 /** Returns code in which instructions of processors are functions of C. */
@@ -102,6 +106,8 @@ function refuseOldWord(code) {
  */
 export function toCondition(code) {
   refuseOldWord(code);
+  // An arrow may be a sign and a negative number.
+  if (/<\s*-/.test(code)) throw new Unread();
   const condition = toC(nameAtomics(code.replace(KERNEL_LOAD, "$1"))).replace(/(?<![=!<>])=(?!=)/g, "==");
   if (!CONDITION.test(condition) || !condition.trim() || TAKEN.test(condition)) throw new Unread();
   return nameOrders(condition);
