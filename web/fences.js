@@ -6,6 +6,7 @@ import { ask } from "./ask.js";
 import { makeEndTest } from "./condition_words.js";
 import { el, makeButton, makePlainMark, renderSentence } from "./dom.js";
 import { insertFenceSet } from "./fence_edit.js";
+import { describeFence } from "./fence_words.js";
 import { Film, makeWatchButton } from "./film.js";
 import * as guess from "./guess.js";
 import { describeMapping, listVariables } from "./register_names.js";
@@ -18,11 +19,11 @@ const MAX_SHOWN = 4;
 // The search for further fences that nobody has asked for: how many lists it may make, and after how many milliseconds it begins no further one.
 const AT_ONCE = { lists: 16, milliseconds: 1000 };
 const REACHABLE = "What is asked about is reachable with all locks. Once fences forbid it, a lock that changes nothing here may be needed: ask again then.";
-const IN_PROGRAM =
-  "In the program this fence is `std::atomic_thread_fence(std::memory_order_seq_cst)` at that place; or the last store before it becomes seq_cst, which " +
-  "is an `XCHG` on x86.";
 const UNASKED = "The test asks nothing, so a fence may matter for what no list names: ask what must not happen.";
 const OWN_FIRST = "First try fences of your own: this answers once the test has an `MFENCE`.";
+// Of a test to be repaired this answers on the reader's own fences only.
+const OWN_FORBIDS = "With your fences no run ends as the test asks.";
+const OWN_FAILS = "With your fences a run still ends as the test asks: try others, or say why none helps.";
 const ENDED = "States in which a wait has not ended are left out here.";
 const TOGETHER = "Two that change nothing alone may matter together.";
 const BY_CLICK = "In Watch and By hand “+ fence” puts a fence between two instructions, where the pointer is, and “✕ fence” takes it out.";
@@ -65,7 +66,7 @@ export class Fences {
     this.clear();
     this.askedOf = this.editor.text;
     clearFault(this.editor);
-    if (address.read().fences === "own" && /^\s*X86\b(?![^]*\bmfence\b)/i.test(blankComments(this.editor.text))) {
+    if (isToRepair(this.editor.text) && !/\bmfence\b/i.test(blankComments(this.editor.text))) {
       this.choice.hidden = true;
       this.place.append(el("p", { class: "notice" }, ...renderSentence(OWN_FIRST)));
       return null;
@@ -86,9 +87,16 @@ export class Fences {
     const isPartial = isUnasked(answer) && !this.everything.checked;
     const ended = makeEndTest(this.editor.text) ? el("p", { class: "small" }, ENDED) : "";
     this.place.append(...this.makeParts(answer), isPartial ? el("p", { class: "notice" }, UNASKED) : "", ended);
+    if (isToRepair(fields.text)) return this.showOwn(answer);
     if (answer.table.answered_by.includes("plain")) return;
     this.offerExchanges(answer);
     this.offerMore(answer);
+  }
+
+  /** Says whether the reader's own fences repair a test, and nothing of others. */
+  showOwn(answer) {
+    const isExists = answer.condition.includes("exists");
+    if (isExists && !isUnasked(answer)) this.place.append(el("p", { class: "next-step" }, isForbidden(answer) ? OWN_FORBIDS : OWN_FAILS));
   }
 
   /** Shows which exchanges need their lock, if there are some; a button offers to look for that if it takes many lists. */
@@ -213,8 +221,10 @@ export class Fences {
     const others = more ? [el("p", { class: "small" }, `And ${more} other sets of as many fences.`)] : [];
     const head = el("p", { class: "next-step" }, el("b", {}, `The fewest fences that ${goal}:`));
     const note = el("p", { class: "small" }, "The page itself puts the fences into the text ", makePlainMark(), ". The lists come from lw.");
-    const inProgram = listVariables(this.editor.text).size ? el("p", {}, renderSentence(IN_PROGRAM)) : null;
-    return [head, el("ul", { class: "fence-sets" }, rows), ...others, ...(inProgram ? [inProgram] : []), note];
+    const { from, compiled } = address.read();
+    const isOfProgram = (from && compiled) || listVariables(this.editor.text).size;
+    const inProgram = isOfProgram ? [el("p", { class: "in-program" }, renderSentence(describeFence(from)))] : [];
+    return [head, el("ul", { class: "fence-sets" }, rows), ...others, ...inProgram, note];
   }
 
   /** Says why there is no table, and offers a search if it would take too long. */
@@ -260,6 +270,11 @@ export class Fences {
     const watch = (line) => makeWatchButton(line, () => this.film.show(line, { text, of, search: this.isSearched }));
     return el("tr", {}, el("th", { scope: "row" }, name), el("td", {}, effect), el("td", {}, makeStateLines(added, watch)));
   }
+}
+
+/** Returns whether the link asks for the reader's own fences in an x86 test: it is to be repaired. */
+function isToRepair(text) {
+  return address.read().fences === "own" && /^\s*X86\b/i.test(blankComments(text));
 }
 
 /** Returns whether no state is against a question: its condition holds in none, or of `forall` in all. */

@@ -61,12 +61,42 @@ const ENDED = [
   ["", "exists (n=1)", null],
 ];
 
+const OF_C = "`atomic_thread_fence(memory_order_seq_cst)`";
+const OF_HEADER = `${OF_C} of \`<stdatomic.h>\``;
+const OF_STORE = "; or the last store before it becomes seq_cst, if that is an atomic store: it is an `XCHG` on x86 then.";
+const PLACE = " at that place";
+// Programs, and the fence that the sentence on them names; and whether a store may be in its place.
+const PROGRAMS = [
+  ["#include <pthread.h>\nvolatile int x, y;\nvoid *a(void *p) { x = 1; int r = y; }", OF_HEADER, false],
+  ["#include <stdatomic.h>\natomic_int x, y;\nvoid a() { atomic_store_explicit(&x, 1, memory_order_relaxed); }", OF_C, true],
+  ["#include <stdatomic.h>\n_Atomic int x; volatile int y;", OF_C, true],
+  // A program that has a fence, and no atomic variable; and one whose comment is of C++.
+  ["#include <stdatomic.h>\nvolatile int x;\nvoid a() { x = 1; atomic_thread_fence(memory_order_release); }", OF_C, false],
+  ["// as std::atomic<int>, in C\nvolatile int x; /* using namespace std */", OF_HEADER, false],
+  ["C SB\n{}\nP0(atomic_int *x, atomic_int *y) { atomic_store_explicit(x, 1, memory_order_relaxed); }", OF_HEADER, true],
+  ["C SB\n{}\nP0(int *x, int *y) { WRITE_ONCE(*x, 1); int r0 = READ_ONCE(*y); }", "`smp_mb()`", false],
+  ["atomic_t n; void a(void) { atomic_set(&n, 1); }", "`smp_mb()`", false],
+  // Functions and macros of the program itself that are called as the kernel's.
+  ["#include <stdatomic.h>\natomic_int l;\nvoid spin_lock(atomic_int *l) { }", OF_C, true],
+  ["#define READ_ONCE(x) (*(volatile int *)&(x))\nint x; void *a(void *p) { READ_ONCE(x); }\nint main() { pthread_create(); }", OF_HEADER, false],
+  ["int x; void a() { __atomic_store_n(&x, 1, __ATOMIC_RELAXED); }", "`__atomic_thread_fence(__ATOMIC_SEQ_CST)`", true],
+  ["#include <atomic>\nstd::atomic<int> x;", "`std::atomic_thread_fence(std::memory_order_seq_cst)`", true],
+  ["#include <atomic>\nusing namespace std;\natomic_int x;", "`std::atomic_thread_fence(std::memory_order_seq_cst)`", true],
+  ["#include <thread>\nvolatile int x;\nint main() { std::thread a(f); }", "`std::atomic_thread_fence(std::memory_order_seq_cst)`", false],
+  ["static X: AtomicI32 = AtomicI32::new(0);\nfn main() { X.store(1, Ordering::Relaxed); }", "`fence(Ordering::SeqCst)`", true],
+  ["static mut X: i32 = 0;\nfn main() { unsafe { X = 1; } }", "`fence(Ordering::SeqCst)`", false],
+];
+// What is said if the program is not known.
+const UNKNOWN =
+  "In the program this fence is `atomic_thread_fence(memory_order_seq_cst)` in C, the same with `std::` in C++, `fence(Ordering::SeqCst)` in Rust, and " +
+  "`smp_mb()` in the kernel, at that place.";
+
 /**
  * Compares all that is typed in here.
  * @param {function(string, any, any)} compare
  */
 export async function comparePhrases(compare) {
-  const { condition_words } = await loadModules(["condition_words"]);
+  const { condition_words, fence_words } = await loadModules(["condition_words", "fence_words"]);
   for (const [comments, question, words, premise, otherwise = ""] of CONDITIONS) {
     const expected = words === null ? null : { words, premise, otherwise };
     compare(`the condition ${comments}${question} in words`, expected, condition_words.describeCondition(makeTest(comments, question)));
@@ -75,6 +105,11 @@ export async function comparePhrases(compare) {
     const hasEnded = condition_words.makeEndTest(makeTest(comments, question));
     compare(`where waits have ended: ${comments}${question}`, ended, hasEnded && STATES.flatMap((it, at) => (hasEnded(it) ? [at] : [])));
   }
+  for (const [program, fence, hasStores] of PROGRAMS) {
+    const expected = `In the program this fence is ${fence}${PLACE}${hasStores ? OF_STORE : "."}`;
+    compare(`a fence in ${JSON.stringify(program)}`, expected, fence_words.describeFence(program));
+  }
+  compare("a fence in an unknown program", UNKNOWN, fence_words.describeFence(undefined));
 }
 
 await runAlone(import.meta.url, comparePhrases);

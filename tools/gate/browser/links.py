@@ -204,6 +204,12 @@ class Links(PageCase):
         user.run_text(BUFFERED.replace(" MOV EAX", " MFENCE | ;\n MOV EAX", 1))
         user.click("#tab-fences")
         self.assertSoon(True, lambda: bool(user.all("#fences table")))
+        # One fence is not enough: the page says so, and proposes no other one.
+        self.assertSays("With your fences a run still ends as the test asks: try others, or say why none helps.", "#fences .next-step")
+        self.assertEqual([], user.all("#fences .more-fences *, #fences .fence-sets, #fences .take, #fences .locks *"))
+        user.run_text(BUFFERED.replace(" MOV EAX", " MFENCE | MFENCE ;\n MOV EAX", 1))
+        user.click("#tab-fences")
+        self.assertSays("With your fences no run ends as the test asks.", "#fences .next-step")
         user.open_listed(f"#text={quote(BUFFERED)}")
         user.click("#tab-fences")
         self.assertSoon([], lambda: user.all("#fences .notice"))
