@@ -12,6 +12,14 @@ const OF_COMPILERS = "A compiler may also reorder or merge its relaxed and plain
 /** The fields of the address: the code, and whether a compiler is to compile it. */
 export const NO_CODE = { from: null, compiled: null };
 
+// The fields of the code that is shown.
+let shown = NO_CODE;
+
+/** Returns the fields of the code that is shown: a test that the page makes of the one in the editor keeps it. */
+export function findShownCode() {
+  return shown;
+}
+
 /**
  * Keeps the code from which the test in the editor was made.
  * @param {string} code
@@ -35,6 +43,7 @@ export function followCode(before, text) {
 /** Shows the code that the address has, or nothing. */
 export function showCode() {
   const { from: code, compiled } = address.read();
+  shown = { from: code, compiled };
   const place = findById("made-from");
   if (!code) return place.replaceChildren();
   const whole = el("details", {}, el("summary", {}, "The code that this test was made from"), el("pre", {}, code));

@@ -12,7 +12,7 @@ import { decodeFile } from "./files.js";
 import { Gallery } from "./gallery.js";
 import * as guess from "./guess.js";
 import { lightNames } from "./lighting.js";
-import { followCode, NO_CODE, showCode } from "./made_from.js";
+import { findShownCode, followCode, NO_CODE, showCode } from "./made_from.js";
 import { isStill } from "./motion.js";
 import { copy, makeFileName, save } from "./output.js";
 import { Own } from "./own.js";
@@ -48,7 +48,7 @@ const CHOICES = { predict: null, fences: null, beside: null, beside_text: null, 
 const NOWHERE = { text: null, example: null, state: null, own: null, step: null, run: null, protocol: null, schedule: null, view: null };
 
 const editor = new Editor(findById("editor"), followChange);
-const own = new Own(editor, (text) => take(text, { text }, true));
+const own = new Own(editor, (text, code) => take(text, { text, ...code }, true));
 const present = new Present();
 const why = new Why(editor, watchState, (line) => states.strip.explain(line));
 const states = new States(findById("outcome"), editor, () => updateOffers(), {
@@ -254,10 +254,10 @@ async function take(text, where, isOwn = false) {
   scrollToAnswers();
 }
 
-/** Puts a text into the editor of which a panel has shown the answer: there is nothing left to predict. */
+/** Puts a text into the editor that a panel has made of the one there, and of which it has shown the answer: there is nothing left to predict. */
 function takeKnown(text) {
   if (guess.isAwaited(text)) guess.settle(text, null);
-  take(text, { text });
+  take(text, { text, ...findShownCode() });
 }
 
 /** Shows which example the text in the editor is, if it is one, whether it is the reader's own, and what is beside it. */

@@ -1,17 +1,18 @@
 // Keeps the last test that the reader has written or opened, when another takes its place in the editor, so that it can be brought back.
 
 import { findById } from "./dom.js";
+import { findShownCode } from "./made_from.js";
 
 const KEY = "own";
 
 /** The reader's last own test. */
 export class Own {
-  /** Takes what was kept. `bring` takes a text back into the editor. */
+  /** Takes what was kept. `bring` takes a text back into the editor, with the fields of the code from which it was made. */
   constructor(editor, bring) {
     this.editor = editor;
     this.bringText = bring;
     this.isHere = false;
-    this.kept = readStored();
+    [this.kept, this.code] = readStored();
     findById("bring-back").addEventListener("click", () => this.bring());
   }
 
@@ -29,31 +30,31 @@ export class Own {
   /** Keeps the text in the editor, if it is the reader's own: another is about to take its place. */
   keep() {
     if (!this.isHere || !this.editor.text.trim()) return;
-    this.kept = this.editor.text;
-    store(this.kept);
+    [this.kept, this.code] = [this.editor.text, findShownCode()];
+    store([this.kept, this.code]);
   }
 
   /** Brings back what is kept. Returns whether there is something. */
   bring() {
     if (this.kept === null) return false;
-    this.bringText(this.kept);
+    this.bringText(this.kept, this.code);
     return true;
   }
 }
 
-/** Returns the reader's own test, as it is stored, or null. */
+/** Returns the reader's own test and the fields of its code, as they are stored; null in place of a test if there is none. */
 function readStored() {
   try {
-    return sessionStorage.getItem(KEY);
+    return JSON.parse(sessionStorage.getItem(KEY)) ?? [null];
   } catch {
-    return null;
+    return [null];
   }
 }
 
-/** Stores the reader's own test. */
-function store(text) {
+/** Stores the reader's own test, and the fields of its code. */
+function store(own) {
   try {
-    sessionStorage.setItem(KEY, text);
+    sessionStorage.setItem(KEY, JSON.stringify(own));
   } catch {
     // Without a store it is kept till the page is loaded anew.
   }

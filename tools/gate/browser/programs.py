@@ -11,6 +11,12 @@ LOCK = (
     "std::atomic<int> l; int n;\nvoid work() { while (l.exchange(1)) {} n++; l.store(0); }\n"
     "int main() { std::thread a(work), b(work); a.join(); b.join(); }\n"
 )
+# A program in C whose variables are volatile: no store of it can be seq_cst.
+VOLATILE = (
+    "#include <pthread.h>\nvolatile int x, y, a0, b0;\nvoid *one(void *p) { x = 1; a0 = y; return 0; }\nvoid *two(void *p) { y = 1; b0 = x; return 0; }\n"
+    "int main() { pthread_t a, b; pthread_create(&a, 0, one, 0); pthread_create(&b, 0, two, 0); pthread_join(a, 0); pthread_join(b, 0); "
+    "assert(a0 || b0); }\n"
+)
 # Two threads that wait for each other before they set what the other waits for.
 STUCK = LOCK.replace("int> l;", "int> l, m;").replace("void work() { while (l.exchange(1)) {} n++; l.store(0); }", "void work() { while (!l) {} m = 1; }")
 # A run of the lock's test in which the second wait has not ended.
@@ -151,6 +157,26 @@ class MadeFrom(PageCase):
         user.click("#open-gallery")
         user.click("#gallery .card:nth-child(3)")
         self.assertSoon([], lambda: user.all(CODE))
+
+    def test_fences(self) -> None:
+        """*Fences* says what a fence is in the language of the code. A test with the fences that it tries keeps the code, and so does the reader's own test."""
+        user = self.user
+        user.open_listed()
+        user.run_text(VOLATILE)
+        user.click(f"{OFFER} .apply")
+        user.find(CODE)
+        made = user.value()
+        user.click("#tab-fences")
+        sentence = "In the program this fence is atomic_thread_fence(memory_order_seq_cst) of <stdatomic.h> at that place."
+        self.assertSoon(sentence, lambda: user.text("#fences .in-program"))
+        user.click("#fences .take")
+        self.assertSays("Forbidden.", "#outcome .verdict")
+        self.assertSays("The code that this test was made from", CODE)
+        self.assertIn("MFENCE", user.value())
+        user.click("#bring-back")
+        self.assertSoon(made, user.value)
+        user.click(f"{CODE} summary")
+        self.assertEqual(VOLATILE.split(), user.text(f"{CODE} pre").split())
 
 
 SUBJECTS = (Waits, MadeFrom)
