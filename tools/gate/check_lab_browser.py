@@ -244,6 +244,10 @@ def check_own_store(student: Student, answers: Solutions) -> Iterator[Comparison
     differing = [index for index, (buffers, words) in enumerate(steps) if len({find_x(it, words) for it in buffers}) > 1]
     first, last = map(int, require_match(re.search(r"From step (\d+) to step (\d+)", actual)).groups())
     yield "4.2: where they disagree", [*range(first, last + 1)], differing
+    said = re.search(r"Processor 1 would find `(x=\d)` in memory up to\s+step (\d), and its own `(x=\d)` from step (\d) on", actual)
+    before, until, own, since = require_match(said).groups()
+    found = [find_x(buffers[1], words) for buffers, words in steps[: last + 1]]
+    yield "4.2: what processor 1 would find", [before] * (int(until) + 1) + [own] * (last + 1 - int(since)), found
     words_by_row = {name: words.split() for name, words in re.findall(r"^(P\d buffer|Content)(.*)$", actual, re.M)}
     yield "4.2: before the last drain", [[words_by_row["P0 buffer"], words_by_row["P1 buffer"]], words_by_row["Content"]], steps[last]
     student.open_test(4, "D3")

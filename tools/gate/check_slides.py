@@ -47,7 +47,7 @@ LIST = re.compile(r'<pre data-kind="(\w+)" data-test="([\w-]+)">(.*?)</pre>', re
 # The parts of a machine: a thread, memory, and a name with its word, of a kind.
 THREAD = re.compile(r'<section class="thread thr-(\d)">(.*?)</section>', re.S)
 MEMORY = re.compile(r'<section class="memory">(.*?)</section>', re.S)
-ITEM = re.compile(r'<li class="(register|entry|word)[^"]*"><span[^>]*>(\w+)</span> <b>(\d+)</b></li>')
+ITEM = re.compile(r'<li class="(register|entry|word)[^"]*"><span[^>]*>(\w+)</span> <b>(\d+)</b>(?: <i>initial</i>)?</li>')
 OUTWARD = re.compile(r"https?:|\bsrc=|\bhref=|@import|url\((?!#)|(?<!:)//\w")
 # The parts of tests that slides show before the tasks about them: the kind and the test of a text, a list or a picture.
 BEFORE = {("code", "A1"), ("code", "A2"), ("states", "A1-turns"), ("state", "A1-turns"), ("state", "Slip")}
@@ -90,6 +90,8 @@ TINT_TAG = re.compile(r"</?(?:span|tspan)\b[^>]*>")
 GROUND = re.compile(r"--(?:ground|paper): light-dark\((#\w+), (#\w+)\);")
 MIXED = 0.09
 MIN_CONTRAST = 4.5
+# The page's words for the program's: slides have those of the page, and only these.
+VERDICTS = {"Never": "Forbidden", "Sometimes": "Allowed"}
 NUMBERS = ["none", "one", "two", "three", "four"]
 # A page of a printed document.
 PAGE = re.compile(rb"/Type\s*/Page\b")
@@ -120,6 +122,7 @@ def check_page(page: str) -> Iterator[Comparison]:
     shown_kinds = set(re.findall(r'data-kind="(\w+)" data-test="([\w-]+)"', "".join(front)))
     yield "before the tasks no slide shows what they ask for", set(), shown_kinds - BEFORE
     yield "each slide has a note", COUNT, page.count("<aside>")
+    yield "no slide has the program's word for a verdict", [], re.findall(r"\b(?:Never|Sometimes)\b", page)
     yield "no slide shows cache lines", [], re.findall(r">lines [^<]*<", page)
     yield "sheet and slide ask the same of task 1", (True, True), (SAID in page, SAID in " ".join(read_file("docs/LAB.md").split()))
 
@@ -151,7 +154,7 @@ def check_lists(page: str, tests: dict[str, bytes]) -> Iterator[Comparison]:
         _, _, verdict, positive, negative = lines[-1].split()
         number, total = NUMBERS[int(positive)], NUMBERS[count]
         yield f"the counts of {name}", count, int(positive) + int(negative)
-        yield f"the verdict on {name} is in words", True, f"<p>{verdict}: the end that we ask about is {number} of the {total} states.</p>" in page
+        yield f"the verdict on {name} is in words", True, f"<p>{VERDICTS[verdict]}: the end that we ask about is {number} of the {total} states.</p>" in page
 
 
 def list_items(html: str, kind: str) -> list[str]:
@@ -173,6 +176,9 @@ def compare_state(subject: str, html: str, state: State) -> Iterator[Comparison]
     for (number, shown), thread_state in zip(threads, state["threads"]):
         registers = set(list_items(shown, "register"))
         yield f"{subject}: the registers of P{number}", [], sorted(registers - set(format_words(thread_state["registers"])))
+        # In the tests of the slides the last instruction of a thread is the only one that writes its registers.
+        unwritten = re.findall(r'<li class="register initial"><span[^>]*>(\w+)</span>', shown)
+        yield f"{subject}: the registers of P{number} with their initial words", [] if "at its end" in shown else sorted(it.split("=")[0] for it in registers), unwritten
         # The newest entry is on top.
         entries = format_words(thread_state.get("buffer", []))[::-1]
         yield f"{subject}: the store buffer of P{number}", entries, list_items(shown, "entry")

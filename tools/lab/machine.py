@@ -29,6 +29,9 @@ STYLE = """
 .machine .register, .machine .word, .machine .entry, .machine .slot { border: 1px solid; border-radius: .25em; padding: .1em .5em }
 .machine .register { border-color: var(--edge); color: inherit; white-space: nowrap }
 .machine .registers .register > span { font-weight: 600 }
+.machine .register.initial { border-style: dashed; background: none }
+.machine .register.initial b { color: var(--faint); font-weight: 400 }
+.machine .register i { font: italic .62em var(--sans); color: var(--faint) }
 .machine :is(.word, .entry) { background: color-mix(in srgb, currentColor 9%, var(--paper)); font-weight: 600 }
 .machine b { color: var(--ink) }
 .machine .changed { outline: .14em solid var(--lit); text-decoration: none }
@@ -43,10 +46,10 @@ STYLE = """
 """
 
 
-def make_item(name: str, word: int, kind: str, name_kind: str = "") -> str:
-    """Returns a name with its word as an item of a list; the name may have a colour of its own."""
+def make_item(name: str, word: int, kind: str, name_kind: str = "", note: str = "") -> str:
+    """Returns a name with its word as an item of a list; the name may have a colour of its own, and a note follows the word."""
     of_name = f' class="{name_kind}"' if name_kind else ""
-    return f'<li class="{kind.strip()}"><span{of_name}>{escape(name, quote=False)}</span> <b>{word}</b></li>'
+    return f'<li class="{kind.strip()}"><span{of_name}>{escape(name, quote=False)}</span> <b>{word}</b>{note and f" <i>{note}</i>"}</li>'
 
 
 class Machine:
@@ -57,6 +60,8 @@ class Machine:
         self.film, self.locations = film, tints.find_tints(text)
         self.state, self.before = film["states"][step], film["states"][max(step - 1, 0)]
         self.effect = picture.find_effect(film, step)
+        # The registers that some event up to this step has written, each with its thread.
+        self.written = {(it["thread"], it["register"]) for it in film["effects"][:step] if "register" in it}
         # The rooms of the store buffers: all have as many as the fullest of the film needs.
         buffers = [len(it.get("buffer", [])) for state in film["states"] for it in state["threads"]]
         self.rooms = max([*buffers, 1])
@@ -75,12 +80,14 @@ class Machine:
         return f'<ol class="code">{"".join(lines)}{end}</ol>'
 
     def render_registers(self, thread: int) -> str:
-        """Returns the registers of a thread that its code uses."""
+        """Returns the registers of a thread that its code uses; one that nothing has written yet is marked."""
         words, old = (dict(state["threads"][thread]["registers"]) for state in (self.state, self.before))
         put = self.effect.get("register") if self.effect.get("thread") == thread else None
-        kind_of = lambda name: "register changed" if words[name] != old[name] or name == put else "register"
+        is_initial = lambda name: (thread, name) not in self.written
+        kind_of = lambda name: "changed" if words[name] != old[name] or name == put else "initial" if is_initial(name) else ""
+        make_register = lambda name: make_item(name, words[name], f"register {kind_of(name)}", f"thr-{thread}", "initial" if is_initial(name) else "")
         names = picture.list_used_registers(self.film, thread)
-        return f'<ul class="registers">{"".join(make_item(it, words[it], kind_of(it), f"thr-{thread}") for it in names)}</ul>'
+        return f'<ul class="registers">{"".join(map(make_register, names))}</ul>'
 
     def render_buffer(self, thread: int) -> str:
         """Returns the store buffer of a thread, the oldest entry lowest; "" if the program has none."""

@@ -91,9 +91,9 @@ SLIDES: list[Slide] = [
     ]),
     ("All that interleaving can do", [
         States("A1-turns"),
-        Words("Never: the end that we ask about is none of the three states."),
+        Words("Forbidden: the end that we ask about is none of the three states."),
         Words("Some load is the last statement of all. By then both stores are done, so it finds a 1."),
-        Note("Never is the verdict: no run ends this way. That is a proof for all runs, since the list is complete."),
+        Note("Forbidden is the verdict, as on the page: no run ends this way. That is a proof for all runs, since the list is complete."),
     ]),
     ("Predict", [
         Code("A2"),
@@ -123,7 +123,7 @@ SLIDES: list[Slide] = [
     ]),
     ("The same program on x86", [
         States("A1"),
-        Words("Sometimes: the end that we ask about is one of the four states."),
+        Words("Allowed: the end that we ask about is one of the four states."),
         Words("One state more than by interleaving. The program lists all states and no others; that is proved."),
         Note("After the tasks. Compare with slide 4."),
     ]),
@@ -139,7 +139,7 @@ SLIDES: list[Slide] = [
     ]),
     ("A fence in each thread", [
         States("B1"),
-        Words("Never: the end that we ask about is none of the three states."),
+        Words("Forbidden: the end that we ask about is none of the three states."),
         Words("Each thread has an `MFENCE` between its store and its load. It waits until the thread's buffer is empty: so the store comes before the load."),
         Note("These are the three states of slide 4. With one fence the fourth state comes back: a group can say which schedule reaches it."),
     ]),

@@ -95,6 +95,17 @@ class Clicks(PageCase):
         self.assertSays("These are all: no run ends otherwise.", "#outcome .found")
         self.assertSays("Forbidden.", "#outcome .verdict")
 
+    def test_last_found(self) -> None:
+        """In every order of the states the page says when all are found: also if the one that decides the question is the last."""
+        user = self.user
+        begin(user, "#example=SB-x86&view=hand")
+        for events, number in (("P0 D0 P0 P1 P1 D1", 1), ("P1 D1 P1 P0 P0 D0", 2), ("P0 D0 P1 D1 P0 P1", 3)):
+            user.carry_out(*events.split())
+            self.assertSays(f"States found so far: {number}. Start again", "#outcome .found")
+            user.click(".transport [aria-label='To the start']")
+        user.carry_out(*"P0 P0 P1 P1 D0 D1".split())
+        self.assertSays("Found 4 of 4 states. This run decides the question. These are all: no run ends otherwise.", "#outcome .found")
+
     def test_other_tabs(self) -> None:
         """The verdict is not kept back from who opens a tab that shows the answer, nor from who was shown it before; an edit keeps it back anew."""
         user = self.user
