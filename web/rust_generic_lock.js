@@ -100,8 +100,8 @@ function isWithoutValue(code) {
   return isStatement(code) || (blocks.length > 0 && blocks.every(isWithoutValue));
 }
 
-/** Returns code in which a guard of a lock, whose declaration is found last, ends where Rust drops it, and its data is a word. Throws Unread. */
-function replaceGuard(code, [declaration, guard, name], index, word) {
+/** Returns code in which a guard of a lock, whose declaration is found last, ends where Rust drops it, and its data is a word. */
+function replaceGuard(code, [declaration, guard, name], index, word, refuse) {
   const begin = index + declaration.length;
   const end = findBlockEnd(code, begin);
   const body = code.slice(begin, end);
@@ -112,24 +112,35 @@ function replaceGuard(code, [declaration, guard, name], index, word) {
   const inner = held.replace(new RegExp(`\\*\\s*${guard}\\b`, "g"), word);
   const isNested = findClosing(`{${held}}`, 0) !== held.length + 1;
   const isUsed = guard !== "_" && new RegExp(`\\b${guard}\\b`).test(inner + after);
-  if (isNested || isUsed || LEAVING.test(held) || !isWithoutValue(held)) throw new Unread(declaration, OF_GUARDS);
+  if (isNested || isUsed || LEAVING.test(held) || !isWithoutValue(held)) refuse(declaration);
   const written = inner.trimEnd().replace(/[^;}\s]$/, "$&;");
   return `${code.slice(0, index)}${TAKEN}${name}; ${written} ${GIVEN}${name}; ${after}${code.slice(end)}`;
 }
 
+/** Returns the statements of code, each with the mark that ends it. */
+function splitAfter(code) {
+  return code.match(/[^;]*;|[^;]+$/g) ?? [];
+}
+
+/** Returns a statement with words in place of what takes free locks, unless it takes one twice: the first guard ends with the statement. */
+function freeLocks(statement, pattern, words) {
+  const names = [...statement.matchAll(pattern)].map((it) => it[1]);
+  return new Set(names).size < names.length ? statement : statement.replace(pattern, (whole, name) => words.get(name));
+}
+
 /**
  * Returns code without guards of locks, whose words are known by their names: marks are where it takes a lock and gives it back. The last guard is
- * replaced first, since Rust drops it first. Throws Unread if one does more than to change a number.
+ * replaced first, since Rust drops it first. Calls `refuse` with a guard that does more than to change a number.
  */
-function replaceGuards(code, words) {
+function replaceGuards(code, words, refuse) {
   const names = [...words.keys()].join("|");
   const guard = new RegExp(`\\blet\\s+(?:mut\\s+)?(\\w+)\\s*=\\s*(${names})${LOCKED}\\s*;`, "g");
   let text = code;
-  for (const found of [...code.matchAll(guard)].reverse()) text = replaceGuard(text, found, found.index, words.get(found[2]));
+  for (const found of [...code.matchAll(guard)].reverse()) text = replaceGuard(text, found, found.index, words.get(found[2]), refuse);
   const statics = new Set([...code.matchAll(/\bstatic\s+(?:mut\s+)?(\w+)/g)].map(([, it]) => it));
   const [begin, end] = findRest(text) ?? [text.length, text.length];
-  const free = text.slice(begin, end).replace(new RegExp(`\\*\\s*(${names})${LOCKED}`, "g"), (whole, name) => words.get(name));
-  text = text.slice(0, begin) + free + text.slice(end);
+  const free = splitAfter(text.slice(begin, end)).map((it) => freeLocks(it, new RegExp(`\\*\\s*(${names})${LOCKED}`, "g"), words));
+  text = text.slice(0, begin) + free.join("") + text.slice(end);
   // What is on the right is computed before the lock is taken.
   const change = new RegExp(`(?<=[;{}]\\s*)\\*\\s*(${names})${LOCKED}\\s*([-+]?=)\\s*(\\w+(?:\\s*[-+]\\s*\\w+)*)\\s*(?:;|(?=\\}))`, "g");
   const read = new RegExp(`(?<=[;{}]\\s*)(let\\s+(?:mut\\s+)?(?!_\\b)\\w+\\s*(?::\\s*\\w+\\s*)?=)\\s*\\*\\s*(${names})${LOCKED}\\s*;`, "g");
@@ -209,12 +220,16 @@ export function rewriteGenericLock(code) {
     const atomics = lock.others.map((it) => `static ${name}_${it.name}: ${it.type} = ${it.type}::new(${lock.words.get(it.name)});`);
     return `${atomics.join(" ")} static mut ${words.get(name)}: ${type} = ${word};`;
   });
-  text = replaceGuards(text, words);
+  // Names of clones are not those of the program.
+  const refuse = (part) => {
+    throw new Unread(code.includes(part.trim()) ? part : lock.name, OF_GUARDS);
+  };
+  text = replaceGuards(text, words, refuse);
   for (const name of words.keys()) {
     const [taking, giving] = [lock.locking, lock.unlocking].map((it) => it.replace(/\bself\s*\.\s*(\w+)/g, `${name}_$1`));
     text = text.replaceAll(`${TAKEN}${name};`, () => taking).replaceAll(`${GIVEN}${name};`, () => giving);
     const [other] = new RegExp(`[^;{}]*\\b${name}\\b[^;{}]*`).exec(text) ?? [];
-    if (other) throw new Unread(other, OF_GUARDS);
+    if (other) refuse(other);
   }
   return new RegExp(`\\b${lock.name}\\b`).test(text) ? code : text;
 }
