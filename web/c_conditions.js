@@ -18,8 +18,7 @@ const COMPARED = /^(?:[A-Za-z_]\w*|atomic_(?:load|exchange|fetch_(?:add|sub))\w{
 const CHANGES = /\batomic_(?:exchange|fetch_)/;
 const CALLS = /\b(\w+)\(/g;
 const OF_RELATIONS = ": the page writes a condition as equalities, and here the words that are compared are too many, or not known, so compare by `==`";
-const OF_SECOND = ": load what is compared by `<` and its like into a variable of the thread first, as `int r0 = x;`";
-const OF_CHANGES = ": what is after `&&` changes a variable only if what is before it holds, so write two `if`, one in the other";
+const OF_SECOND = ": what `<` and its like compare is loaded before the other parts of a condition here, so write two `if`, one in the other";
 const OF_PASSES = ": a loop that waits by a function calls one that changes nothing if the loop goes on, and returns constants";
 
 /** Returns whether squeezed code has a relation that is no equality. */
@@ -69,7 +68,7 @@ export class ConditionWriter extends KnownWriter {
     const parts = splitOutside(removeOuterParentheses(code), "&&");
     const first = parts.findIndex((it) => /\w\(/.test(it) || (it.match(/[A-Za-z_]\w*/g) ?? []).some((name) => this.isShared(name)));
     // What is loaded for a relation is written before all parts: a change may only be in the first of these.
-    if (first > 0 && isRelation(parts[first]) && CHANGES.test(parts[first])) this.refuseStatement(OF_CHANGES);
+    if (parts.some((it, at) => at > 0 && isRelation(it) && CHANGES.test(it))) this.refuseStatement(OF_SECOND);
     return parts.map((it, at) => (isRelation(it) ? this.writeRelation(it, at === first) : it)).join("&&");
   }
 

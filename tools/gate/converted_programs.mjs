@@ -1596,6 +1596,22 @@ void a(){ Data* d=lazy.get(); int r0=d->x; }
 void b(){ Data* d=lazy.get(); int r1=d->x; }
 `,
     "X86 Mine\n(* 0:EAX is q, 0:EBX is lazy_m at its lock, 0:ECX is d, 0:EDX is r0, 1:EAX is q, 1:EBX is lazy_m at its lock, 1:ECX is d, 1:EDX is r1 *)\n(* every wait ends: 0:EBX=0 /\\ 1:EBX=0 *)\n(* a thread finds Data_x not yet set: 0:EDX=0 \\/ 1:EDX=0 *)\n{ Data_x=0; lazy_p=0; lazy_m=0; }\n P0 | P1 ;\n MOV EAX,[lazy_p] | MOV EAX,[lazy_p] ;\n CMP EAX,$0 | CMP EAX,$0 ;\n JNE L2 | JNE L2 ;\n MOV EBX,$1 | MOV EBX,$1 ;\n XCHG [lazy_m],EBX | XCHG [lazy_m],EBX ;\n MOV EAX,[lazy_p] | MOV EAX,[lazy_p] ;\n CMP EAX,$0 | CMP EAX,$0 ;\n JNE L3 | JNE L3 ;\n MOV EAX,$1 | MOV EAX,$1 ;\n MOV [Data_x],$1 | MOV [Data_x],$1 ;\n MOV [lazy_p],EAX | MOV [lazy_p],EAX ;\n L3: MOV ESI,$0 | L3: MOV ESI,$0 ;\n XCHG [lazy_m],ESI | XCHG [lazy_m],ESI ;\n L2: MOV ECX,EAX | L2: MOV ECX,EAX ;\n MOV EDX,[Data_x] | MOV EDX,[Data_x] ;\nlocations [0:EAX; 0:ECX; 1:EAX; 1:ECX; lazy_p; Data_x]\n~exists (0:EBX=0 /\\ 1:EBX=0 /\\ (0:EDX=0 \\/ 1:EDX=0))\n"],
+  ["a load of a relation after a variable of the thread", `#include <atomic>
+#include <mutex>
+#include <thread>
+std::atomic<int> x{0}, y{0};
+void t0(){ int r1=0; int r0 = y.load(); if (r0==1 && x.load()>=1) { r1=1; } else { x.store(3); } }
+void t1(){ x.store(1); y.store(1); x.store(2); int r2=x.load(); }
+`,
+    "X86 Mine\n(* 0:EAX is r1, 0:EBX is r0, 0:ECX is x_compared, 1:EAX is r2 *)\n{ x=0; y=0; }\n P0 | P1 ;\n MOV EAX,$0 | MOV EBX,$1 ;\n MOV EBX,[y] | XCHG [x],EBX ;\n MOV ECX,[x] | MOV EBX,$1 ;\n CMP EBX,$1 | XCHG [y],EBX ;\n JNE L1 | MOV EBX,$2 ;\n CMP ECX,$0 | XCHG [x],EBX ;\n JE L1 | MOV EAX,[x] ;\n MOV EAX,$1 | ;\n JMP END | ;\n L1: MOV EDX,$3 | ;\n XCHG [x],EDX | ;\n END: | ;\nlocations [0:EAX; 0:EBX; 0:ECX; 1:EAX; x]\nexists (true)\n"],
+  ["an exchange of a relation after `||`", `#include <atomic>
+#include <mutex>
+#include <thread>
+std::atomic<int> x{0}, y{0};
+void t0(){ int r1=0; int r0 = y.load(); if (r0<1 || x.exchange(2)>1) r1=1; }
+void t1(){ y.store(1); int r2=x.load(); }
+`,
+    "X86 Mine\n(* 0:EAX is r1, 0:EBX is r0, 0:ECX is x_compared, 1:EAX is r2 *)\n{ x=0; y=0; }\n P0 | P1 ;\n MOV EAX,$0 | MOV EBX,$1 ;\n MOV EBX,[y] | XCHG [y],EBX ;\n CMP EBX,$0 | MOV EAX,[x] ;\n JNE L1 | ;\n MOV EAX,$1 | ;\n JMP END | ;\n L1: MOV ECX,$2 | ;\n XCHG [x],ECX | ;\n CMP ECX,$2 | ;\n JNE END | ;\n MOV EAX,$1 | ;\n END: | ;\nlocations [0:EAX; 0:EBX; 0:ECX; 1:EAX]\nexists (true)\n"],
 ];
 // A program of rounds, whose loop does `sets` before the threads run.
 const makeRounds = (sets, code) => `#include <semaphore.h>
@@ -2436,7 +2452,7 @@ void p1() { x = 1; y = 3; }
 void p2() { if (l.exchange(1) == 0 && y.load() > 1) { int r = x; } }
 int main() { std::thread a(p1), b(p2); a.join(); b.join(); }
 `,
-    "`if (l.exchange(1) == 0 && y.load() > 1)`: load what is compared by `<` and its like into a variable of the thread first, as `int r0 = x;`", "if (l.exchange(1) == 0 &"],
+    "`if (l.exchange(1) == 0 && y.load() > 1)`: what `<` and its like compare is loaded before the other parts of a condition here, so write two `if`, one in the other", "if (l.exchange(1) == 0 &"],
   ["a relation of a sum", `#include <atomic>
 #include <thread>
 std::atomic<int> x{0}, y{0};
@@ -2868,14 +2884,14 @@ std::atomic<int> x{0}, y{0};
 void t0(){ int r0=y.load(std::memory_order_relaxed); int r1=0; if (r0==1 && x.exchange(2)>1) r1=1; }
 void t1(){ y.store(1,std::memory_order_relaxed); int r2=x.load(std::memory_order_relaxed); }
 `,
-    "`if (r0==1 && x.exchange(2)>1)`: what is after `&&` changes a variable only if what is before it holds, so write two `if`, one in the other", "if (r0==1 && x.exchange(2)>1) r1=1; }"],
+    "`if (r0==1 && x.exchange(2)>1)`: what `<` and its like compare is loaded before the other parts of a condition here, so write two `if`, one in the other", "if (r0==1 && x.exchange(2)>1) r1=1; }"],
   ["an addition in a relation after `&&`", `#include <atomic>
 #include <thread>
 std::atomic<int> x{0}, y{0};
 void t0(){ int r0=y.load(std::memory_order_relaxed); int r1=0; if (r0==1 && x.fetch_add(1)>=1) r1=1; }
 void t1(){ y.store(1,std::memory_order_relaxed); int r2=x.load(std::memory_order_relaxed); }
 `,
-    "`if (r0==1 && x.fetch_add(1)>=1)`: what is after `&&` changes a variable only if what is before it holds, so write two `if`, one in the other", "if (r0==1 && x.fetch_add(1)>=1) r1=1; }"],
+    "`if (r0==1 && x.fetch_add(1)>=1)`: what `<` and its like compare is loaded before the other parts of a condition here, so write two `if`, one in the other", "if (r0==1 && x.fetch_add(1)>=1) r1=1; }"],
   ["a lock of each object, and one pointer", `#include <atomic>
 #include <mutex>
 #include <thread>
@@ -2967,6 +2983,14 @@ void t0(void){ if (!down_trylock(&m)) { x = 1; mutex_unlock(&m); } }
 void t1(void){ mutex_lock(&m); x = 2; mutex_unlock(&m); }
 `,
     "`if (!down_trylock(&m))`: of what tries a lock `m.try_lock()`, `spin_trylock`, `pthread_mutex_trylock` and `mtx_trylock` are read", "if (!down_trylock(&m)) { x = 1; mutex_unlock(&m); } }"],
+  ["an exchange of a relation after a load", `#include <atomic>
+#include <mutex>
+#include <thread>
+std::atomic<int> x{0}, y{0};
+void t0(){ int r1=0; if (y.load()==1 && x.exchange(2)>1) r1=1; }
+void t1(){ y.store(1); int r2=x.load(); }
+`,
+    "`if (y.load()==1 && x.exchange(2)>1)`: what `<` and its like compare is loaded before the other parts of a condition here, so write two `if`, one in the other", "if (y.load()==1 && x.exchange(2)>1) r1=1; }"],
 ];
 
 /** Returns a test with one blank in place of several, since names have other lengths than those in a form. */
