@@ -47,8 +47,8 @@ function findBranch(code, index) {
 }
 
 /**
- * Returns the pointer and the lock because of which the code at an index, which makes an object, is executed once at most: it is in an `if` that finds
- * the pointer null after the lock is taken, and sets this pointer before the lock is given back. Nothing else sets it. Null if there are none.
+ * Returns the pointer and the lock because of which the code at an index, which makes an object, is executed once at most: it is in an `if` that
+ * finds the pointer null after the lock is taken, and sets this pointer before the lock is given back. Nothing else sets it. Null if there are none.
  * @param {string} code without comments
  * @param {number} index
  * @returns {[string, string] | null}
@@ -105,20 +105,23 @@ function countDeclared(code, name, index) {
     const declared = close < 0 ? "" : /^[^;]*/.exec(after.slice(close + 1))[0].trim();
     return !declared ? 0 : /^\w+$/.test(declared) ? 1 : Infinity;
   }
-  const isOwn = new RegExp(`^\\s*\\(`).test(after) && new RegExp(`\\b(?:struct|class)\\s+${name}\\b`).test(heads[0]);
+  const isOwn = /^\s*\(/.test(after) && (/::\s*$/.test(before) || new RegExp(`\\b(?:struct|class)\\s+${name}\\b`).test(heads[0]));
   if (isOwn || /~\s*$/.test(before) || /^\s*(?:::|(?:const\s*)?[&*])/.test(after)) return 0;
-  return /^\s+\w+\s*(?:\{[^{},]*\}|\([^(),]*\)|=[^,;[]*)?\s*;/.test(after) && !heads.some((it) => CLASS.test(it)) ? 1 : Infinity;
+  // Each thread that executes a function has its own local objects.
+  const isSingle = !heads.some((it) => CLASS.test(it)) && (!heads.length || /\bstatic\b/.test(before) || /\bmain\s*\(/.test(heads.at(-1)));
+  return isSingle && /^\s+\w+\s*(?:\{[^{},]*\}|\([^(),]*\)|=[^,;[]*)?\s*;/.test(after) ? 1 : Infinity;
 }
 
 /**
- * Returns whether all threads have one and the same variable of a name: it is declared once, outside of functions and classes, or as a static variable,
- * or in a class that has one object.
+ * Returns whether all threads have one and the same variable of a name: it is declared once, outside of functions and classes, or as a static
+ * variable, or in a class that has one object.
  * @param {string} code without comments
  * @param {string} name
  * @returns {boolean}
  */
 export function isOne(code, name) {
-  const pattern = new RegExp(`(?:>\\s*|[\\w>,]\\s*\\*\\s*(?:(?:const|_Atomic|volatile)\\s+)?|\\bauto\\s+|\\b${MUTEX}(?:\\w+\\s*,\\s*)*)&?\\s*${name}\\b`, "g");
+  const typed = `>\\s*|[\\w>,]\\s*\\*\\s*(?:(?:const|_Atomic|volatile)\\s+)?|\\bauto\\s+|\\b${MUTEX}(?:\\w+\\s*,\\s*)*`;
+  const pattern = new RegExp(`(?:${typed})&?\\s*${name}\\b`, "g");
   const [first, second] = [...code.matchAll(pattern)].filter((it) => !/\breturn\s*\*?\s*$/.test(code.slice(0, it.index + 1)));
   if (!first || second || /\bthread_local\b|\b__thread\b|\b_Thread_local\b/.test(code)) return false;
   const { begin, heads } = findPlace(code, first.index);

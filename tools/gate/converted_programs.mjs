@@ -1612,6 +1612,16 @@ void t0(){ int r1=0; int r0 = y.load(); if (r0<1 || x.exchange(2)>1) r1=1; }
 void t1(){ y.store(1); int r2=x.load(); }
 `,
     "X86 Mine\n(* 0:EAX is r1, 0:EBX is r0, 0:ECX is x_compared, 1:EAX is r2 *)\n{ x=0; y=0; }\n P0 | P1 ;\n MOV EAX,$0 | MOV EBX,$1 ;\n MOV EBX,[y] | XCHG [y],EBX ;\n CMP EBX,$0 | MOV EAX,[x] ;\n JNE L1 | ;\n MOV EAX,$1 | ;\n JMP END | ;\n L1: MOV ECX,$2 | ;\n XCHG [x],ECX | ;\n CMP ECX,$2 | ;\n JNE END | ;\n MOV EAX,$1 | ;\n END: | ;\nlocations [0:EAX; 0:EBX; 0:ECX; 1:EAX]\nexists (true)\n"],
+  ["a static lock of a template of one class", `#include <atomic>
+#include <mutex>
+#include <thread>
+struct Data{int x;};
+template<typename T> struct Lazy { inline static std::atomic<Data*> p{nullptr}; inline static std::mutex m; Data* get(){ std::lock_guard<std::mutex> g(m); Data* q = p.load(); if (q == nullptr) { q = new Data; q->x = 1; p.store(q); } return q; } };
+Lazy<int> l1;
+void a(){ Data* d=l1.get(); int r0=d->x; }
+void b(){ Data* d=l1.get(); int r1=d->x; }
+`,
+    "X86 Mine\n(* 0:EAX is m at its lock, 0:EBX is q, 0:ECX is d, 0:EDX is r0, 1:EAX is m at its lock, 1:EBX is q, 1:ECX is d, 1:EDX is r1 *)\n(* every wait ends: 0:EAX=0 /\\ 1:EAX=0 *)\n(* a thread finds Data_x not yet set: 0:EDX=0 \\/ 1:EDX=0 *)\n{ Data_x=0; p=0; m=0; }\n P0 | P1 ;\n MOV EAX,$1 | MOV EAX,$1 ;\n XCHG [m],EAX | XCHG [m],EAX ;\n MOV EBX,[p] | MOV EBX,[p] ;\n CMP EBX,$0 | CMP EBX,$0 ;\n JNE L2 | JNE L2 ;\n MOV EBX,$1 | MOV EBX,$1 ;\n MOV [Data_x],$1 | MOV [Data_x],$1 ;\n MOV ESI,EBX | MOV ESI,EBX ;\n XCHG [p],ESI | XCHG [p],ESI ;\n L2: MOV ECX,EBX | L2: MOV ECX,EBX ;\n MOV ESI,$0 | MOV ESI,$0 ;\n XCHG [m],ESI | XCHG [m],ESI ;\n MOV EDX,[Data_x] | MOV EDX,[Data_x] ;\nlocations [0:EBX; 0:ECX; 1:EBX; 1:ECX; p; Data_x]\n~exists (0:EAX=0 /\\ 1:EAX=0 /\\ (0:EDX=0 \\/ 1:EDX=0))\n"],
 ];
 // A program of rounds, whose loop does `sets` before the threads run.
 const makeRounds = (sets, code) => `#include <semaphore.h>
@@ -2991,6 +3001,15 @@ void t0(){ int r1=0; if (y.load()==1 && x.exchange(2)>1) r1=1; }
 void t1(){ y.store(1); int r2=x.load(); }
 `,
     "`if (y.load()==1 && x.exchange(2)>1)`: what `<` and its like compare is loaded before the other parts of a condition here, so write two `if`, one in the other", "if (y.load()==1 && x.exchange(2)>1) r1=1; }"],
+  ["an object of a class in a function of two threads", `#include <atomic>
+#include <mutex>
+#include <thread>
+struct Data{int x;};
+struct Lazy{ std::atomic<Data*> p{nullptr}; std::mutex m; Data* get(){ Data* q=p.load(std::memory_order_acquire); if(q==nullptr){ std::lock_guard<std::mutex> g(m); q=p.load(std::memory_order_relaxed); if(q==nullptr){ q=new Data; q->x=1; p.store(q,std::memory_order_release);} } return q; } };
+void a(){ Lazy l; Data* d=l.get(); d->x=5; int r = d->x; }
+int main(){ std::thread t(a), u(a); t.join(); u.join(); }
+`,
+    "`new Data`: several threads make one object only if all of them take one and the same lock, and test one and the same pointer", "new Data; q->x=1; p.store(q,std::memory_order_release);} } r"],
 ];
 
 /** Returns a test with one blank in place of several, since names have other lengths than those in a form. */
