@@ -1,7 +1,7 @@
 // Fits the view for a projector: only the question, the verdict, the list, the machine and the graph, in the largest type in which all of it fits,
-// and never in less than a least size, nor in less than the page itself has; if it takes that, the graph goes. Its letters are as large as the rest
-// if they can be. If not all fits in the least size, long code is scrolled inside its box, and the next instruction stays in sight. The text of a test is
-// shown with the table of its fences, since no machine is there.
+// and never in less than a least size, nor in less than the page itself has; if it takes that, the graph goes, and a button shows it in place of the
+// machine. Its letters are as large as the rest if they can be. If not all fits in the least size, long code is scrolled inside its box, and the next
+// instruction stays in sight. The text of a test is shown with the table of its fences, since no machine is there.
 
 import { showNext } from "./code_window.js";
 import { findById } from "./dom.js";
@@ -24,6 +24,9 @@ const GRAPH_BELOW = "below";
 const TEXT_PLACES = ["below", "beside"];
 const LIST_BELOW = "list";
 const GRAPH_SIZES = [1.24, 1.12, 1];
+// A graph that the reader has put in place of the machine, and its further sizes.
+const GRAPH_ONLY = "only";
+const SMALL_SIZES = [0.85, 0.7];
 const MAX_GRAPH_SIZE = 1.6;
 // The least part of the width that the machine has beside a graph, if all fits then.
 const MIN_PART_OF_WIDTH = 0.6;
@@ -85,11 +88,18 @@ export class ProjectorFit {
     return size;
   }
 
-  /** Puts the graph, as large as can be, where all fits in the least size of type, or if there is no such place, nowhere. */
+  /**
+   * Puts the graph, as large as can be, where all fits in the least size of type, or if there is no such place, nowhere: its button puts it in place of
+   * the machine then.
+   */
   placeGraph(dataset, least) {
     const listTries = (places, part) => GRAPH_SIZES.flatMap((ofGraph) => places.map((place) => ({ place, ofGraph, part })));
     const isOfFour = document.querySelector("#watching .thread:nth-child(4)") !== null;
     const below = isOfFour ? listTries([GRAPH_BELOW], 0) : [];
+    if (document.documentElement.classList.contains("graph-only")) {
+      dataset.graph = GRAPH_ONLY;
+      return [...GRAPH_SIZES, ...SMALL_SIZES].find((ofGraph) => this.fits(least, { ofMachine: 1, ofGraph, part: 0 }));
+    }
     for (const { place, ofGraph, part } of [...below, ...listTries(GRAPH_PLACES, MIN_PART_OF_WIDTH), ...listTries(GRAPH_PLACES, 0)]) {
       dataset.graph = place;
       if (this.fits(least, { ofMachine: 1, ofGraph, part })) return;
@@ -168,7 +178,8 @@ export class ProjectorFit {
 
   /** Returns to the sizes of the page. */
   end() {
-    const { style } = document.documentElement;
+    const { classList, style } = document.documentElement;
+    classList.remove("graph-only");
     style.fontSize = "";
     for (const name of ["--code-room", "--of-machine", "--of-graph", ...Object.keys(USUAL)]) style.removeProperty(name);
   }

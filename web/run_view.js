@@ -56,10 +56,8 @@ export class RunView {
       fence: (...fence) => run.onFence(...fence),
     });
     this.graph = graphPlace ?? el("div", { class: "graph-place", role: "status" });
-    this.graphSwitch = makeButton("Graph", () => this.chooseGraph(), {
-      class: "draw-execution", "aria-pressed": "false", id: id("graph-switch"), title: "The run as a graph of events (g)",
-    });
-    this.isGraphSeen = false;
+    this.graphSwitch = makeButton("Graph", () => this.chooseGraph(), { class: "draw-execution", id: id("graph-switch") });
+    this.seeGraph(false);
     const threshold = Array.from({ length: LOOKS + 1 }, (_, look) => look / LOOKS);
     new IntersectionObserver((all) => this.seeGraph(isInSight(all.at(-1))), { threshold }).observe(this.graph);
     this.menu = new RunMenu(run);
@@ -263,14 +261,24 @@ export class RunView {
     this.words.replaceChildren(LOCKED);
   }
 
-  /** Takes note that the graph is in sight, or not any more: its button is lit if it is. */
+  /** Takes note that the graph is in sight, or not any more: its button is lit if it is, and is no switch while it only leads to a graph out of sight. */
   seeGraph(isSeen) {
-    this.isGraphSeen = isSeen && this.hasGraph && this.graph.childElementCount > 0;
-    this.graphSwitch.setAttribute("aria-pressed", String(this.isGraphSeen));
+    const isDrawn = this.hasGraph && this.graph.childElementCount > 0;
+    Object.assign(this, { isSeen, isGraphSeen: isSeen && isDrawn });
+    const isFar = isDrawn && !isSeen;
+    this.graphSwitch.classList.toggle("far", isFar);
+    this.graphSwitch.title = isFar ? "Go to the graph of the run (g)" : "The run as a graph of events (g)";
+    if (isFar) this.graphSwitch.removeAttribute("aria-pressed");
+    else this.graphSwitch.setAttribute("aria-pressed", String(this.isGraphSeen));
   }
 
-  /** Shows the graph; one that is drawn out of sight comes into sight, and one in sight goes. */
+  /** Shows the graph; one that is drawn out of sight comes into sight, and one in sight goes. On a projector it may take the place of the machine. */
   async chooseGraph() {
+    const { classList, dataset } = document.documentElement;
+    if (this.hasGraph && classList.contains("present") && /none|only/.test(dataset.graph)) {
+      classList.toggle("graph-only");
+      return this.run.onDraw();
+    }
     if (this.hasGraph && this.isGraphSeen) return this.setGraph(false);
     this.graph.classList.add("wanted");
     if (!this.hasGraph) await this.setGraph(true);
@@ -287,8 +295,14 @@ export class RunView {
     this.run.onDraw();
   }
 
-  /** Draws the graph of the run; of a listed source run that of the compiled program's. Of one by hand it says that there is none. */
+  /** Draws the graph of the run, and takes note whether it is in sight. */
   async drawGraph() {
+    await this.fillGraph();
+    this.seeGraph(this.isSeen);
+  }
+
+  /** Draws the graph of the run; of a listed source run that of the compiled program's. Of one by hand it says that there is none. */
+  async fillGraph() {
     const { run } = this;
     const { isX86, isByHand, editor, tints } = run;
     this.graph.classList.toggle("of-compiled", !isX86);

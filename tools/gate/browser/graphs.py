@@ -86,7 +86,7 @@ class Readable(PageCase):
         for name in ("ChaseLev-x86", "Bakery-x86"):
             user.open_listed(f"#example={name}")
             user.find("#graph-place svg.graph")
-            self.assertSoon("false", lambda: user.find("#graph-switch").get_attribute("aria-pressed"))
+            self.assertSoon(None, lambda: user.find("#graph-switch").get_attribute("aria-pressed"))
             user.click("#graph-switch")
             self.assertSoon(True, lambda: user.run(IN_SIGHT, GRAPH))
 
@@ -213,18 +213,41 @@ class Switched(PageCase):
     """The button of the graph."""
 
     def test_lit(self) -> None:
-        """It is lit while the graph is in sight; it brings one that is drawn out of sight, and takes away one in sight."""
+        """It is lit while the graph is in sight, and takes it away then; of one that is drawn out of sight it is no switch, and leads to it."""
         user = self.user
-        pressed = lambda: user.find("#graph-switch").get_attribute("aria-pressed")
+        state = lambda: (user.find("#graph-switch").get_attribute("aria-pressed"), user.find("#graph-switch").get_attribute("title"))
         user.resize(1280, 720)
-        user.open_listed("#example=ChaseLev-x86")
-        user.find("#answers > #graph-place svg.graph")
-        self.assertSoon("false", pressed)
+        for name in ("ChaseLev-x86", "Peterson-x86"):
+            user.open_listed(f"#example={name}")
+            user.find("#graph-place svg.graph")
+            self.assertSoon((None, "Go to the graph of the run (g)"), state)
+            user.click("#graph-switch")
+            self.assertSoon(("true", "The run as a graph of events (g)"), state)
+            user.run("document.getElementById('graph-switch').click()")
+            self.assertSoon([], lambda: user.all("#graph-place svg"))
+            self.assertSoon(("false", "The run as a graph of events (g)"), state)
+            user.run("document.getElementById('graph-switch').click()")
+            self.assertSoon(("true", "The run as a graph of events (g)"), state)
+
+    def test_projector(self) -> None:
+        """On a projector that has no room for the graph, the button puts it in place of the machine, and back."""
+        user = self.user
+        shown = lambda: [bool(user.run("return document.querySelector(arguments[0])?.getClientRects().length", it)) for it in ("#watching .machine", "#graph-place svg")]
+        user.resize(1280, 720)
+        user.open_listed("#example=Peterson-x86")
+        user.find("#graph-place svg.graph")
+        user.click("#present")
+        self.assertSoon([True, False], shown)
+        self.assertSoon("none", lambda: user.run("return document.documentElement.dataset.graph"))
         user.click("#graph-switch")
-        self.assertSoon("true", pressed)
-        user.run("document.getElementById('graph-switch').click()")
-        self.assertSoon([], lambda: user.all("#graph-place svg"))
-        self.assertSoon("false", pressed)
+        self.assertSoon([False, True], shown)
+        self.assertSoon(True, lambda: user.run(IN_SIGHT, "#graph-place svg.graph, #watching .step"))
+        user.click("#graph-switch")
+        self.assertSoon([True, False], shown)
+        user.click("#graph-switch")
+        self.assertSoon([False, True], shown)
+        user.press(user.keys.ESCAPE)
+        self.assertSoon([True, True], shown)
 
 
 class Pointed(PageCase):
