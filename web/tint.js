@@ -11,6 +11,9 @@ const COLOURS = 8;
 const FIXED = ["x", "y", "z", "w"];
 const MAX_COLOURED = 20000;
 const TOKEN = /\(\*|\*\)|\d+:[A-Za-z]\w*|0x[\da-fA-F]+|\$?\d+|[A-Za-z_]\w*|\s+|:=|[^\sA-Za-z_0-9]/g;
+// How a test begins, or a part of one; other texts are programs, whose comments are these.
+const TEST = /^\s*(?:\(\*|X86\b|SRC\b)|^\s*P0\s*[|;]/im;
+const TOKEN_OF_PROGRAM = new RegExp(`//.*|/\\*[^]*?(?:\\*/|$)|${TOKEN.source}`, "g");
 
 /** Chooses the colours of the locations of a test: those of the four usual names are the same in all tests. */
 class Tints {
@@ -103,7 +106,7 @@ function renderToken(token, tints, thread) {
 }
 
 /**
- * Returns a whole text in colours: the bars between the cells say what each thread has.
+ * Returns a whole text, a test or a program, in colours: the bars between the cells of a test say what each thread has.
  * @param {string} text
  * @param {Tints} tints
  * @returns {(Node | string)[]}
@@ -112,9 +115,10 @@ export function renderText(text, tints) {
   if (text.length > MAX_COLOURED) return [text];
   const nodes = [];
   let [depth, thread, isHead] = [0, null, false];
-  for (const [token] of text.matchAll(TOKEN)) {
-    if (token === "(*") depth += 1;
-    if (depth > 0) {
+  const isTest = TEST.test(text);
+  for (const [token] of text.matchAll(isTest ? TOKEN : TOKEN_OF_PROGRAM)) {
+    if (token === "(*" && isTest) depth += 1;
+    if (depth > 0 || /^\/[/*]/.test(token)) {
       nodes.push(el("span", { class: "comment" }, token));
       if (token === "*)") depth -= 1;
       continue;

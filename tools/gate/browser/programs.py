@@ -21,6 +21,8 @@ VOLATILE = (
 STUCK = LOCK.replace("int> l;", "int> l, m;").replace("void work() { while (l.exchange(1)) {} n++; l.store(0); }", "void work() { while (!l) {} m = 1; }")
 # A run of the lock's test in which the second wait has not ended.
 WAITING = "P0 P0 P0 P0 P0 D0 P1 P1 P1 P1 P1 D1 P0 P0 P1 P1"
+COMMENTS = "return [...document.querySelectorAll('.colours .comment')].map((it) => it.textContent)"
+FENCES = "return [...document.querySelectorAll('.colours .fencing')].map((it) => it.textContent)"
 HIDDEN = "#outcome .hidden-states"
 CODE = "#made-from"
 
@@ -179,4 +181,19 @@ class MadeFrom(PageCase):
         self.assertEqual(VOLATILE.split(), user.text(f"{CODE} pre").split())
 
 
-SUBJECTS = (Waits, MadeFrom)
+class Colours(PageCase):
+    """The colours of a program in the editor."""
+
+    def test_comments(self) -> None:
+        """The comments of a program are comments: no word in them is code. `(*` begins none there, and `//` none in a test."""
+        user = self.user
+        user.open_listed()
+        user.run_text("// lock, not MFENCE\nint *p; /* xchg\n   lock */ int x = (*p); mfence\n// end")
+        self.assertSoon(["// lock, not MFENCE", "/* xchg\n   lock */", "// end"], lambda: user.run(COMMENTS))
+        self.assertEqual(["mfence"], user.run(FENCES))
+        user.run_text(read("examples/SB-x86.litmus").replace("{", "(* a lock *) {", 1))
+        self.assertSoon([], lambda: user.run(FENCES))
+        self.assertEqual("(* a lock *)", "".join(user.run(COMMENTS))[-12:])
+
+
+SUBJECTS = (Waits, MadeFrom, Colours)
