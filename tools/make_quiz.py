@@ -16,9 +16,10 @@ states). Without a program of these sources they are those of tools/plain.py, an
 """
 from __future__ import annotations
 
+import functools
 import os
 import sys
-from collections.abc import Callable, Mapping
+from collections.abc import Callable, Mapping, Sequence
 
 sys.dont_write_bytecode = True
 import films
@@ -40,17 +41,26 @@ def make_links(seed: str, files: Mapping[str, str]) -> str:
     return f'<nav aria-label="Quizzes">This is quiz {seed}. Another quiz: {links}</nav>\n' if links else ""
 
 
+# The tests of a quiz, which several pages of a site need.
+make_tests = functools.lru_cache(quiz.make_tests)
+
+
 def make_page(count: int, seed: str, report: Callable[[str], str], page: str = "", files: Mapping[str, str] | None = None) -> str:
-    """Returns the quiz of a seed as one page, with links to lw's page at an address, if there is one, and to other quizzes: for each seed its file."""
-    return format_page(quiz.make_tests(count, seed, report), seed, page, make_links(seed, files or {}))
+    """Returns the quiz of a seed as one page, with links to lw's page at an address, if there is one, and to other quizzes: for each seed its file.
+    It reads the codes of these, too.
+    """
+    others = [quiz.make_other_data(other, make_tests(count, other, report)) for other in files or {} if other != seed]
+    return format_page(make_tests(count, seed, report), seed, page, make_links(seed, files or {}), others)
 
 
-def format_page(tests: list[quiz.QuizTest], seed: str, page: str, others: str = "") -> str:
-    """Returns the quiz of some tests as one page, with links to lw's page at an address, if there is one, and the line of links to other quizzes."""
+def format_page(tests: list[quiz.QuizTest], seed: str, page: str, links: str = "", others: Sequence[quiz.OtherData] = ()) -> str:
+    """Returns the quiz of some tests as one page, with links to lw's page at an address, if there is one; the line of links to other quizzes; and what the
+    page needs to read their codes.
+    """
     with open(TEMPLATE, encoding="utf-8") as file:
         html = file.read()
     parts = {
-        "@TITLE@": f"Quiz {seed}" if others else "A quiz", "@OTHERS@": others, "@TINTS@": tints.make_style(),
+        "@TITLE@": f"Quiz {seed}" if links else "A quiz", "@OTHERS@": links, "@OTHER_QUIZZES@": format_literal(list(others)), "@TINTS@": tints.make_style(),
         "@TINTED@": format_literal([tints.render_test(it.text) for it in tests]),
         "@SYMBOLS@": codes.SYMBOLS, "@LETTERS@": codes.LETTERS, "@MARKS@": str(codes.MARKS), "@MOST@": str(codes.MAX_TESTS),
         "@BYTES@": str(codes.BYTES),

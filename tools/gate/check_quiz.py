@@ -306,6 +306,12 @@ def check_browser(page: str, folder: str) -> Iterator[Comparison]:
         user.open()
         yield "the page fits a phone", [360, 360], user.run("return [innerWidth, document.documentElement.scrollWidth]")
         yield "the tests are shown", parse_data(page)["tests"], user.run("return [...document.querySelectorAll('pre')].map((it) => it.textContent)")
+        whole = """
+        const rowsOf = (it) => Math.round((it.clientHeight - it.querySelector(".thr-0").offsetHeight) / parseFloat(getComputedStyle(it).lineHeight)) + 1;
+        return [...document.querySelectorAll("pre")].filter((it) => it.scrollWidth > it.clientWidth || rowsOf(it) > it.textContent.trimEnd().split("\\n").length + 1)
+          .length;
+        """
+        yield "no test is wider than a phone, and only its question takes two lines", 0, user.run(whole)
         colours = "return [...document.querySelectorAll('pre .thr-0')].map((it) => getComputedStyle(it).color)"
         for scheme, ground, colour in (("dark", "rgb(22, 24, 28)", "rgb(130, 179, 255)"), ("light", "rgb(255, 255, 255)", "rgb(29, 91, 184)")):
             emulated = {"media": "", "features": [{"name": "prefers-color-scheme", "value": scheme}]}
@@ -395,6 +401,29 @@ def check_links(page: str, folder: str) -> Iterator[Comparison]:
         user.driver.quit()
 
 
+def check_codes_of_others(files: dict[str, str]) -> Iterator[Comparison]:
+    """Checks that each quiz of a site reads the codes of all of them, and of no other quiz."""
+    if not NODE:
+        return
+    pages = {seed: make_quiz.make_page(TESTS, seed, quiz.make_report_by_plain, files=files) for seed in files}
+    lines, rows = [], []
+    for seed, page in pages.items():
+        data = parse_data(page)
+        rights = quiz.parse_answers(data)
+        yield f"the answers of quiz {seed} are of all kinds", {0, 2, 3}, set(rights)
+        lines.append(codes.make_code(codes.CodeContents(data["mark"], seed, STUDENT, make_answers(rights, WRONG))))
+        rows.append((seed, ROW[1:]))
+        lines.append(codes.make_code(codes.CodeContents(data["mark"] ^ 1, seed, STUDENT, rights)))
+    for seed, page in pages.items():
+        expected = []
+        for other, row in rows:
+            refused = OTHER_QUIZ if other == seed else f"{OTHER_QUIZ}, that with the seed {other}"
+            expected += [[STUDENT if other == seed else f"{STUDENT} (quiz {other})", *row], [refused]]
+        script = f"{require_match(SCRIPT.search(page))[1]}console.log(JSON.stringify({json.dumps(lines)}.map(rowOf)));"
+        ran = subprocess.run([NODE, "-"], input=script.encode(), capture_output=True, timeout=60, check=False)
+        yield f"quiz {seed} reads the codes of all", expected, json.loads(ran.stdout or b"0") or ran.stderr.decode()
+
+
 def check_others(folder: str) -> Iterator[Comparison]:
     """Checks that the quizzes of a site lead to each other, that each keeps its own answers, and that the list of documents has the first."""
     files = documents.QUIZZES
@@ -409,6 +438,7 @@ def check_others(folder: str) -> Iterator[Comparison]:
         others = [(file, other) for other, file in files.items() if other != seed]
         yield f"quiz {seed} links to the others", others, re.findall(r'<a href="([^"]*)">(\d)</a>', page)
         yield f"quiz {seed} has its number", True, f"This is quiz {seed}. " in page and f"<title>Quiz {seed}: " in page
+    yield from check_codes_of_others(files)
     if not users.is_installed():
         return
     user = users.User(f"file://{folder}/{documents.QUIZ}", f"{folder}/profile")

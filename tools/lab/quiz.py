@@ -39,6 +39,14 @@ class Data(TypedDict):
     reasons: list[str]
 
 
+class OtherData(TypedDict):
+    """What a page has of another quiz: its seed and its mark, and the hidden answers."""
+
+    seed: str
+    mark: int
+    hidden: str
+
+
 class NoQuiz(Exception):
     """There is no quiz, and why."""
 
@@ -225,6 +233,12 @@ def make_data(seed: str, tests: list[QuizTest]) -> Data:
     texts = [it.text for it in tests]
     hidden = "".join(SYMBOLS[hash_text(seed + it.text) ^ it.encode_answers()] for it in tests)
     return {"seed": seed, "mark": hash_tests(texts, seed), "hidden": hidden, "tests": texts, "reasons": [hide_reason(seed, it) for it in texts]}
+
+
+def make_other_data(seed: str, tests: list[QuizTest]) -> OtherData:
+    """Returns what the page of another quiz needs to read codes of a quiz: its answers are hidden by their places."""
+    hidden = "".join(SYMBOLS[hash_text(f"{seed} {index}") ^ it.encode_answers()] for index, it in enumerate(tests))
+    return {"seed": seed, "mark": hash_tests([it.text for it in tests], seed), "hidden": hidden}
 
 
 def parse_answers(data: Data) -> list[int]:
