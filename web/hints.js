@@ -8,6 +8,7 @@ import { findFurtherFaults } from "./further_faults.js";
 import { takeWalk } from "./guided_walk.js";
 import { ProjectorFit } from "./projector_fit.js";
 import { makeSlipNotes } from "./slips.js";
+import { findUnwritten } from "./unwritten.js";
 
 /** Returns the hint on a fault; one without words if the code that looks for it fails, so that lw's own sentence is shown. */
 function explainSafely(fault, text) {
@@ -22,5 +23,5 @@ function explainSafely(fault, text) {
 /** Returns what fits the view for a projector into the window. */
 const makeProjectorFit = () => new ProjectorFit();
 
-/** The functions that errors.js, main.js and present.js call. */
-export const hints = { explainFault: explainSafely, explainMissingRowEnd, fillAbout, findFurtherFaults, Fences, makeProjectorFit, makeSlipNotes, takeWalk };
+/** The functions that errors.js, main.js, present.js and states.js call. */
+export const hints = { explainFault: explainSafely, explainMissingRowEnd, fillAbout, findFurtherFaults, Fences, findUnwritten, makeProjectorFit, makeSlipNotes, takeWalk };

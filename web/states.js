@@ -15,6 +15,7 @@ import { countPrediction } from "./score.js";
 import { askOrSearch, isTooLong, makeSearchOffer } from "./search.js";
 import { SeenHere } from "./seen_here.js";
 import { Strip } from "./strip.js";
+import { loadHints } from "./supplies.js";
 import { findTints, renderCode, renderTestName, renderTintedSentence } from "./tint.js";
 import { showError, clearFault } from "./errors.js";
 import { ENDED, describeBuffered, describeCount, describeInterleaved, describeVerdict, isUnasked } from "./verdicts.js";
@@ -319,6 +320,8 @@ export class States {
     place.replaceChildren(el("span", { class: "state-words", title: words.replaceAll("`", "") }, renderSentence(words)), " ", makePlainMark("this note"));
     markCut(place.closest(".note"));
     this.run.onDraw();
+    const hints = await loadHints().catch(() => null);
+    if (hints && this.report === report) this.strip.markUnwritten(fields.text, hints.findUnwritten(fields.text, report.states.map(({ line }) => line)));
   }
 
   /** Returns in a sentence which state shows the answer, with its run, or which is missing, with why; nothing if no single state shows it. */

@@ -31,6 +31,7 @@ const [WIDE_COLUMN, NARROW_COLUMN, NEVER_COLUMN] = [3, 1.85, 4.2];
 const AROUND_ROWS = 18;
 
 const BUFFERED = " Only store buffers reach it.";
+const UNWRITTEN = "its initial value: a jump passes over each instruction that writes it";
 const MARKED = "in which states the condition holds";
 const NOT_PROVED = `${MARKED}: found by the page's own code, which is not proved`;
 
@@ -109,6 +110,19 @@ export class Strip {
     for (const state of this.report?.states.filter(({ line }) => this.buffered.has(line)) ?? []) {
       this.place.querySelector(`th [data-line="${CSS.escape(state.line)}"]`)?.parentElement.replaceWith(this.makeHead(state));
     }
+  }
+
+  /** Marks the words of registers that no instruction has written: for the line of each state of a text the names of these. */
+  markUnwritten(text, names) {
+    this.unwritten = { text, names };
+    if (this.report && !this.rows && [...names.values()].some((it) => it.length)) this.draw();
+  }
+
+  /** Returns the word of a name in a state, which is marked if it is known that no instruction has written it. */
+  makeWord(name, at, line) {
+    const word = String(parseReportLine(line)[at][1]);
+    const { text, names } = this.unwritten ?? {};
+    return text === this.editor.text && names.get(line)?.includes(name) ? el("i", { class: "unwritten", title: UNWRITTEN }, word) : word;
   }
 
   /** Returns whether the words of a state are shown: the reader has found it, or does not look for the states. */
@@ -262,7 +276,7 @@ export class Strip {
   makeRow(name, at) {
     const { ghost } = this;
     const formatWord = (line) => String(parseReportLine(line)[at][1]);
-    const cells = this.makeCells((state) => (this.isShown(state) ? formatWord(state.line) : "·"));
+    const cells = this.makeCells((state) => (this.isShown(state) ? this.makeWord(name, at, state.line) : "·"));
     const ofGhost = ghost ? el("td", { class: this.kindOfGhost }, formatWord(ghost)) : null;
     return el("tr", {}, el("th", { scope: "row" }, renderSite(name, this.tints), makeVariable(this.variables.get(name))), cells, ofGhost);
   }

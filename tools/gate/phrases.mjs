@@ -91,12 +91,38 @@ const UNKNOWN =
   "In the program this fence is `atomic_thread_fence(memory_order_seq_cst)` in C, the same with `std::` in C++, `fence(Ordering::SeqCst)` in Rust, and " +
   "`smp_mb()` in the kernel, at that place.";
 
+/** Returns a test of a thread, whose instructions have `;` between them, beside one that stores. */
+function makeJumping(code) {
+  return `X86 J\n{ 0:EBX=0; }\n P0 | P1 ;\n${code.split(";").map((it, at) => ` ${it.trim()} | ${at ? "" : "MOV [f],$1"} ;\n`).join("")}exists (0:EAX=0 /\\ 0:EBX=0)\n`;
+}
+
+const SKIPPING = "MOV EAX,[f]; CMP EAX,$0; JE OUT; MOV EBX,[d]; OUT:";
+// The code of a thread, the line of a state, and the registers that it loads and that nothing has written in any run to the state.
+const UNWRITTEN = [
+  [SKIPPING, "0:EAX=0; 0:EBX=0;", ["0:EBX"]],
+  [SKIPPING, "0:EAX=1; 0:EBX=0;", []],
+  [SKIPPING.replace("JE", "JNE"), "0:EAX=0; 0:EBX=0;", []],
+  [SKIPPING.replace("JE", "JNE"), "0:EAX=1; 0:EBX=0;", ["0:EBX"]],
+  [SKIPPING.replace("$0", "$1"), "0:EAX=0; 0:EBX=0;", []],
+  // The state does not say what was compared: it has not the register, or another word that came later.
+  [SKIPPING, "0:EBX=0;", []],
+  [`${SKIPPING} MOV EAX,$0`, "0:EAX=0; 0:EBX=0;", []],
+  [SKIPPING.replace("JE", "ADD ECX,$1; JE"), "0:EAX=0; 0:EBX=0;", []],
+  // A copy says it, and so does a word that no run compares as equal.
+  [SKIPPING.replace("; CMP", "; MOV ECX,EAX; CMP").replace("OUT:", "OUT: MOV EAX,$7"), "0:EAX=7; 0:EBX=0; 0:ECX=0;", ["0:EBX"]],
+  [`${SKIPPING} MOV EAX,$0`.replace("MOV EAX,[f]", "MOV EAX,$0"), "0:EAX=0; 0:EBX=0;", ["0:EBX"]],
+  // Another path loads it, or it is locked; and a register that is only set is none of these.
+  ["MOV EAX,[f]; CMP EAX,$0; JE ELSE; MOV EBX,[d]; JMP OUT; ELSE: MOV EBX,[e]; OUT:", "0:EAX=0; 0:EBX=0;", []],
+  ["XCHG [l],EBX; MOV EAX,[f]; CMP EAX,$0; JE OUT; MOV EBX,[d]; OUT:", "0:EAX=0; 0:EBX=0;", []],
+  [SKIPPING.replace("MOV EBX,[d]", "MOV EBX,$1"), "0:EAX=0; 0:EBX=0;", []],
+];
+
 /**
  * Compares all that is typed in here.
  * @param {function(string, any, any)} compare
  */
 export async function comparePhrases(compare) {
-  const { condition_words, fence_words } = await loadModules(["condition_words", "fence_words"]);
+  const { condition_words, fence_words, unwritten } = await loadModules(["condition_words", "fence_words", "unwritten"]);
   for (const [comments, question, words, premise, otherwise = ""] of CONDITIONS) {
     const expected = words === null ? null : { words, premise, otherwise };
     compare(`the condition ${comments}${question} in words`, expected, condition_words.describeCondition(makeTest(comments, question)));
@@ -108,6 +134,9 @@ export async function comparePhrases(compare) {
   for (const [program, fence, hasStores] of PROGRAMS) {
     const expected = `In the program this fence is ${fence}${PLACE}${hasStores ? OF_STORE : "."}`;
     compare(`a fence in ${JSON.stringify(program)}`, expected, fence_words.describeFence(program));
+  }
+  for (const [code, line, names] of UNWRITTEN) {
+    compare(`what ${code} has not written in ${line}`, names, unwritten.findUnwritten(makeJumping(code), [line]).get(line));
   }
   compare("a fence in an unknown program", UNKNOWN, fence_words.describeFence(undefined));
 }

@@ -78,6 +78,16 @@ class FirstView(PageCase):
         self.assertSays("The condition holds in 1 of 4 final states.", "#outcome .asked")
         self.assertEqual(["x 1 ↓", "y 1 ↓"], user.texts("#watching .entry"))
 
+    def test_unwritten(self) -> None:
+        """In the list a register whose load a jump passes over in every run to a state is marked; one that was loaded as 0 is not."""
+        user = self.user
+        user.open_listed("#example=Publication-x86")
+        found = "return [...document.querySelectorAll('#outcome .unwritten')].map((it) => [it.closest('tr').textContent, it.title])"
+        self.assertSoon([["1:EBX070", "its initial value: a jump passes over each instruction that writes it"]], lambda: user.run(found))
+        user.open_listed("#example=SB-x86")
+        self.assertSays("1 of 4 only by store buffers", "#outcome .note")
+        self.assertEqual([], user.run(found))
+
     def test_surprise(self) -> None:
         """The opening view says why its state surprises, and so does a link to the test or with its text; the view for a projector does not."""
         user = self.user
