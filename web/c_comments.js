@@ -54,7 +54,9 @@ function listNames(made) {
  * may be asked of there and then.
  */
 function listAskedNames(text, index, made, isPseudo) {
-  const { own, locations } = listNames(made);
+  const { own, locations: all } = listNames(made);
+  // A name that lw has ends in `_` in a test.
+  const locations = all.map((it) => (it.endsWith("_") && !new RegExp(`\\b${it}\\b`).test(text) ? it.slice(0, -1) : it));
   const blanked = text.replace(COMMENT, (it) => it.replace(/[^\n]/g, " "));
   const isBeside = isPseudo && /\S[^\n]*$/.test(blanked.slice(0, index));
   const isOutside = blanked.slice(0, index).split("{").length === blanked.slice(0, index).split("}").length && !isBeside;

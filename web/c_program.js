@@ -8,7 +8,7 @@ import { CallWriter } from "./c_calls.js";
 import { findClosing, parseConstant, refusePart } from "./c_code.js";
 import { ConditionWriter } from "./c_conditions.js";
 import { rewriteDialect } from "./c_dialects.js";
-import { applyEdits } from "./c_edits.js";
+import { applyEdits, replaceMatch } from "./c_edits.js";
 import { areEntering, findEither, findEntry, formatList, guessQuestion } from "./c_guess.js";
 import { needsWords, writeKnown } from "./c_known_threads.js";
 import { linkThreads } from "./c_links.js";
@@ -19,6 +19,7 @@ import { OF_STORING } from "./c_loop_reader.js";
 import { startThreads } from "./c_main.js";
 import { separateMainPart } from "./c_main_part.js";
 import { OF_RUNS } from "./c_main_reader.js";
+import { quoteProgram } from "./c_quotes.js";
 import { addEnds, addPhrase, formatAssertion, formatFormula, limitQuestion, readProposition } from "./c_question.js";
 import { rewritePointers } from "./c_pointers.js";
 import { checkThreads, readProgram } from "./c_reader.js";
@@ -49,6 +50,8 @@ const OF_SWAPS = ": a compare-exchange is rewritten if its variable is only ever
 const OF_PAIRS = ": a loop that exchanges needs a variable that is only set to the constant that it writes, and to the one at which it ends";
 // A number with marks between its digits.
 const SEPARATED = /(?<![\w.'])\d+(?:'[\da-fA-F]+)+/g;
+// Why lw refuses a test with a name.
+const RESERVED = /^(\w+) is reserved\b/;
 // A name in a question: the groups are the number of a thread before it, and the name. And those that are words of the question itself.
 const NAME = /(?<!\w)(?:P?(\d)\s*:\s*)?([A-Za-z_]\w*)/g;
 // A longer program is not written with words that are known.
@@ -331,8 +334,21 @@ function isRead(text) {
  */
 export function rewriteProgram(text, meaning = "") {
   const joined = text.replace(SEPARATED, (it) => it.replaceAll("'", "").padEnd(it.length));
-  const test = rewriteJoined(joined, meaning);
-  return test.made ? test : rewriteOther(joined, meaning, test.index) ?? test;
+  const test = rewriteReserved(joined, meaning);
+  return test.made ? test : quoteProgram(rewriteOther(joined, meaning, test.index) ?? test, text);
+}
+
+/** Returns what `rewriteJoined` does of a program in which a shared variable that has the name of a register, or another name that lw reserves, ends in `_`. */
+function rewriteReserved(text, meaning) {
+  const test = rewriteJoined(text, meaning);
+  const [, name] = RESERVED.exec(test.index === undefined ? test.why ?? "" : "") ?? [];
+  const isTaken = new RegExp(`\\b${name}_\\b`).test(text);
+  if (name === undefined || isTaken) return test;
+  const named = [...text.matchAll(new RegExp(`\\b${name}\\b`, "g"))].map((it) => replaceMatch(it, `${name}_`));
+  const edited = applyEdits(text, named);
+  const { index, ...other } = rewriteReserved(edited.text, meaning);
+  if (!other.made) return { ...other, index: index === undefined ? undefined : edited.findIndex(index) };
+  return { ...other, terms: ` The variable \`${name}\` is \`${name}_\` here, since lw has that name.${other.terms ?? ""}` };
 }
 
 /** Returns what `rewriteProgram` does of a program in the form of another tool, which is `refused` at an index; null of one in its own form. */
@@ -340,7 +356,7 @@ function rewriteOther(text, meaning, refused) {
   try {
     const edited = rewriteDialect(text, refused);
     if (!edited) return null;
-    const { index, ...test } = rewriteJoined(edited.text, meaning);
+    const { index, ...test } = rewriteReserved(edited.text, meaning);
     return { ...test, index: index === undefined ? undefined : edited.findIndex(index) };
   } catch ({ message, index }) {
     return { why: message, index };

@@ -638,7 +638,6 @@ const REFUSED = [
   ["0:r0", "2:r0", `\`2:r0\`${UNSET}`],
   ["0:r0=0", "z=0", `\`z\`${UNSET}`],
   ["0:r0=0", "0:r0=0 0", "`exists (0:r0=0 0 /\\ 1:r0=0)`: found 0, expected )"],
-  ["int d;", "atomic_int eax;", "eax is reserved", "x = 1", "eax = 1"],
 ];
 
 // Long texts, the places of a program where they are put, as what is before and after them, and the most milliseconds for each.
@@ -2438,6 +2437,39 @@ void P1() { t = 2; y = t; }
   ["two tests of GoogleTest", `TEST(A, B) { std::atomic<int> x{0}; std::thread t([&] { x = 1; }); t.join(); EXPECT_EQ(x.load(), 1); }
 TEST(A, C) { std::atomic<int> x{0}; std::thread t([&] { x = 2; }); t.join(); EXPECT_NE(x.load(), 1); }
 `, "`TEST(A, C)`: the page takes one test of several, so leave out the others"],
+  ["what is quoted of a function with an object", `struct Node { int value; struct Node *next; };
+_Atomic(struct Node *) head;
+void push(int v) {
+  struct Node *n = malloc(sizeof *n);
+  n->value = v; n->next = atomic_load(&head);
+  while (!atomic_compare_exchange_weak(&head, &n->next, n)) ;
+}
+`, "`void push(int v) { struct Node *n = mall..`: a thread is a function without parameters, or with an unused `void *`"],
+  ["no question, and variables with names of registers", `volatile int x, y, r1, r2;
+void t0() { x = 1; r1 = y; }
+void t1() { y = 1; r2 = x; }
+`, `X86 Mine
+{ x=0; y=0; r1_=0; r2_=0; }
+ P0            | P1            ;
+ MOV [x],$1    | MOV [y],$1    ;
+ MOV EAX,[y]   | MOV EAX,[x]   ;
+ MOV [r1_],EAX | MOV [r2_],EAX ;
+locations [r1_; r2_]
+exists (true)
+`],
+  ["a question of a variable with the name of a register", `volatile int x, EAX, eax_;
+void P0() { x = 1; EAX = 2; }
+void P1() { int r1 = EAX; eax_ = x; }
+// lw: exists (1:r1=2 /\\ EAX=2 /\\ eax_=0)
+`, `X86 Mine
+(* 1:EAX is r1 *)
+{ x=0; EAX_=0; eax_=0; }
+ P0            | P1             ;
+ MOV [x],$1    | MOV EAX,[EAX_] ;
+ MOV [EAX_],$2 | MOV EBX,[x]    ;
+               | MOV [eax_],EBX ;
+exists (1:EAX=2 /\\ EAX_=2 /\\ eax_=0)
+`],
   ["a loop of loads of a word that is not known", `std::atomic<int> seq{0}; std::atomic<int> d;
 void w() { int s = seq; s += s; s += 3; seq = s; }
 void r() { int a, b; do { a = seq.load(std::memory_order_acquire); b = d; } while (a * a / 3 != b + (a && b ? 1 : 2)); }

@@ -292,6 +292,8 @@ const QUESTIONS = [
   ["See https://example.org/?q=1. The store happens before the load.", "", "exists (0:EAX=0 /\\ 1:EAX=0)", ""],
   ["r1 == 1 && r2 == 1", "", "exists (0:EAX=0 /\\ 1:EAX=0)", ""],
 ];
+// A program whose results have the names of registers.
+const OF_RESERVED = "volatile int x, y, r1, r2; // r1 == 0 && r2 == 0 ?\nvoid t0() { x = 1; r1 = y; }\nvoid t1() { y = 1; r2 = x; }\n";
 // Programs whose comments ask of what a function has there and then.
 const ASKED_THERE = [
   ["a location in a function", ASKED.C.replace("/* R */", "/* y == 1 ? */").replace("// Q", "")],
@@ -336,6 +338,8 @@ function compareQuestions({ faults }, compare) {
       compare(`the question of the comments ${before} and ${after} in ${language}`, [expected, true], [question, isSaid]);
     }
   }
+  const reserved = find(OF_RESERVED);
+  compare("the question of a comment on names of registers", ["exists (r1_=0 /\\ r2_=0)", true], [reserved.question, reserved.words.includes(IS_READ)]);
   for (const [name, text] of ASKED_THERE) {
     const { words, question } = find(text);
     compare(`the question of a comment on ${name}`, [true, true], [question?.endsWith("exists (true)"), words.includes(IS_UNREAD)]);

@@ -114,7 +114,7 @@ void r() { auto d = g.load(std::memory_order_acquire); if (d == nullptr) return;
 std::atomic<Box*> box{nullptr};
 void send() { auto* p = new Box(1, 2); box.store(p, std::memory_order_release); }
 void get() { Box* p = box.load(std::memory_order_acquire); int v = -1; if (p != nullptr) v = p->b + p->a; }
-`, "`v = Box_b + Box_a`: load each shared variable into one of the thread first, since compilers choose which is first"],
+`, "`v = p->b + p->a`: load each shared variable into one of the thread first, since compilers choose which is first"],
   ["the kernel's pointers", `struct foo { int a; };
 struct foo *gp = NULL;
 void writer(void) {
@@ -2731,7 +2731,7 @@ void t1() { Singleton* s = Singleton::getInstance(); assert(s->value == 42); }
 void t2() { Singleton* s = Singleton::getInstance(); assert(s->value == 42); }
 int main() { std::thread a(t1), b(t2); a.join(); b.join(); }
 `,
-    "`assert(Singleton_value == 42)`: another thread may still wait then, in a loop or for a lock, so assert it at the end of `main`", "assert(s->value == 42); "],
+    "`assert(s->value == 42)`: another thread may still wait then, in a loop or for a lock, so assert it at the end of `main`", "assert(s->value == 42); "],
   ["a static member with the name of a variable", `#include <atomic>
 #include <thread>
 class Config {
