@@ -3,6 +3,8 @@
 import { findClosing } from "./c_code.js";
 
 const SAID_OF_PROCESSES = " Two threads run this code, each with its own number.";
+const SAID_OF_SAME = " Two threads run this code.";
+const SAID_OF_OLD_WORD = " A compare-and-swap that is compared with 0 returns the old word.";
 const SAID_OF_PROMELA = " A statement of Promela is atomic, and here it is not.";
 const SAID_OF_LOCK = " Each of two threads calls `lock`, is in a critical section, and calls `unlock`.";
 // The name of a process with a letter in place of its number, and what follows it in its line up to its code.
@@ -33,6 +35,11 @@ const DECLARATIONS = /^(?:[ \t]*(?:(?:bool|boolean|int|integer|var|shared|volati
 const OF_NUMBERS = /\[\s*i\s*\]/;
 const OF_OTHERS = /\bj\b|\b1\s*[-–−]\s*i\b/;
 const SECTION = /^\W*(?:in\s+)?(?:the\s+)?(?:critical[ _](?:section|region)|CS)\W*$/im;
+// An endless loop that is a whole text, a locked instruction that gets a lock, which is the group, what is set, and a loop of the old word of a lock.
+const ENDLESS = /^\s*(?:do\s*\{[^]*\}\s*while\s*\(\s*(?:true|1)\s*\)\s*;?|while\s*\(\s*(?:true|1)\s*\)\s*\{[^]*\})\s*$/i;
+const LOCKED = /\bwhile\s*\(\s*(?:test_?and_?set|compare_?and_?swap)\s*\(\s*&?\s*(\w+)\b/i;
+const ASSIGNED = /(?<![\w.])([A-Za-z_]\w*)(?:\[[^\]]*\])?\s*=(?!=)/g;
+const OLD_WORD = /(?<=\bwhile\s*\(\s*)compare_?and_?swap\s*\(\s*&?\s*(\w+)\s*,\s*0\s*,\s*1\s*\)\s*!=\s*0(?=\s*\))/gi;
 // A class with a lock, words of Java that pseudo code does without, what gives a thread its number, and what of Java is not written.
 const CLASS = /^\s*(?:(?:public|final)\s+)*class\s+\w+(?:\s+(?:implements|extends)\s+\w+)?\s*\{([^]*)\}\s*$/;
 const CONSTANT = /\b(?:(?:private|public|protected)\s+)?(?:static\s+final|final\s+static)\s+int\s+(\w+)\s*=\s*(\d+)\s*;/g;
@@ -158,10 +165,27 @@ function writeBoth(before, name, end, code, first) {
   return { text: before + threads.join("") + asked.join(""), words: SAID_OF_PROCESSES };
 }
 
+/**
+ * Returns the text of two processes that run one endless loop with a critical section, before which a locked instruction gets the only variable that they set;
+ * null if a text is something else.
+ */
+function writeLocking(before, code) {
+  const [, lock] = LOCKED.exec(code) ?? [];
+  const isAll = ENDLESS.test(code) && SECTION.test(code) && [...code.matchAll(ASSIGNED)].every(([, name]) => name === lock);
+  if (!lock || !isAll || /\b[ij]\b/.test(code) || OF_MANY.test(code.replace(/\/\*[^]*?\*\//g, ""))) return null;
+  // What returns whether it stored would not be compared with the word of a free lock.
+  const compared = code.replace(OLD_WORD, "!CAS(&$1, 0, 1)");
+  const returned = compared === code ? "" : SAID_OF_OLD_WORD;
+  if (/compare/i.test(compared)) return null;
+  return { text: `${before}P0:\n${compared.trimEnd()}\nP1:\n${compared.trimEnd()}\n`, words: SAID_OF_SAME + returned };
+}
+
 /** Returns the text of two processes that one without a name is the code of; null if a text is something else. */
 function writeNameless(text) {
   const [before] = DECLARATIONS.exec(text);
   const code = text.slice(before.length);
+  const locking = OTHER_PROCESS.test(text) ? null : writeLocking(before, code);
+  if (locking) return locking;
   const isProcess = OF_NUMBERS.test(code) && OF_OTHERS.test(code) && SECTION.test(code) && !OF_MANY.test(code);
   return isProcess && !OTHER_PROCESS.test(text) ? writeBoth(before, "P", ":\n", code, 0) : null;
 }
