@@ -14,6 +14,8 @@ const STEPPED = /^(\(?)([+-])\2(\w+)\b(?=[=!<>])/;
 const DIFFERENCE = /^\(?(\d+)-([A-Za-z_]\w*|atomic_load\w{0,20}\([^()]*\))\)?([=!]=)(\d+)$/;
 // A relation in squeezed code: the groups are its sides and its sign. And what may be loaded for it.
 const RELATION = /^((?:[^<>=!&|]|&(?=\w))+)([<>]=?)((?:[^<>=!&|]|&(?=\w))+)$/;
+// Bits of a variable, or its rest, which may be compared: the group is the variable.
+const MASKED = /^\(?([A-Za-z_]\w*)[&%]\d+\)?(?:[=!]=\d+)?$/;
 const COMPARED = /^(?:[A-Za-z_]\w*|atomic_(?:load|exchange|fetch_(?:add|sub))\w{0,20}\([^()]*\))$/;
 const CHANGES = /\batomic_(?:exchange|fetch_)/;
 const CALLS = /\b(\w+)\(/g;
@@ -21,15 +23,26 @@ const OF_RELATIONS = ": the page writes a condition as equalities, and here the 
 const OF_SECOND = ": what `<` and its like compare is loaded before the other parts of a condition here, so write two `if`, one in the other";
 const OF_PASSES = ": a loop that waits by a function calls one that changes nothing if the loop goes on, and returns constants";
 
-/** Returns whether squeezed code has a relation that is no equality. */
+/** Returns whether squeezed code has a relation that is no equality, or one of bits of a variable. */
 function isRelation(code) {
-  return /(?<![<-])[<>](?![<>])/.test(code) && !/<<|>>|_cast</.test(code);
+  return MASKED.test(removeOuterParentheses(code.replace(/^!/, ""))) || (/(?<![<-])[<>](?![<>])/.test(code) && !/<<|>>|_cast</.test(code));
 }
 
 /** Returns a condition that compares a load with a constant in place of one that compares the difference of a constant and the load. */
 function balanceDifference(code) {
   const [, first, load, sign, last] = DIFFERENCE.exec(removeOuterParentheses(code)) ?? [];
   return load ? `${load}${sign}${Number(first) - Number(last)}` : code;
+}
+
+/**
+ * Returns equalities that say that a test holds of a variable, which has some words: it has none of those of which the test does not hold, or, if there is no
+ * such word, another one that is `near`.
+ */
+function writeEqualities(variable, words, holds, near) {
+  const [held, others] = [words.filter(holds), words.filter((it) => !holds(it))];
+  if (held.length === 1) return `${variable}==${held[0]}`;
+  const excluded = others.length ? others : near.filter((it) => !holds(it)).slice(0, 1);
+  return excluded.map((it) => `${variable}!=${it}`).join("&&");
 }
 
 /** Writes the instructions of a thread, in whose conditions some words are known. */
@@ -64,8 +77,8 @@ export class ConditionWriter extends KnownWriter {
    * variable has one of a few words. The branch stays if the relation holds of all or none of them. Throws NoTest if they are not known.
    */
   writeRelations(code) {
-    if (splitOutside(removeOuterParentheses(code), "||").length > 1 || !isRelation(code)) return code;
     const parts = splitOutside(removeOuterParentheses(code), "&&");
+    if (splitOutside(removeOuterParentheses(code), "||").length > 1 || !parts.some(isRelation)) return code;
     const first = parts.findIndex((it) => /\w\(/.test(it) || (it.match(/[A-Za-z_]\w*/g) ?? []).some((name) => this.isShared(name)));
     // What is loaded for a relation is written before all parts: a change may only be in the first of these.
     if (parts.some((it, at) => at > 0 && isRelation(it) && CHANGES.test(it))) this.refuseStatement(OF_SECOND);
@@ -75,6 +88,8 @@ export class ConditionWriter extends KnownWriter {
   /** Returns equalities in place of a relation of a variable and a constant. It may load the variable if it `isFirst` to load one. */
   writeRelation(code, isFirst) {
     const [, negation, relation] = /^(!?)(.*)$/.exec(removeOuterParentheses(code));
+    const [, masked] = MASKED.exec(removeOuterParentheses(relation)) ?? [];
+    if (masked) return this.writeMasked(removeOuterParentheses(relation), masked, negation === "");
     const [, left, sign, right] = RELATION.exec(removeOuterParentheses(relation)) ?? this.refuseStatement(OF_RELATIONS);
     const isReversed = parseConstant(left) !== null;
     const [value, word] = isReversed ? [right, parseConstant(left)] : [left, parseConstant(right)];
@@ -83,11 +98,15 @@ export class ConditionWriter extends KnownWriter {
     const words = variable && this.known.has(variable) && word !== null ? this.listLocal(variable) : null;
     if (!words || [...words, word].some((it) => it >= WORD / 2)) this.refuseStatement(OF_RELATIONS);
     const holds = (it) => Boolean(computeConstant(isReversed ? `${word}${sign}(${it})` : `(${it})${sign}${word}`)) === (negation === "");
-    const [held, others] = [words.filter(holds), words.filter((it) => !holds(it))];
-    if (held.length === 1) return `${variable}==${held[0]}`;
-    // A word that the variable has not, if it has none of which the relation does not hold.
-    const excluded = others.length ? others : [word, word + 1, word - 1].filter((it) => !holds(it)).slice(0, 1);
-    return excluded.map((it) => `${variable}!=${it}`).join("&&");
+    return writeEqualities(variable, words, holds, [word, word + 1, word - 1]);
+  }
+
+  /** Returns equalities in place of a condition on bits of a variable of the thread, or of one that does not hold. */
+  writeMasked(code, variable, isHeld) {
+    const words = this.locals.has(variable) && this.known.has(variable) ? this.listLocal(variable) : null;
+    const holds = (it) => Boolean(computeConstant(code.replace(variable, String(it)))) === isHeld;
+    if (!words || words.some((it) => it >= WORD / 2) || computeConstant(code.replace(variable, "1")) === null) this.refuseStatement(OF_RELATIONS);
+    return writeEqualities(variable, words, holds, [0, 1, 2, 3]);
   }
 
   /** Returns whether a name is that of a shared variable. */

@@ -35,6 +35,24 @@ const OTHERS = [
   [/\bunion\b\s*\w*(?=\s*\{)/, ": its members share their bytes, and here each variable has a word of its own, so declare only the variables that the threads access"],
   [REFERENCE, ": a reference is another name of a variable, and it is not sure of which one here, so write the variable in its place"],
 ];
+// A loop that looks at a lock and then tries to get it: the groups are the loads, the exchanges, and what leaves it.
+const LOAD = "(\\w+\\s*\\.\\s*load\\s*\\([^()]*\\)|atomic_load\\w*\\s*\\([^()]*\\)|[A-Za-z_]\\w*)";
+const TAKE = "(\\w+\\s*\\.\\s*(?:exchange|test_and_set)\\s*\\([^()]*\\)|atomic_(?:exchange|flag_test_and_set)\\w*\\s*\\([^()]*\\))";
+const FOREVER = "\\b(?:for\\s*\\(\\s*;\\s*;\\s*\\)|while\\s*\\(\\s*(?:true|1)\\s*\\))\\s*\\{\\s*";
+const LEAVE = "(?:\\{\\s*)?(break|return)\\s*;(?:\\s*\\})?\\s*\\}";
+const isZero = (it) => `(?:!\\s*${it}|${it}\\s*==\\s*(?:0|false)\\b)`;
+const TRYING = [
+  new RegExp(`${FOREVER}if\\s*\\(\\s*${isZero(LOAD)}\\s*&&\\s*${isZero(TAKE)}\\s*\\)\\s*${LEAVE}`, "g"),
+  new RegExp(`${FOREVER}while\\s*\\(\\s*${LOAD}\\s*\\)\\s*(?:;|\\{\\s*\\})\\s*if\\s*\\(\\s*!\\s*${TAKE}\\s*\\)\\s*${LEAVE}`, "g"),
+  new RegExp(`\\bwhile\\s*\\(\\s*${LOAD}\\s*\\|\\|\\s*${TAKE}\\s*\\)\\s*(?:;|\\{\\s*\\})`, "g"),
+];
+// An assignment, a declaration or a `return` of what `?` chooses: the groups are its type, its place, and its value.
+const CHOSEN = /(?<=[;{}]\s*)(?:(?:const\s+)?((?:auto|int|bool|unsigned|long)\s+)?(\w+)\s*=(?!=)|(return)\b)([^;{}?]+)\?([^;{}?]+);/g;
+const LOADING = /\bload\w*\s*\(|READ_ONCE|load_acquire/;
+const WIDE = /64|\blong\b|size_t|ptr_t/;
+// Threads that are started outside of functions, up to the name of the first one, and a function.
+const STARTED = /^(?:std\s*::\s*)?j?thread\s+\w+\s*[({]/m;
+const FUNCTION = /\)\s*(?:noexcept\s*)?\{/;
 const OF_READING = ": what a load reads is asked of a register, as `r1 = x.load(memory_order_acquire).readsvalue(1)`";
 const OF_TESTS = ": the page takes one test of several, so leave out the others";
 const LONGEST = 20000;
@@ -100,6 +118,38 @@ function editOrders(code) {
   });
 }
 
+/** Returns the edits by which loops that look at a lock before they try it wait for each: the last pass of both is the same. */
+function editTries(code) {
+  return TRYING.flatMap((pattern) => [...code.matchAll(pattern)]).map((it) => {
+    const parts = it.slice(1).filter(Boolean);
+    const leave = /^(?:break|return)$/.test(parts.at(-1)) ? parts.pop() : "";
+    return replaceMatch(it, `{ while (${parts[0]}) ; while (${parts[1]}) ;${leave === "return" ? " return;" : ""} }`);
+  });
+}
+
+/** Returns the edits by which what `?` chooses is in branches, if it is loaded there. */
+function editChoices(code) {
+  return [...code.matchAll(CHOSEN)].flatMap((it) => {
+    const [, type = "", place, result, condition, values] = it;
+    const [then, otherwise, another] = values.split(/(?<!:):(?!:)/);
+    const front = code.slice(Math.max(code.lastIndexOf("{", it.index), code.lastIndexOf("}", it.index)) + 1, it.index);
+    const isInHead = front.split("(").length > front.split(")").length;
+    if (isInHead || otherwise === undefined || another !== undefined || !LOADING.test(values) || (type && WIDE.test(code))) return [];
+    const set = result ? "return" : `${place} =`;
+    const declared = type ? `${type.replace("auto", "int")}${place}; ` : "";
+    return [replaceMatch(it, `${declared}if (${condition}) { ${set} ${then}; } else { ${set} ${otherwise}; }`)];
+  });
+}
+
+/** Returns the edits by which threads that are started outside of functions are started in `main`. */
+function editStarts(code) {
+  const { index } = STARTED.exec(code) ?? {};
+  const isOutside = code.slice(0, index).split("{").length === code.slice(0, index).split("}").length;
+  const isLast = !FUNCTION.test(code.slice(index).replace(/\[[^\][]*\]\s*(?:\([^()]*\)\s*)?(?:mutable\s*)?\{/g, " "));
+  if (index === undefined || MAIN.test(code) || !isOutside || !isLast) return [];
+  return [{ begin: index, end: index, text: "int main() { " }, { begin: code.length, end: code.length, text: "\n}\n" }];
+}
+
 /** Returns whether a name seems to be declared. */
 function isDeclared(code, name) {
   const declared = new RegExp(`(?:\\b(?!(?:return|else|case|new|delete|co_return|throw)\\b)[A-Za-z_]\\w*|>)[\\s*&]+${name}\\b|[,[]\\s*[*&]?${name}\\s*[;={,\\]]`, "g");
@@ -140,7 +190,7 @@ export function rewriteDialect(text, refused) {
   if (text.length > LONGEST) return null;
   const code = text.replace(NO_CODE, (it) => it.replace(/[^\n]/g, " "));
   const edits = [];
-  for (const list of [editParallel, editTest, editLetters, editOrders, editReferences]) {
+  for (const list of [editParallel, editTest, editStarts, editLetters, editOrders, editReferences, editTries, editChoices]) {
     const found = list(code);
     const isIn = (it) => edits.some(({ begin, end }) => it.begin < end && begin < it.end);
     if (!found.some(isIn)) edits.push(...found);

@@ -75,6 +75,7 @@ export function writeKnown(program, write) {
  */
 export function needsWords({ why, index }, text) {
   const isCalling = why.endsWith(OF_LOOPS) && /^while\s*\(\s*!?\s*[\w.]+\s*\(/.test(text.slice(index, index + 80));
-  const isRelation = why.endsWith(OF_CONDITIONS) && /^[^{};]*[<>]/.test(text.slice(index, index + 200));
+  const part = text.slice(index, index + 200);
+  const isRelation = (why.endsWith(OF_CONDITIONS) && /^[^{};]*[<>]/.test(part)) || /^(?:if|while)\b[^{};]*(?<!&)[&%]\s*\d/.test(part);
   return hasNamedIndex(text) || isCalling || isRelation || why.endsWith(" has no value on some path to here");
 }

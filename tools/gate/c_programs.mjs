@@ -426,7 +426,7 @@ const REFUSED = [
   ["int r0 = y;", "int r0 = y; r0 *= 2;", "`r0 *= 2`: the x86 format has sums only"],
   ["int r0 = y;", "while (1) ;", `\`while (1)\`${OF_LOOPS}`],
   ["int r0 = y;", "int r0 = y; while (r0 == 1) ;", `\`while (r0 == 1)\`${OF_LOOPS}`],
-  ["int r0 = y;", "while (y || x.exchange(1)) ;", `\`while (y || x.exchange(1))\`${OF_LOOPS}`],
+  ["int r0 = y;", "while (y || x.exchange(1) || v) ;", `\`while (y || x.exchange(1) || v)\`${OF_LOOPS}`],
   ["int r0 = y;", "while (y || d) ;", `\`while (y || d)\`${OF_PLAIN_LOOPS}`, "y = 1;", "d = 1;"],
   ["int r0 = y;", "int r0 = y; if (r0) while (y && x) ; else while (!y || x) ;", `\`while (!y || x)\`${OF_BRANCHES}`],
   ["0:r0=0", "y=0", `\`while (y.exchange(1))\`${OF_PAIRS}`, "int r0 = y; }\nvoid P1(void) { y = 1;", "while (y.exchange(1)) ; }\nvoid P1(void) { y = 2;"],
@@ -2470,6 +2470,85 @@ void P1() { int r1 = EAX; eax_ = x; }
                | MOV [eax_],EBX ;
 exists (1:EAX=2 /\\ EAX_=2 /\\ eax_=0)
 `],
+  ["no question, and loops that look at a lock before they try it", `std::atomic<int> l{0}; int n;
+void P0() { for (;;) { if (!l.load() && !l.exchange(1)) break; } n++; l.store(0, std::memory_order_release); }
+void P1() { while (true) { while (l.load(std::memory_order_relaxed)) ; if (!l.exchange(1)) { break; } } n++; l.store(0, std::memory_order_release); }
+`, `X86 Mine
+(* 0:EAX is l after its loop, 0:EBX is l at its lock, 1:EAX is l after its loop, 1:EBX is l at its lock *)
+(* every wait ends: 0:EAX=0 /\\ 0:EBX=0 /\\ 1:EAX=0 /\\ 1:EBX=0 *)
+(* an addition to n is lost: ~n=2 *)
+{ l=0; n=0; }
+ P0           | P1           ;
+ MOV EAX,[l]  | MOV EAX,[l]  ;
+ MOV EBX,$1   | MOV EBX,$1   ;
+ XCHG [l],EBX | XCHG [l],EBX ;
+ MOV ECX,[n]  | MOV ECX,[n]  ;
+ ADD ECX,$1   | ADD ECX,$1   ;
+ MOV [n],ECX  | MOV [n],ECX  ;
+ MOV [l],$0   | MOV [l],$0   ;
+locations [l]
+~exists (0:EAX=0 /\\ 0:EBX=0 /\\ 1:EAX=0 /\\ 1:EBX=0 /\\ ~n=2)
+`],
+  ["conditions that look at a lock before they try it", `atomic_int l; int n;
+void P0(void) { while (l || atomic_exchange(&l, 1)) ; n++; atomic_store_explicit(&l, 0, memory_order_release); }
+void P1(void) { for (;;) if (l == 0 && atomic_exchange(&l, 1) == 0) break; n++; atomic_store_explicit(&l, 0, memory_order_release); }
+`, "`for (;;)`: write out each pass of a loop. `tools/from_c.py` follows loops"],
+  ["no question, and a choice of loads", `std::atomic<int> x{0}, y{0};
+void P0() { x.store(1, std::memory_order_relaxed); y.store(1, std::memory_order_release); }
+void P1() { int r = y.load(std::memory_order_acquire) ? x.load(std::memory_order_relaxed) : -1; }
+`, `X86 Mine
+(* 1:EAX is y in its condition, 1:EBX is r *)
+{ x=0; y=0; }
+ P0         | P1                      ;
+ MOV [x],$1 | MOV EAX,[y]             ;
+ MOV [y],$1 | CMP EAX,$0              ;
+            | JE L1                   ;
+            | MOV EBX,[x]             ;
+            | JMP END                 ;
+            | L1: MOV EBX,$4294967295 ;
+            | END:                    ;
+exists (~1:EAX=0 /\\ 1:EBX=0)
+`],
+  ["threads that are started outside of functions", `std::atomic<int> x{0}, y{0};
+int r1, r2;
+std::thread t1([]{ x.store(1, std::memory_order_relaxed); r1 = y.load(std::memory_order_relaxed); });
+std::thread t2([]{ y.store(1, std::memory_order_relaxed); r2 = x.load(std::memory_order_relaxed); });
+t1.join(); t2.join();
+assert(!(r1 == 0 && r2 == 0));
+`, `X86 Mine
+(* 0:EAX is r1, 1:EAX is r2 *)
+{ x=0; y=0; }
+ P0          | P1          ;
+ MOV [x],$1  | MOV [y],$1  ;
+ MOV EAX,[y] | MOV EAX,[x] ;
+~exists (0:EAX=0 /\\ 1:EAX=0)
+`],
+  ["a reader of a sequence lock that looks at a bit", `std::atomic<int> seq{0}; std::atomic<int> a{0}, b{0};
+void writer() { seq.store(1, std::memory_order_release); a.store(1, std::memory_order_release); b.store(1, std::memory_order_release); seq.store(2, std::memory_order_release); }
+void reader() {
+  int s1 = seq.load(); int ra = a.load(); int rb = b.load(); int s2 = seq.load();
+  if (s1 == s2 && !(s1 & 1)) assert(ra == rb);
+}
+int main() { std::thread t(writer), u(reader); t.join(); u.join(); }
+`, `X86 Mine
+(* 1:EAX is s1, 1:EBX is ra, 1:ECX is rb, 1:EDX is s2 *)
+{ seq=0; a=0; b=0; }
+ P0           | P1            ;
+ MOV [seq],$1 | MOV EAX,[seq] ;
+ MOV [a],$1   | MOV EBX,[a]   ;
+ MOV [b],$1   | MOV ECX,[b]   ;
+ MOV [seq],$2 | MOV EDX,[seq] ;
+              | CMP EAX,EDX   ;
+              | JNE END       ;
+              | CMP EAX,$1    ;
+              | JE END        ;
+              | END:          ;
+forall ((~1:EAX=0 \\/ ~1:EDX=0) /\\ (~1:EAX=1 \\/ ~1:EDX=1) /\\ (~1:EAX=2 \\/ ~1:EDX=2) \\/ 1:EAX=1 \\/ 1:EBX=0 /\\ 1:ECX=0 \\/ 1:EBX=1 /\\ 1:ECX=1)
+`],
+  ["a bit of a variable that is not known", `std::atomic<int> x{0}, y{0};
+void P0() { int r1 = x.fetch_add(1); int r2 = r1; r2 += r1; if (r2 & 1) y = 1; }
+void P1() { x.fetch_add(2); int r3 = y; }
+`, "`if (r2 & 1)`: the page writes a condition as equalities, and here the words that are compared are too many, or not known, so compare by `==`"],
   ["a loop of loads of a word that is not known", `std::atomic<int> seq{0}; std::atomic<int> d;
 void w() { int s = seq; s += s; s += 3; seq = s; }
 void r() { int a, b; do { a = seq.load(std::memory_order_acquire); b = d; } while (a * a / 3 != b + (a && b ? 1 : 2)); }
