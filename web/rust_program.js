@@ -248,6 +248,10 @@ function translate(text) {
   return question ? `${program}\n${question}` : program;
 }
 
+// What begins statements outside of functions, which are put into `main`.
+const STARTED = /^(?:let\s+(?:mut\s+)?\w+\s*(?::[^=;]*)?=|(?:std\s*::\s*)?thread\s*::\s*(?:scope|spawn)\s*\()/m;
+const MAIN = "fn main() { ";
+
 /** Returns the threads in C++, and what starts them, if there are some. */
 function writeThreads({ threads, words, asserted, reported }) {
   const started = threads.map((_, at) => `std::thread t${at}(P${at}); `).join("") + threads.map((_, at) => `t${at}.join(); `).join("");
@@ -274,6 +278,17 @@ function nameGuards(why) {
  * @returns {object | null}
  */
 export function rewriteRust(text) {
+  const test = rewriteItems(text);
+  const { index } = STARTED.exec(text) ?? {};
+  const isInside = text.slice(0, index).split("{").length > text.slice(0, index).split("}").length;
+  if (test?.made || index === undefined || isInside || /\bfn\s+main\b/.test(text) || /\bfn\s/.test(text.slice(index))) return test;
+  const { index: at, ...other } = rewriteItems(`${text.slice(0, index)}${MAIN}${text.slice(index)}\n}\n`) ?? {};
+  if (!other.made && !other.why) return test;
+  return { ...other, index: at === undefined || at < index ? at : Math.max(at - MAIN.length, index) };
+}
+
+/** Returns what `rewriteRust` does of a program whose statements are in functions. */
+function rewriteItems(text) {
   try {
     const program = translate(text);
     if (!program) return null;
