@@ -41,6 +41,9 @@ const OF_PATHS = "declare it outside of blocks, with a value, as `int r0 = 0`";
 const OF_ASKED = ": the program asks something else, so leave this out";
 const OF_ENDLESS = ": the thread may still wait after this, in a loop or for a lock, so assert it at the end of `main`";
 const OF_OTHERS = ": another thread may still wait then, in a loop or for a lock, so assert it at the end of `main`";
+const OF_SECTIONS =
+  ": another thread may still wait then, in a loop or for a lock, and this variable changes again, so count in the section, as `n++`, and ask at the end of `main` " +
+  "whether an addition is lost";
 const OF_QUESTION = ": a question is `exists (..)`, `~exists (..)` or `forall (..)`";
 const OF_WIDE = ": the page takes words of 64 bits as words of 32, which sums or constants of this program may exceed";
 // A type of 64 bits, which is the group, and one of 32 without a sign.
@@ -168,6 +171,16 @@ function waitsForMutexes({ accesses, waits }) {
   return waits.length === accesses.filter((it) => it.isMutex && it.word).length;
 }
 
+/** Returns whether a variable of an assertion changes after it in its block: what it is at the end of `main` says nothing then. */
+function changesAfter(text, { code, index }) {
+  const begin = text.indexOf(";", index);
+  const names = code.match(/[A-Za-z_]\w*/g)?.filter((it) => it !== "assert") ?? [];
+  let depth = 0;
+  const length = text.slice(begin).split("").findIndex((it) => (depth += Number(it === "{") - Number(it === "}")) < 0);
+  const after = text.slice(begin, length < 0 ? undefined : begin + length);
+  return names.some((it) => new RegExp(`\\b${it}\\s*(?:=(?!=)|\\+\\+|--|[-+]=|\\.\\s*(?:store|fetch_\\w+|exchange)\\b)|(?:\\+\\+|--)\\s*${it}\\b`).test(after));
+}
+
 /**
  * Returns the question of what threads assert, with what `main` asserts, or "" if threads assert nothing. Throws NoTest if the program asks besides,
  * or if a loop waits that need not end before an assertion.
@@ -179,7 +192,7 @@ function askAssertions(program, writers, used) {
     if (question.code && !question.isAsserted) refusePart(writer.assertion, OF_ASKED);
     const others = writers.filter((it) => it !== writer && it.waits.length);
     const areSure = others.every(waitsForMutexes) && writers.every(isPaired);
-    if (others.length && !areSure) refusePart(writer.assertion, OF_OTHERS);
+    if (others.length && !areSure) refusePart(writer.assertion, changesAfter(text, writer.assertion) ? OF_SECTIONS : OF_OTHERS);
     if (writer.waitCount < writer.waits.length) refusePart(writer.assertion, OF_ENDLESS);
   }
   if (!asserting.length) return "";

@@ -2549,6 +2549,14 @@ forall ((~1:EAX=0 \\/ ~1:EDX=0) /\\ (~1:EAX=1 \\/ ~1:EDX=1) /\\ (~1:EAX=2 \\/ ~1
 void P0() { int r1 = x.fetch_add(1); int r2 = r1; r2 += r1; if (r2 & 1) y = 1; }
 void P1() { x.fetch_add(2); int r3 = y; }
 `, "`if (r2 & 1)`: the page writes a condition as equalities, and here the words that are compared are too many, or not known, so compare by `==`"],
+  ["an assertion in a section on what changes again", `std::atomic<int> l{0}; int in = 0;
+void P0() { while (l.exchange(1)) ; in++; assert(in == 1); in--; l.store(0); }
+void P1() { while (l.exchange(1)) ; in++; assert(in == 1); in--; l.store(0); }
+`, "`assert(in == 1)`: another thread may still wait then, in a loop or for a lock, and this variable changes again, so count in the section, as `n++`, and ask at the end of `main` whether an addition is lost"],
+  ["an assertion in a section on what stays", `std::atomic<int> l{0}; int in = 0;
+void P0() { while (l.exchange(1)) ; in = 1; assert(in == 1); l.store(0); }
+void P1() { while (l.exchange(1)) ; in = 2; l.store(0); }
+`, "`assert(in == 1)`: another thread may still wait then, in a loop or for a lock, so assert it at the end of `main`"],
   ["a loop of loads of a word that is not known", `std::atomic<int> seq{0}; std::atomic<int> d;
 void w() { int s = seq; s += s; s += 3; seq = s; }
 void r() { int a, b; do { a = seq.load(std::memory_order_acquire); b = d; } while (a * a / 3 != b + (a && b ? 1 : 2)); }
