@@ -6,9 +6,11 @@ import { readQuestion } from "./pseudo_questions.js";
 
 // A string, a letter, and a comment: the group is what is in a block. Comments in lines one below the other are one.
 const COMMENT = /"(?:[^"\\\n]|\\.)*"|'(?:[^'\\\n]|\\.)'|\/\/.*(?:\n[ \t]*\/\/.*)*|\/\*([^]*?)\*\//g;
-const SEEMS_TO_ASK = new RegExp(
-  "\\?|\\b(?:im)?possible\\b|\\b(?:allowed|forbidden|happens?(?![- ]before))\\b|^\\W*~?\\s*(?:exists|forall)\\s*\\(|\\bnever\\b[^]*=|=[^]*\\bnever\\b", "i",
-);
+const SEEMS_TO_ASK =
+  /\b(?:im)?possible\b|\b(?:allowed|forbidden)\b|^\W*~?\s*(?:exists|forall)\s*\(|\bnever\b[^]*=|=[^]*\bnever\b/i;
+// What asks if it compares something, too.
+const MAY_ASK = /\?|\bhappens?(?![- ]before)\b/i;
+const COMPARES = /[\w)\]]\s*(?:[=!]?=|≠|[<>])\s*\w|\b(?:is|are|be|equals?|reads?|both)\s+(?:both\s+)?\d/i;
 // What says that something never happens. And what may deny that again.
 const NEVER = new RegExp(
   "\\b(?:(?:assert|claim|check|ensure)s?\\s*:?\\s*)?(?:(?:must|should|will|can|may)\\s+)?(?:never|not)(?:\\s+(?:be\\s+possible|happens?|occurs?|hold|holds))?\\b|" +
@@ -37,7 +39,8 @@ function listAsking(text) {
     const lines = (block ?? whole).split("\n").map((it) => (block === undefined ? it.replace(/^[ \t]*\/\/+!?/, "") : it.replace(/^[ \t]*\*+/, "")));
     return { words: lines.join("\n").trim(), index };
   });
-  return read.filter(({ words }) => SEEMS_TO_ASK.test(words.replace(ADDRESS, "")) && !/\blw:/.test(words));
+  const seems = (words) => SEEMS_TO_ASK.test(words) || (MAY_ASK.test(words) && COMPARES.test(words));
+  return read.filter(({ words }) => seems(words.replace(ADDRESS, "")) && !/\blw:/.test(words));
 }
 
 /** Returns the names of the registers of each thread of a test, and those of its locations. */
@@ -106,10 +109,10 @@ function quote(words) {
   return `\`${line.length > LONGEST ? `${line.slice(0, LONGEST - 2)}..` : line}\``;
 }
 
-/** Returns the test that a function makes with a question that asks nothing, with a sentence on why (`asks`). */
-function askNothing(ask, asks, index) {
+/** Returns the test that a function makes with a question that asks nothing, or else the test itself, with a sentence on the comments (`asks`). */
+function askNothing(test, ask, asks) {
   const other = ask("exists (true)");
-  return other?.made ? { ...other, asks } : { why: `a comment:${asks.replace(/\.$/, "")}`, index };
+  return other?.made ? { ...other, asks } : { ...test, asks: asks.replace(", and guesses none.", ".") };
 }
 
 /**
@@ -125,11 +128,11 @@ export function askByComments(text, test, ask, isPseudo = false) {
   const comments = listAsking(text);
   if (!comments.length) return test;
   const questions = comments.map((it) => readComment(it.words, listAskedNames(text, it.index, test.made, isPseudo)));
-  const [{ words, index }] = comments;
-  if (new Set(questions.map((it, at) => it || comments[at].words)).size > 1) return askNothing(ask, OF_SEVERAL, index);
+  const [{ words }] = comments;
+  if (new Set(questions.map((it, at) => it || comments[at].words)).size > 1) return askNothing(test, ask, OF_SEVERAL);
   const asked = questions[0] && ask(questions[0]);
   if (asked?.made) return { ...asked, asks: ` The question is that of the comment ${quote(words)}.` };
-  return askNothing(ask, ` The page does not read the question of the comment ${quote(words)}, and guesses none.`, index);
+  return askNothing(test, ask, ` The page does not read the question of the comment ${quote(words)}, and guesses none.`);
 }
 
 /**

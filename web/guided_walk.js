@@ -95,7 +95,7 @@ const STYLE = `
 #walk p { font-size: 1rem; min-height: 2.9em; }
 #walk .row { margin-left: auto; }
 #walk [aria-disabled=true] { opacity: 0.45; cursor: default; }
-html.present #walk, body:has(> #walk:not([hidden])) #offer { display: none; }
+html.present #walk, body:has(> #walk:not([hidden])) :is(#offer, #paste) { display: none; }
 @media (min-width: 70rem) and (min-height: 34rem) {
   body:has(> #walk:not([hidden])) { grid-template-rows: auto auto minmax(0, 1fr); }
   html.present body:has(> #walk) { grid-template-rows: auto minmax(0, 1fr); }

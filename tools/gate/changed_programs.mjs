@@ -280,9 +280,11 @@ const QUESTIONS = [
   ["x == 1 && r1 == 0 possible?", "", "exists (x=1 /\\ 0:EAX=0)", IS_READ],
   ["r1 == 1 && r2 == 1 ?", "r1 == 1 && r2 == 1?", OF_BOTH, IS_READ],
   ["r1 == 1 && r2 == 1 ?", "r1 == 0 && r2 == 0 ?", OF_TRUE, ARE_SEVERAL],
-  ["r1 == 1 && r2 == 1 ?", "is this right?", OF_TRUE, ARE_SEVERAL],
+  // What compares nothing asks nothing of an end.
+  ["r1 == 1 && r2 == 1 ?", "is this right?", OF_BOTH, IS_READ],
   ["Can both be 0?", "", OF_TRUE, IS_UNREAD],
-  ["What can happen?", "", OF_TRUE, IS_UNREAD],
+  ["What can happen?", "", "exists (0:EAX=0 /\\ 1:EAX=0)", ""],
+  ["whose turn is it? (thread 0 or 1)", "", "exists (0:EAX=0 /\\ 1:EAX=0)", ""],
   ["r3 == 0 && r2 == 0 ?", "", OF_TRUE, IS_UNREAD],
   ["Can r1 == 0 and r2 == 0 never happen?", "", OF_TRUE, IS_UNREAD],
   ["Is r1 == 0 or r2 == 0 impossible?", "", OF_TRUE, IS_UNREAD],
