@@ -1,5 +1,5 @@
-// Reads the question of a program in C, C++ or Rust that only a comment asks, as `// r1 == 1 && r2 == 1 ?`. If a comment seems to ask, and is not read for
-// sure, the test asks nothing: a guessed question would be taken for that of the comment. Not proved.
+// Reads the question of a program in C, C++ or Rust that only a comment asks, as `// r1 == 1 && r2 == 1 ?`. If a comment seems to ask, and is not
+// read for sure, the test asks nothing: a guessed question would be taken for that of the comment. Not proved.
 
 import { formatFormula, mapAtoms, parseFormula } from "./c_question.js";
 import { readQuestion } from "./pseudo_questions.js";
@@ -13,7 +13,8 @@ const MAY_ASK = /\?|\bhappens?(?![- ]before)\b/i;
 const COMPARES = /[\w)\]]\s*(?:[=!]?=|≠|[<>])\s*\w|\b(?:is|are|be|equals?|reads?|both)\s+(?:both\s+)?\d/i;
 // What says that something never happens. And what may deny that again.
 const NEVER = new RegExp(
-  "\\b(?:(?:assert|claim|check|ensure)s?\\s*:?\\s*)?(?:(?:must|should|will|can|may)\\s+)?(?:never|not)(?:\\s+(?:be\\s+possible|happens?|occurs?|hold|holds))?\\b|" +
+  "\\b(?:(?:assert|claim|check|ensure)s?\\s*:?\\s*)?(?:(?:must|should|will|can|may)\\s+)?" +
+    "(?:never|not)(?:\\s+(?:be\\s+possible|happens?|occurs?|hold|holds))?\\b|" +
     "\\b(?:must|should)\\s+be\\s+(?:impossible|forbidden)\\b|\\b(?:cannot|can't|mustn't|shouldn't|won't)\\s+(?:happen|occur)\\b|\\bassert\\s*!(?=\\s*\\()", "i",
 );
 const DENIAL = /\b(?:not|never|no|none|neither|nor|impossible|forbidden|cannot|unless|except|without|only|always)\b|n't\b/i;
@@ -24,6 +25,7 @@ const ASKING = new RegExp(
 );
 const CONDITION = /[(!~]*\s*\w+\s*(?:[=!]=)[^?]*(?:\w|\))/;
 const QUANTIFIED = /^\s*(~\s*exists|exists|forall)\s*\(([^]*)\)[\s.?;]*$/;
+const EQUATION = /[=!]=?\s*(?:\d|true|false)/g;
 const OTHERS_ASKED = /\b(?:or|if|when|while|unless|then)\b/i;
 // A register of a test: the groups are the number of its thread, and its name in the program. And its locations.
 const REGISTER = /\b(\d):E[A-Z]{2} is (\w+)(?=,| \*\))/g;
@@ -88,6 +90,7 @@ function readCondition(code, { own, locations }) {
 function readComment(words, names) {
   const [, quantifier, proposition] = QUANTIFIED.exec(words) ?? [];
   const quantified = quantifier ? readCondition(proposition, names) : "";
+  if (quantifier && /\b\d\s*:/.test(proposition)) return `${quantifier.replace(/\s/g, "")} (${proposition})`;
   if (quantified) return `${quantifier.replace(/\s/g, "")} (${quantified})`;
   const isDenied = NEVER.test(words);
   const bare = isDenied ? words.replace(NEVER, " ") : words;
@@ -98,9 +101,13 @@ function readComment(words, names) {
   const ends = parts.map((_, at) => parts.slice(0, parts.length - at).join("")).filter((it) => /[\d)]$/.test(it.trim()));
   const found = condition && !OTHERS_ASKED.test(bare) ? ends.find((it) => readCondition(it, names) && ASKING.test(bare.replace(it, " "))) : undefined;
   if (found) return `${isDenied ? "~" : ""}exists (${readCondition(found, names)})`;
+  // A comment may have more than one sentence with words of variables.
+  const others = bare.split(/(?<=[.?;])\s+|\n/).filter((it) => !/\binit/i.test(it)).join(" ");
   const codes = names.own.map((it, thread) => [...it, ...(thread ? [] : names.locations)].join("; "));
   const asked = /\b\d\s*:|\b[PT]\d\b|\bthread|\bcpu|\bproc/i.test(bare) ? "" : readQuestion(bare.split("\n"), codes, names.own, 0, (it) => it);
-  return asked && isDenied ? asked.replace(/^exists/, "~exists") : asked;
+  const count = (it) => it.match(EQUATION)?.length ?? 0;
+  if (!asked || (!quantifier && count(asked) !== count(others))) return "";
+  return isDenied ? asked.replace(/^exists/, "~exists") : asked;
 }
 
 /** Returns the begin of the words of a comment, as a sentence quotes them. */

@@ -1,5 +1,6 @@
-// Rewrites a program in C or C++ of other tools as one that the page reads: CppMem's threads are functions, a test of GoogleTest is `main`, letters are their
-// codes, orders of memory that are numbers have names, and references are the variables that they name. Not proved.
+// Rewrites a program in C or C++ of other tools as one that the page reads: CppMem's threads are functions, a test of GoogleTest is `main`, letters
+// are their codes, orders of memory that are numbers have names, references are the variables that they name, loops that try a lock wait for it, what
+// `?` chooses is in branches, and threads that are started outside of functions are started in `main`. Not proved.
 //
 // The record `Edit` is that of c_edits.js.
 
@@ -32,7 +33,7 @@ const REFERENCE = new RegExp(`(?<=^|[;{}]\\s*)(?:static\\s+)?${TYPE}\\s*&\\s*(\\
 // What is refused, each with the reason.
 const OTHERS = [
   [/\bthread_local\b[^;{}()]*/, ": each thread has its own variable of this name, so declare it in the functions of the threads, as `int t = 0;`"],
-  [/\bunion\b\s*\w*(?=\s*\{)/, ": its members share their bytes, and here each variable has a word of its own, so declare only the variables that the threads access"],
+  [/\bunion\b\s*\w*(?=\s*\{)/, ": its members share their bytes, and here each variable has a word of its own, so declare what the threads access"],
   [REFERENCE, ": a reference is another name of a variable, and it is not sure of which one here, so write the variable in its place"],
 ];
 // A loop that looks at a lock and then tries to get it: the groups are the loads, the exchanges, and what leaves it.
@@ -48,7 +49,7 @@ const TRYING = [
 ];
 // An assignment, a declaration or a `return` of what `?` chooses: the groups are its type, its place, and its value.
 const CHOSEN = /(?<=[;{}]\s*)(?:(?:const\s+)?((?:auto|int|bool|unsigned|long)\s+)?(\w+)\s*=(?!=)|(return)\b)([^;{}?]+)\?([^;{}?]+);/g;
-const LOADING = /\bload\w*\s*\(|READ_ONCE|load_acquire/;
+const LOADING = /load\w*\s*\(|READ_ONCE|load_acquire/;
 const WIDE = /64|\blong\b|size_t|ptr_t/;
 // Threads that are started outside of functions, up to the name of the first one, and a function.
 const STARTED = /^(?:std\s*::\s*)?j?thread\s+\w+\s*[({]/m;
@@ -152,7 +153,7 @@ function editStarts(code) {
 
 /** Returns whether a name seems to be declared. */
 function isDeclared(code, name) {
-  const declared = new RegExp(`(?:\\b(?!(?:return|else|case|new|delete|co_return|throw)\\b)[A-Za-z_]\\w*|>)[\\s*&]+${name}\\b|[,[]\\s*[*&]?${name}\\s*[;={,\\]]`, "g");
+  const declared = new RegExp(`(?:\\b(?!(?:return|else|case|new|delete|co_return|throw)\\b)[A-Za-z_]\\w*|>)[\\s*&]+${name}\\b|,\\s*[*&]?${name}\\s*[;={,]`, "g");
   return [...code.matchAll(declared)].some((it) => !/^\w*\s*&&|^\w+\s+[*&]\s/.test(it[0]));
 }
 

@@ -52,7 +52,10 @@ const OF_ENTRY =
 const OF_DELAYS = " A loop that only delays its thread is left out.";
 const NOT_ASKED = " The question `true` asks nothing: look at the list of states, and ask what must not happen.";
 // How programs in Rust, Java, Go, C# and Python begin, what only C++ has, and how a thread in C begins.
-const RUST = /^\s*(?:use\b|let\s+(?:mut\s+)?\w+\s*=\s*(?:Arc::new\(|Atomic)|(?:std::)?thread::scope\b|(?:unsafe\s+)?fn\b|pub\b|(?:static|const)\s+(?:mut\s+)?\w+\s*:|extern\s+crate\b|mod\s+\w+\s*\{|#!?\[)/;
+const RUST = new RegExp(
+  "^\\s*(?:use\\b|let\\s+(?:mut\\s+)?\\w+\\s*=\\s*(?:Arc::new\\(|Atomic)|(?:std::)?thread::scope\\b|(?:unsafe\\s+)?fn\\b|pub\\b|" +
+    "(?:static|const)\\s+(?:mut\\s+)?\\w+\\s*:|extern\\s+crate\\b|mod\\s+\\w+\\s*\\{|#!?\\[)",
+);
 const JAVA = /^(?:import\s+(?:static\s+)?java|package\s+[\w.]+;|(?:(?:public|final|abstract)\s+)*class\s+\w+[^;{]{0,80}\{)/;
 const GO = /^(?:package\s+\w+[ \t]*\r?(?:\n|$)|func\s+\w*\(|import\s+(?:\(|")|var\s+\w+(?:,\s*\w+)*\s+(?:u?int\d*|bool|atomic\.\w+|sync\.\w+)\b)/;
 const C_SHARP = /^using\s+System\b|^namespace\s+\w+(?:\.\w+)+\s*[{;]/;

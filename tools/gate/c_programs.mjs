@@ -2557,6 +2557,32 @@ void P1() { while (l.exchange(1)) ; in++; assert(in == 1); in--; l.store(0); }
 void P0() { while (l.exchange(1)) ; in = 1; assert(in == 1); l.store(0); }
 void P1() { while (l.exchange(1)) ; in = 2; l.store(0); }
 `, "`assert(in == 1)`: another thread may still wait then, in a loop or for a lock, so assert it at the end of `main`"],
+  ["a union", `union U { int a; char b[4]; };
+std::atomic<int> x{0};
+void P0() { x = 1; }
+void P1() { int r = x; }
+`, "`union U`: its members share their bytes, and here each variable has a word of its own, so declare what the threads access"],
+  ["no question, and a choice of loads that is returned", `atomic_int x, y;
+int f(void) { return x ? atomic_load(&y) : 2; }
+void P0(void) { int r = f(); }
+void P1(void) { x = 1; y = 1; }
+`, `X86 Mine
+(* 0:EAX is x in its condition, 0:EBX is r *)
+{ x=0; y=0; }
+ P0             | P1           ;
+ MOV EAX,[x]    | MOV EAX,$1   ;
+ CMP EAX,$0     | XCHG [x],EAX ;
+ JE L2          | MOV EAX,$1   ;
+ MOV EBX,[y]    | XCHG [y],EAX ;
+ JMP L1         |              ;
+ L2: MOV EBX,$2 |              ;
+ L1:            |              ;
+exists (~0:EAX=0 /\\ 0:EBX=0)
+`],
+  ["a choice of loads in the head of a loop", `atomic_int x, y;
+void P0(void) { int r; for (r = 0; r = x ? atomic_load(&y) : 1; r++) ; }
+void P1(void) { x = 1; }
+`, "`for (r = 0; r = x ? atomic_load(&y) : 1;..`: write out each pass of a loop. `tools/from_c.py` follows loops"],
   ["a loop of loads of a word that is not known", `std::atomic<int> seq{0}; std::atomic<int> d;
 void w() { int s = seq; s += s; s += 3; seq = s; }
 void r() { int a, b; do { a = seq.load(std::memory_order_acquire); b = d; } while (a * a / 3 != b + (a && b ? 1 : 2)); }

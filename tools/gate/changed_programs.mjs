@@ -279,6 +279,10 @@ const QUESTIONS = [
   ["Can r1 == 0 || r2 != 1 happen?", "", "exists (0:EAX=0 \\/ ~1:EAX=1)", IS_READ],
   ["x == 1 && r1 == 0 possible?", "", "exists (x=1 /\\ 0:EAX=0)", IS_READ],
   ["r1 == 1 && r2 == 1 ?", "r1 == 1 && r2 == 1?", OF_BOTH, IS_READ],
+  ["exists (0:r1=0 /\\ 1:r2=1)", "", "exists (0:EAX=0 /\\ 1:EAX=1)", IS_READ],
+  ["Initially x = y = 0. Can r1 = 1 and r2 = 1?", "", OF_BOTH, IS_READ],
+  ["Is r1 == 1 possible? (r2 == 1)", "", OF_TRUE, IS_UNREAD],
+  ["r1 == 1 && r2 == 1 is possible only with a fence", "", OF_TRUE, IS_UNREAD],
   ["r1 == 1 && r2 == 1 ?", "r1 == 0 && r2 == 0 ?", OF_TRUE, ARE_SEVERAL],
   // What compares nothing asks nothing of an end.
   ["r1 == 1 && r2 == 1 ?", "is this right?", OF_BOTH, IS_READ],
