@@ -82,10 +82,10 @@ export class ConditionWriter extends KnownWriter {
     const first = parts.findIndex((it) => /\w\(/.test(it) || (it.match(/[A-Za-z_]\w*/g) ?? []).some((name) => this.isShared(name)));
     // What is loaded for a relation is written before all parts: a change may only be in the first of these.
     if (parts.some((it, at) => at > 0 && isRelation(it) && CHANGES.test(it))) this.refuseStatement(OF_SECOND);
-    return parts.map((it, at) => (isRelation(it) ? this.writeRelation(it, at === first) : it)).join("&&");
+    return parts.map((it, at) => (isRelation(it) ? this.writeRelation(it, at === first && at === 0) : it)).join("&&");
   }
 
-  /** Returns equalities in place of a relation of a variable and a constant. It may load the variable if it `isFirst` to load one. */
+  /** Returns equalities in place of a relation of a variable and a constant. It may load the variable if it `isFirst`, so that all runs do. */
   writeRelation(code, isFirst) {
     const [, negation, relation] = /^(!?)(.*)$/.exec(removeOuterParentheses(code));
     const [, masked] = MASKED.exec(removeOuterParentheses(relation)) ?? [];
