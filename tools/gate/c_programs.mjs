@@ -2586,7 +2586,7 @@ void P1(void) { x = 1; }
   ["a load in a relation that only some runs reach", `int x, y, flag;
 void P0(void) { WRITE_ONCE(y, 1); WRITE_ONCE(flag, 1); }
 void P1(void) { int r1 = READ_ONCE(y); if (r1 > 0 && READ_ONCE(flag) > 0) WRITE_ONCE(x, 1); }
-`, "`if (r1 > 0 && READ_ONCE(flag) > 0)`: load what is compared by `<` and its like into a variable of the thread first, as `int r0 = x;`"],
+`, "`if (r1 > 0 && READ_ONCE(flag) > 0)`: what `<` and its like compare is loaded before the other parts of a condition here, so write two `if`, one in the other"],
   ["a loop of loads of a word that is not known", `std::atomic<int> seq{0}; std::atomic<int> d;
 void w() { int s = seq; s += s; s += 3; seq = s; }
 void r() { int a, b; do { a = seq.load(std::memory_order_acquire); b = d; } while (a * a / 3 != b + (a && b ? 1 : 2)); }

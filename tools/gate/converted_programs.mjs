@@ -1596,14 +1596,6 @@ void a(){ Data* d=lazy.get(); int r0=d->x; }
 void b(){ Data* d=lazy.get(); int r1=d->x; }
 `,
     "X86 Mine\n(* 0:EAX is q, 0:EBX is lazy_m at its lock, 0:ECX is d, 0:EDX is r0, 1:EAX is q, 1:EBX is lazy_m at its lock, 1:ECX is d, 1:EDX is r1 *)\n(* every wait ends: 0:EBX=0 /\\ 1:EBX=0 *)\n(* a thread finds Data_x not yet set: 0:EDX=0 \\/ 1:EDX=0 *)\n{ Data_x=0; lazy_p=0; lazy_m=0; }\n P0 | P1 ;\n MOV EAX,[lazy_p] | MOV EAX,[lazy_p] ;\n CMP EAX,$0 | CMP EAX,$0 ;\n JNE L2 | JNE L2 ;\n MOV EBX,$1 | MOV EBX,$1 ;\n XCHG [lazy_m],EBX | XCHG [lazy_m],EBX ;\n MOV EAX,[lazy_p] | MOV EAX,[lazy_p] ;\n CMP EAX,$0 | CMP EAX,$0 ;\n JNE L3 | JNE L3 ;\n MOV EAX,$1 | MOV EAX,$1 ;\n MOV [Data_x],$1 | MOV [Data_x],$1 ;\n MOV [lazy_p],EAX | MOV [lazy_p],EAX ;\n L3: MOV ESI,$0 | L3: MOV ESI,$0 ;\n XCHG [lazy_m],ESI | XCHG [lazy_m],ESI ;\n L2: MOV ECX,EAX | L2: MOV ECX,EAX ;\n MOV EDX,[Data_x] | MOV EDX,[Data_x] ;\nlocations [0:EAX; 0:ECX; 1:EAX; 1:ECX; lazy_p; Data_x]\n~exists (0:EBX=0 /\\ 1:EBX=0 /\\ (0:EDX=0 \\/ 1:EDX=0))\n"],
-  ["a load of a relation after a variable of the thread", `#include <atomic>
-#include <mutex>
-#include <thread>
-std::atomic<int> x{0}, y{0};
-void t0(){ int r1=0; int r0 = y.load(); if (r0==1 && x.load()>=1) { r1=1; } else { x.store(3); } }
-void t1(){ x.store(1); y.store(1); x.store(2); int r2=x.load(); }
-`,
-    "X86 Mine\n(* 0:EAX is r1, 0:EBX is r0, 0:ECX is x_compared, 1:EAX is r2 *)\n{ x=0; y=0; }\n P0 | P1 ;\n MOV EAX,$0 | MOV EBX,$1 ;\n MOV EBX,[y] | XCHG [x],EBX ;\n MOV ECX,[x] | MOV EBX,$1 ;\n CMP EBX,$1 | XCHG [y],EBX ;\n JNE L1 | MOV EBX,$2 ;\n CMP ECX,$0 | XCHG [x],EBX ;\n JE L1 | MOV EAX,[x] ;\n MOV EAX,$1 | ;\n JMP END | ;\n L1: MOV EDX,$3 | ;\n XCHG [x],EDX | ;\n END: | ;\nlocations [0:EAX; 0:EBX; 0:ECX; 1:EAX; x]\nexists (true)\n"],
   ["an exchange of a relation after `||`", `#include <atomic>
 #include <mutex>
 #include <thread>
@@ -1765,6 +1757,14 @@ const OF_USERS = ": no thread uses this lock, so write functions that do, each a
 const OF_SHARED = ": load the pointer into a variable of the thread first";
 // A program, and why it is refused, with the part of the program at which that is.
 const REFUSED = [
+  ["a load of a relation after a variable of the thread", `#include <atomic>
+#include <mutex>
+#include <thread>
+std::atomic<int> x{0}, y{0};
+void t0(){ int r1=0; int r0 = y.load(); if (r0==1 && x.load()>=1) { r1=1; } else { x.store(3); } }
+void t1(){ x.store(1); y.store(1); x.store(2); int r2=x.load(); }
+`,
+    "`if (r0==1 && x.load()>=1)`: what `<` and its like compare is loaded before the other parts of a condition here, so write two `if`, one in the other", "if (r0==1 && x.load()>=1)"],
   ["two threads that make objects", `${HEAD}${WRITER}${READER}int main() { std::thread a(w), b(w), c(r); a.join(); b.join(); c.join(); }\n`, `\`new Data\`${OF_SEVERAL}`, "new Data"],
   ["threads in a loop", `${HEAD}${WRITER}int main() { std::vector<std::thread> t; for (int i = 0; i < 2; i++) t.emplace_back(w); for (auto& it : t) it.join(); }\n`,
     `\`new Data\`${OF_PLACES}`, "new Data"],
