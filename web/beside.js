@@ -156,7 +156,9 @@ export class Beside {
   show(text, example, { left, right }) {
     this.notices.replaceChildren();
     this.first.put(this.editor.text, this.examples.name, this.examples.makeOptions(), left);
-    const derived = Object.entries(MADE).map(([value, words]) => el("option", { value: `=${value}` }, words));
+    // A test that is to be repaired is not repaired here.
+    const made = Object.entries(MADE).filter(([value]) => value !== "fenced" || address.read().fences !== "own");
+    const derived = made.map(([value, words]) => el("option", { value: `=${value}` }, words));
     const options = [...this.examples.makeOptions(), el("optgroup", { label: "The first test" }, derived)];
     const isMade = this.made?.of === this.editor.text && this.made.text === text;
     this.second.put(text, isMade ? `=${this.made.kind}` : example, options, right);

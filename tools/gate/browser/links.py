@@ -210,6 +210,11 @@ class Links(PageCase):
         user.run_text(BUFFERED.replace(" MOV EAX", " MFENCE | MFENCE ;\n MOV EAX", 1))
         user.click("#tab-fences")
         self.assertSays("With your fences no run ends as the test asks.", "#fences .next-step")
+        shown_beside = "return document.getElementById('beside').textContent.includes('the fewest fences')"
+        for link, is_repaired in (("fences=own&", False), ("", True)):
+            user.open(f"#{link}text={quote(BUFFERED)}&beside=SB-x86")
+            user.find("#beside select")
+            self.assertEqual(is_repaired, user.run(shown_beside))
         user.open_listed(f"#text={quote(BUFFERED)}")
         user.click("#tab-fences")
         self.assertSoon([], lambda: user.all("#fences .notice"))
