@@ -263,7 +263,7 @@ export class RunView {
 
   /** Takes note that the graph is in sight, or not any more: its button is lit if it is, and is no switch while it only leads to a graph out of sight. */
   seeGraph(isSeen) {
-    const isDrawn = this.hasGraph && this.graph.childElementCount > 0;
+    const isDrawn = this.hasGraph && this.graph.childElementCount > 0 && this.graph.getClientRects().length > 0;
     Object.assign(this, { isSeen, isGraphSeen: isSeen && isDrawn });
     const isFar = isDrawn && !isSeen;
     this.graphSwitch.classList.toggle("far", isFar);

@@ -12,7 +12,6 @@ const HINT_OF_X86 =
   "Click a framed instruction to carry it out, or the lowest entry of a store buffer to let it go to memory: from any step, in any order.";
 const START = "Start here: ";
 const START_BY_KEYS = "→ or Step goes one step on, |◀ to the beginning. Or click a framed ";
-const KEYS_OF_OPENING = " → goes on, |◀ to the beginning.";
 const HINT_OF_SOURCE = "Click a framed statement to carry it out: from any step, in any order.";
 const LETTERS_OF_MESI =
   "Cache lines: M modified (memory's own word is old), E exclusive, S shared, I invalid (not held). Click one to give it up.";
@@ -57,11 +56,11 @@ export function describeStep(run) {
   return [step, ...done, ...describeEnd(run), run.isOpening ? describeOpening(run) : null].filter(Boolean);
 }
 
-/** Returns the stores that wait in some threads, at most four, in words such as `: P0's x=1 and P1's y=1`; "" if there are more. */
+/** Returns the stores that wait in some threads, at most two, in words such as `: P0's x=1 and P1's y=1`; "" if there are more. */
 function listWaiting(threads) {
   const waiting = threads.flatMap(({ buffer = [] }, thread) => (buffer.length ? [`P${thread}'s ${buffer.map((it) => it.join("=")).join(" and ")}`] : []));
   const count = threads.flatMap((it) => it.buffer ?? []).length;
-  if (count > 4) return "";
+  if (count > 2) return "";
   return `: ${count > waiting.length ? waiting.join("; ") : waiting.join(", ").replace(/, (?=[^,]*$)/, " and ")}`;
 }
 
@@ -71,10 +70,10 @@ function listWaiting(threads) {
  */
 function describeOpening({ opening, step, frame }) {
   const count = frame.state.threads.reduce((sum, it) => sum + (it.buffer?.length ?? 0), 0);
-  const waits = [`${count === 1 ? "A store waits" : `${count} stores wait`}${listWaiting(frame.state.threads)}.`, el("span", { class: "keys" }, KEYS_OF_OPENING)];
-  const words = opening?.words ? [opening.words] : step ? waits : null;
+  const waits = `${count === 1 ? "A store waits" : `${count} stores wait`}${listWaiting(frame.state.threads)}.`;
+  const words = opening?.words ?? (step ? waits : null);
   const why = opening?.explain ? [" ", makeButton("Why not?", opening.explain, { class: "link" })] : [];
-  return words && el("span", { class: "opening" }, " ", ...words, ...why);
+  return words && el("span", { class: "opening" }, " ", words, ...why);
 }
 
 /** Returns the number of the step; of a run by hand its length only if events follow, and nothing before the first event. */

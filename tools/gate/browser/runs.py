@@ -158,7 +158,7 @@ class Starts(PageCase):
         own = "P0 P0 P1 P1 D0 D1"
         user.open_listed("#example=SB-x86")
         self.assertSoon(own, user.schedule)
-        self.assertStep("Step 3 of 6: P1 puts y=1 into its store buffer. 2 stores wait: P0's x=1 and P1's y=1. → goes on, |◀ to the beginning.")
+        self.assertStep("Step 3 of 6: P1 puts y=1 into its store buffer. 2 stores wait: P0's x=1 and P1's y=1.")
         user.press(user.keys.ARROW_RIGHT)
         self.assertStep("Step 4 of 6:")
         self.assertFalse("stores wait" in user.step())
