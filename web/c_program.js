@@ -40,7 +40,7 @@ const OF_RESULT = "the thread returns a value on some paths only";
 const OF_PATHS = "declare it outside of blocks, with a value, as `int r0 = 0`";
 const OF_ASKED = ": the program asks something else, so leave this out";
 const OF_ENDLESS = ": the thread may still wait after this, in a loop or for a lock, so assert it at the end of `main`";
-const OF_OTHERS = ": another thread may still wait then, in a loop or for a lock, so assert it at the end of `main`";
+const OF_OTHERS = ": another thread may still wait then, in a loop or for a lock, so load it into a variable here, as `int r0 = x;`, and assert that at the end of `main`";
 const OF_SECTIONS =
   ": another thread may still wait then, in a loop or for a lock, and this variable changes again, so count in the section, as `n++`, and ask at the end of `main` " +
   "whether an addition is lost";

@@ -398,7 +398,7 @@ const OF_CHOICES = ": what `?` chooses are constants and variables of the thread
 const OF_SUMS = ": give what is added a variable of its own";
 const OF_ASSERTIONS = ": an assertion compares variables, constants and sums of them, joined by `&&` and `||`";
 const OF_ENDLESS = ": the thread may still wait after this, in a loop or for a lock, so assert it at the end of `main`";
-const OF_OTHER_THREADS = ": another thread may still wait then, in a loop or for a lock, so assert it at the end of `main`";
+const OF_OTHER_THREADS = ": another thread may still wait then, in a loop or for a lock, so load it into a variable here, as `int r0 = x;`, and assert that at the end of `main`";
 const NO_ORDER = ": no order of memory has this name; they are `relaxed`, `consume`, `acquire`, `release`, `acq_rel` and `seq_cst`";
 const OF_DIRECTIVES = ": leave out `#if` and its like, with what is not compiled";
 const REFUSED = [
@@ -2556,7 +2556,7 @@ void P1() { while (l.exchange(1)) ; in++; assert(in == 1); in--; l.store(0); }
   ["an assertion in a section on what stays", `std::atomic<int> l{0}; int in = 0;
 void P0() { while (l.exchange(1)) ; in = 1; assert(in == 1); l.store(0); }
 void P1() { while (l.exchange(1)) ; in = 2; l.store(0); }
-`, "`assert(in == 1)`: another thread may still wait then, in a loop or for a lock, so assert it at the end of `main`"],
+`, "`assert(in == 1)`: another thread may still wait then, in a loop or for a lock, so load it into a variable here, as `int r0 = x;`, and assert that at the end of `main`"],
   ["a union", `union U { int a; char b[4]; };
 std::atomic<int> x{0};
 void P0() { x = 1; }

@@ -1813,7 +1813,7 @@ void t1(){ x.store(1); y.store(1); x.store(2); int r2=x.load(); }
 void worker() { while (!go.load(std::memory_order_acquire)) ; result = data; ready.store(true, std::memory_order_release); }
 int main() { std::thread t(worker); data = 21; go.store(true, std::memory_order_release);
   while (!ready.load(std::memory_order_acquire)) ; assert(result == 21); t.join(); }
-`, "`assert(result == 21)`: another thread may still wait then, in a loop or for a lock, so assert it at the end of `main`", "assert(result"],
+`, "`assert(result == 21)`: another thread may still wait then, in a loop or for a lock, so load it into a variable here, as `int r0 = x;`, and assert that at the end of `main`", "assert(result"],
   ["a `main` that does something before its last thread", "std::atomic<int> x;\nvoid f() { x = 1; }\nint main() { std::thread a(f); x = 2; std::thread b(f); a.join(); b.join(); }\n",
     "`x = 2`: while threads run, `main` only starts others and joins them, so give this to a thread of its own", "x = 2"],
   ["a `main` that returns before it joins", "std::atomic<int> x;\nvoid f() { x = 1; }\nint main() { std::thread a(f); if (x) return 1; a.join(); }\n",
@@ -2731,7 +2731,7 @@ void t1() { Singleton* s = Singleton::getInstance(); assert(s->value == 42); }
 void t2() { Singleton* s = Singleton::getInstance(); assert(s->value == 42); }
 int main() { std::thread a(t1), b(t2); a.join(); b.join(); }
 `,
-    "`assert(s->value == 42)`: another thread may still wait then, in a loop or for a lock, so assert it at the end of `main`", "assert(s->value == 42); "],
+    "`assert(s->value == 42)`: another thread may still wait then, in a loop or for a lock, so load it into a variable here, as `int r0 = x;`, and assert that at the end of `main`", "assert(s->value == 42); "],
   ["a static member with the name of a variable", `#include <atomic>
 #include <thread>
 class Config {
