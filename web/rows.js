@@ -72,7 +72,7 @@ export class Rows {
   countStates(formatNumber) {
     const { states, number } = this.report;
     const more = states.length - number;
-    return `${formatNumber(number)} states${more > 0 ? `, and ${formatNumber(more)} more` : ""}`;
+    return `${formatNumber(number)} ${number === 1 ? "state" : "states"}${more > 0 ? `, and ${formatNumber(more)} more` : ""}`;
   }
 
   /** Returns the button of a state that the condition asks about and that no run ends in, with its words in the order of the columns. */
