@@ -69,7 +69,7 @@ const OF_BRANCHED = ": an `if` around an assertion compares variables, which kee
 const OF_ALWAYS = ": an assertion that never holds is in a branch";
 const OF_RETURNS = ": before an assertion, a `return` is the end of an `if` that is in no other one";
 /** Why a loop of a plain variable is refused, as the end of a sentence. */
-export const OF_PLAIN_LOOPS = ": a compiler loads a plain variable only once, so make it atomic or volatile";
+export const OF_PLAIN_LOOPS = ": a compiler may load a plain variable only once, so make it atomic or volatile";
 const OF_NAMES = ": give it a name that no other variable has";
 const OF_MARKS = ": a `;` is missing in it";
 const OF_STATIC = ": a static variable is shared, so declare it outside of functions";

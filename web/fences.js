@@ -24,6 +24,7 @@ const OWN_FIRST = "First try fences of your own: this answers once the test has 
 // Of a test to be repaired this answers on the reader's own fences only.
 const OWN_FORBIDS = "With your fences no run ends as the test asks.";
 const OWN_FAILS = "With your fences a run still ends as the test asks: try others, or say why none helps.";
+const HAS_FENCE = /\bmfence\b/i;
 const ENDED = "States in which a wait has not ended are left out here.";
 const TOGETHER = "Two that change nothing alone may matter together.";
 const BY_CLICK = "In Watch and By hand “+ fence” puts a fence between two instructions, where the pointer is, and “✕ fence” takes it out.";
@@ -66,7 +67,7 @@ export class Fences {
     this.clear();
     this.askedOf = this.editor.text;
     clearFault(this.editor);
-    if (isToRepair(this.editor.text) && !/\bmfence\b/i.test(blankComments(this.editor.text))) {
+    if (isToRepair(this.editor.text) && !HAS_FENCE.test(blankComments(this.editor.text))) {
       this.choice.hidden = true;
       this.place.append(el("p", { class: "notice" }, ...renderSentence(OWN_FIRST)));
       return null;
@@ -219,7 +220,8 @@ export class Fences {
       return el("li", {}, `An MFENCE `, renderSentence(placeWords), `: ${result}. `, makeButton("Try it", tryIt, { class: "take" }));
     });
     const others = more ? [el("p", { class: "small" }, `And ${more} other sets of as many fences.`)] : [];
-    const head = el("p", { class: "next-step" }, el("b", {}, `The fewest fences that ${goal}:`));
+    const fewest = HAS_FENCE.test(blankComments(this.editor.text)) ? "Besides its own, the fewest fences" : "The fewest fences";
+    const head = el("p", { class: "next-step" }, el("b", {}, `${fewest} that ${goal}:`));
     const note = el("p", { class: "small" }, "The page itself puts the fences into the text ", makePlainMark(), ". The lists come from lw.");
     const { from, compiled } = address.read();
     const isOfProgram = (from && compiled) || listVariables(this.editor.text).size;

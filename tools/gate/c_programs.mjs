@@ -354,7 +354,7 @@ void P1(void) { y = 1; int r0 = x; }
 `;
 const OF_GLOBALS = ": outside of threads are only declarations of integers and `bool`, as `atomic_int x = 1;`";
 const OF_VALUES = ": an initial value is one constant, as in `x = 1` or `x{1}`, and of a `bool` 0 or 1";
-const OF_PLAIN_LOOPS = ": a compiler loads a plain variable only once, so make it atomic or volatile";
+const OF_PLAIN_LOOPS = ": a compiler may load a plain variable only once, so make it atomic or volatile";
 const OF_BRANCHES = ": a loop that waits is in no branch, and after no `return`";
 const OF_FIXED = ": a loop or an assertion has the value of this variable, so set another one";
 const OF_OTHERS = ": a statement is one load, store, exchange, addition or fence, or an `if`";
@@ -2202,7 +2202,7 @@ void r() { x = 1; }
   ["a loop of a plain load", `int x; std::atomic<int> y; 
 void w() { int s, t; do { s = x; t = y; } while (s != t); }
 void r() { x = 1; y = 1; }
-`, "`do`: a compiler loads a plain variable only once, so make it atomic or volatile"],
+`, "`do`: a compiler may load a plain variable only once, so make it atomic or volatile"],
   ["no question, and guards of two mutexes", `std::mutex m1, m2; int a, b;
 void P0() { std::scoped_lock l(m1, m2); a++; b++; }
 void P1() { std::scoped_lock<std::mutex, std::mutex> l(m2, m1); a++; b++; }

@@ -292,7 +292,7 @@ def check_shown_cycles(user: users.User, data: quiz.Data) -> Iterator[Comparison
             ]
             yield f"the cycle of test {index + 1} as the page shows it, {('interleaving', 'x86')[number]}", expected, rows[2 * index + number]
     texts = user.run("return [...document.querySelectorAll('.why')].map((it) => it.textContent)")
-    is_shown_again = ["The reason is that for interleaving" in it for it in texts]
+    is_shown_again = ["The reason is the same as for interleaving" in it for it in texts]
     yield "a cycle is the same on x86", True, any(is_shown_again[1::2]) and not any(is_shown_again[::2])
 
 
@@ -472,8 +472,8 @@ OWN_TESTS = [
 NO_OWN_TESTS = [
     ("X86 A\n{}\n P0 ;\n XCHG [x],EAX ;\nexists (x=0)\n", ": the instruction XCHG [x],EAX has no source form here"),
     ("X86 A\n{}\n P0 ;\n MOVE [x],$1 ;\nexists (x=0)\n", ":4:2: 'MOVE' is no instruction that is read"),
-    (f"{OWN}~{ASKED}", ": a quiz asks whether a test can end in a way, as exists does"),
-    (f"{OWN}{ASKED}".replace("exists", "forall"), ": a quiz asks whether a test can end in a way, as exists does"),
+    (f"{OWN}~{ASKED}", ": a quiz asks whether a test can end in a way, so write exists in place of ~exists or forall"),
+    (f"{OWN}{ASKED}".replace("exists", "forall"), ": a quiz asks whether a test can end in a way, so write exists in place of ~exists or forall"),
     ("SRC A\n{}\n P0 ;\n x := 1 ;\nexists (x=0)\n", ": a quiz asks about X86 tests, of which it makes the source form itself"),
 ]
 

@@ -1808,7 +1808,7 @@ void t1(){ x.store(1); y.store(1); x.store(2); int r2=x.load(); }
   ["a function of two threads with rounds", ROUNDS.replace("t2(second)", "t2(first)"), OF_SEMAPHORES, "sem_t go1"],
   ["a thread without rounds beside others", ROUNDS.replace("int main", "void third() { z = 1; }\nint main").replace("t2(second)", "t2(second), t3(third)"), OF_SEMAPHORES, "sem_t go1"],
   ["a plain loop beside `main`", "bool stop = false;\nint main() { std::thread t([] { while (!stop) {} }); stop = true; t.join(); }\n",
-    "`while (!stop)`: a compiler loads a plain variable only once, so make it atomic or volatile", "while (!stop)"],
+    "`while (!stop)`: a compiler may load a plain variable only once, so make it atomic or volatile", "while (!stop)"],
   ["a `main` that waits and asserts while a thread may wait", `std::atomic<bool> ready{false}; std::atomic<bool> go{false}; int data = 0, result = 0;
 void worker() { while (!go.load(std::memory_order_acquire)) ; result = data; ready.store(true, std::memory_order_release); }
 int main() { std::thread t(worker); data = 21; go.store(true, std::memory_order_release);
@@ -2214,7 +2214,7 @@ void a() { x.store(1, std::memory_order_relaxed); g.post(); r1 = y.load(std::mem
 void b() { y.store(1, std::memory_order_relaxed); while (g.get() == 0) {} r2 = x.load(std::memory_order_relaxed); }
 int main() { std::thread t(a), u(b); t.join(); u.join(); }
 `,
-    "`while (g.get() == 0)`: a compiler loads a plain variable only once, so make it atomic or volatile", "while (g.get"],
+    "`while (g.get() == 0)`: a compiler may load a plain variable only once, so make it atomic or volatile", "while (g.get"],
   ["an object that counts threads", `#include <atomic>
 #include <thread>
 int n; std::atomic<int> x{0}, y{0}; int r1, r2;
@@ -2224,14 +2224,14 @@ void a() { x.store(1, std::memory_order_relaxed); bar.arrive(); while (bar.count
 void b() { y.store(1, std::memory_order_relaxed); bar.arrive(); while (bar.count() < 2) {} r2 = x.load(std::memory_order_relaxed); }
 int main() { std::thread t(a), u(b); t.join(); u.join(); }
 `,
-    "`while (bar.count() < 2)`: a compiler loads a plain variable only once, so make it atomic or volatile", "while (bar.c"],
+    "`while (bar.count() < 2)`: a compiler may load a plain variable only once, so make it atomic or volatile", "while (bar.c"],
   ["an object of a function that its lambdas share", `#include <atomic>
 #include <thread>
 std::atomic<int> x{0}, y{0}; int r1, r2;
 class Sig { int s; public: Sig() { s = 0; } void post() { s = 1; } int get() { return s; } };
 int main() { Sig g; std::thread t([&] { x.store(1, std::memory_order_relaxed); g.post(); r1 = y.load(std::memory_order_relaxed); }), u([&] { y.store(1, std::memory_order_relaxed); while (g.get() == 0) {} r2 = x.load(std::memory_order_relaxed); }); t.join(); u.join(); }
 `,
-    "`while (g.get() == 0)`: a compiler loads a plain variable only once, so make it atomic or volatile", "while (g.get"],
+    "`while (g.get() == 0)`: a compiler may load a plain variable only once, so make it atomic or volatile", "while (g.get"],
   ["a class that sets a variable of its namespace, which has the name of a local one", `#include <atomic>
 #include <thread>
 namespace all {

@@ -165,7 +165,7 @@ def format_own_test(text: str, number: int) -> str:
     braces = f"{{ {words} }}" if words else "{}"
     front, asks, question = re.sub(r"^locations .*\n", "", rows, flags=re.M).rpartition("exists")
     if not asks or front.endswith("~"):
-        raise NoQuiz("a quiz asks whether a test can end in a way, as exists does")
+        raise NoQuiz("a quiz asks whether a test can end in a way, so write exists in place of ~exists or forall")
     return f"X86 quiz{number}\n{braces}\n{align_columns(front)}{asks}{question}"
 
 

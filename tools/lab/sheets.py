@@ -46,7 +46,7 @@ th, td { border: 1px solid #888; padding: .25em .6em; text-align: left; vertical
 TITLE = "What can this program do?"
 # The sheet's sentence on the tests' files, up to the words on a link; and these words, which are left out on paper, as HTML.
 FILES = "The tests are files in `tests`, and *open* "
-ON_LINKS = re.compile(r"(, and <em>open|<em>Open)</em> beside a test opens it .*?(?=\.)")
+ON_LINKS = re.compile(r"(?:, and|:) <em>open</em> (?:beside a test opens it .*?|is for later)(?=\.)|<em>Open</em> beside a test opens it [^.]*\. ?")
 # The line of the sheet's address on paper: a sheet that is opened from a server prints it, and on any other it is written by hand.
 ADDRESS = '<p class="address">This sheet in a browser: <span id="address"></span></p>\n'
 SCRIPT = """<script>

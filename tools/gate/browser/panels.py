@@ -385,6 +385,8 @@ class Fences(PageCase):
         self.assertSays("Forbidden.", "#outcome .verdict")
         self.assertEqual(before.replace(" MOV EAX", " MFENCE      | MFENCE      ;\n MOV EAX", 1), user.value())
         self.assertSoon((2, []), lambda: (len(user.all("#watching .code")), user.all("#watching .code:not(.whole)")))
+        user.open_listed("#example=SB+mfence-x86&view=fences")
+        self.assertSays("Besides its own, the fewest fences that forbid it:", "#fences .next-step")
         user.open_listed("#example=MP-x86&view=fences")
         self.assertSays("No fence is needed", "#fences .verdict")
         self.assertEqual([], user.all("#fences .find-fences"))
