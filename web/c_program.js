@@ -166,6 +166,12 @@ function isPaired({ accesses }) {
   return mutexes.length % 2 === 0 && mutexes.every(isNext);
 }
 
+/** Returns whether a thread takes a mutex while it may have another one. */
+function takesWhileHolding({ accesses }) {
+  const mutexes = accesses.filter((it) => it.isMutex);
+  return mutexes.some(({ word }, at) => word && mutexes[at - 1]?.word);
+}
+
 /** Returns whether a thread waits only for mutexes: it comes to its end, whatever others do that give theirs back. */
 function waitsForMutexes({ accesses, waits }) {
   return waits.length === accesses.filter((it) => it.isMutex && it.word).length;
@@ -308,7 +314,8 @@ function writeTest(text, meaning, isKnown) {
   const [isLocking, isTrying] = [locks.some((it) => !it.isTried), locks.length > 0 && locks.every((it) => it.isTried)];
   const isRepeated = Boolean(program.repeated);
   const isEnding = entry !== undefined;
-  return { program, made, isGuess, isOpen, races: listRaces(accesses), isWaiting, isSwapping, isLocking, isTrying, isWide, isRepeated, isEnding };
+  const isHolding = isLocking && writers.some(takesWhileHolding);
+  return { program, made, isGuess, isOpen, races: listRaces(accesses), isWaiting, isSwapping, isLocking, isTrying, isHolding, isWide, isRepeated, isEnding };
 }
 
 /** Throws why lw refuses a test: if that is its question, NoTest at the question of the program. */
@@ -335,14 +342,14 @@ function isRead(text) {
  * Returns the x86 test of a program in C or C++, or of a test of herd in C, and whether its question is a guess, since the program asks nothing, or is
  * `true`, since there is none to guess (`isOpen`); the names of plain variables on which threads race; whether one pass is in place of a loop that
  * waits; whether an exchange is in place of a compare-exchange (`isSwapping`); whether a location is in place of a mutex (`isLocking`), or of some
- * that are only tried (`isTrying`); whether words of 32 bits are in place of those of 64; whether a run is in place of a loop of them; whether delays are
+ * that are only tried (`isTrying`); whether a thread takes one while it has another (`isHolding`); whether words of 32 bits are in place of those of 64; whether a run is in place of a loop of them; whether delays are
  * left out (`isDelayed`); whether a thread ends at a loop that stores (`isEnding`); the name of a variable in place of a member of an object (`pointed`), if
  * there are some; a sentence on threads that are added (`users`); and sentences on what threads look at in place of waiting (`terms`). Or returns why it is not rewritten: a part of it, with its index, and the end of a
  * sentence; or without an index why lw refuses the test.
  * @param {string} text
  * @param {string} [meaning] What the question of the program means, in words.
  * @returns {{made?: string, isGuess?: boolean, isOpen?: boolean, races?: string[], isWaiting?: boolean, isSwapping?: boolean, isLocking?: boolean,
- *   isTrying?: boolean, isWide?: boolean, isRepeated?: boolean, isDelayed?: boolean, isEnding?: boolean, pointed?: string, users?: string, terms?: string,
+ *   isTrying?: boolean, isHolding?: boolean, isWide?: boolean, isRepeated?: boolean, isDelayed?: boolean, isEnding?: boolean, pointed?: string, users?: string, terms?: string,
  *   why?: string, index?: number}}
  */
 export function rewriteProgram(text, meaning = "") {

@@ -42,6 +42,7 @@ const OF_BUTTON =
 const OF_WAITING = " A loop that waits is one pass here: the list hides the states in which it has not ended";
 const OF_SWAPPING = " A compare-exchange is an `XCHG` here, which does the same, since its variable has no third word.";
 const OF_LOCKING = " A mutex is a word that `XCHG` takes and gives back: the list hides the states in which a thread did not get it";
+const OF_HOLDING = " A thread takes a mutex while it has another one: lw does not look for deadlock.";
 const OF_TRYING = " A mutex is a word here, which `XCHG` takes if it is free.";
 const LEFT_OUT = ", and the question leaves them out";
 const OF_WIDE = " Words of 64 bits are words of 32 bits here, which no sum of this program exceeds.";
@@ -109,10 +110,10 @@ function explainProgram(words, text, place) {
  * @param {object} test
  * @returns {string}
  */
-export function explainMade({ made, isGuess, isOpen, races, isWaiting, isSwapping, isLocking, isTrying, isWide, isRepeated, isDelayed, isEnding, pointed, users = "", terms = "", asks = "" }) {
+export function explainMade({ made, isGuess, isOpen, races, isWaiting, isSwapping, isLocking, isTrying, isHolding, isWide, isRepeated, isDelayed, isEnding, pointed, users = "", terms = "", asks = "" }) {
   const end = `${isOpen ? "" : LEFT_OUT}.`;
   const objects = ` A pointer is a word here, 0 for null and 1 for the object, whose members are variables, as \`${pointed}\`; a null pointer reads them, too.`;
-  const ofLocks = [[isLocking, OF_LOCKING + end], [isTrying, OF_TRYING]];
+  const ofLocks = [[isLocking, OF_LOCKING + end], [isTrying, OF_TRYING], [isHolding, OF_HOLDING]];
   const ofLoops = [[isWaiting, OF_WAITING + end], [isSwapping, OF_SWAPPING]];
   const parts = [[pointed, objects], ...ofLoops, ...ofLocks, [isWide, OF_WIDE], [isRepeated, OF_REPEATED], [isDelayed, OF_DELAYS], [isEnding, OF_ENTRY]];
   const question = made.endsWith("(true)\n") ? NOT_ASKED : isGuess ? OF_GUESS : "";
