@@ -43,8 +43,9 @@ export const MOST_ELEMENTS = 16;
 const CONSTANT_OF_C = /^(-?[1-9]\d*|0|0x[\da-f]+)(?:ul{0,2}|l{1,2}u?)?$/i;
 // A part that is long: the group is what is shown of it.
 const LONG = /^(.{40}).+/;
-// A string, a letter or a comment; and what in a string might be taken for code.
-const NO_CODE = /"(?:[^"\\\n]|\\.)*"|'(?:[^'\\\n]|\\.)'|\/\/.*|\/\*[^]*?\*\//g;
+/** A string, a letter or a comment. */
+export const NO_CODE = /"(?:[^"\\\n]|\\.)*"|'(?:[^'\\\n]|\\.)'|\/\/.*|\/\*[^]*?\*\//g;
+// What in a string might be taken for code.
 const MARK = /[(){};,*&<>-]/g;
 /** Why the value of a declaration is refused, as the end of a sentence. */
 export const OF_VALUES = ": an initial value is one constant, as in `x = 1` or `x{1}`, and of a `bool` 0 or 1";

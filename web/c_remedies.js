@@ -2,13 +2,11 @@
 // threads starts 2, a plain variable that a loop waits for is volatile, and what an endless loop does is done once. Not proved.
 
 import { makeChange } from "./change.js";
-import { blank, findClosing } from "./c_code.js";
+import { blank, findClosing, NO_CODE } from "./c_code.js";
 import { OF_PASSES } from "./c_loop_reader.js";
 import { OF_MANY } from "./c_main.js";
 import { OF_PLAIN_LOOPS } from "./c_thread.js";
 
-// What is no code: strings, letters and comments.
-const NO_CODE = /"(?:[^"\\\n]|\\.)*"|'(?:[^'\\\n]|\\.)'|\/\/.*|\/\*[^]*?\*\//g;
 // A number in base 10, and a name.
 const NUMBER = /(?<![\w.'])\d[\d']*(?:[eE]\d)?(?=[uUlLzZ]{0,3}(?![\w.]))/g;
 const NAME = /[A-Za-z_]\w*/g;
